@@ -1,0 +1,41 @@
+-- A value is read as it was written.
+use mathlib.Core.Path.{_≡_, refl, ap, ap₂}
+use mathlib.Core.List.{List, [], _∷_, _++_}
+use Prim.Native.Nat.{ℕ, suc, _+_, _*_, _/_, _%_, _<_}
+use native.Mathlib.Omega.{arith}
+use lib.ListN.{length, getD}
+use Rattle.stream.specs.declared.Fault.{Fault}
+use Rattle.stream.specs.Reading.{Bytes, Reading, read, fault}
+use Rattle.stream.specs.Levels.{level-limit, value-bytes, read-value}
+
+-- A value takes two bytes.
+abbrev pub value-width : ℕ
+value-width = 2
+
+pub value-length : (v : ℕ) (r : List ℕ) → length (value-bytes v r) ≡ value-width + length r
+unfolding value-bytes
+value-length v r = omega arith
+
+pub value-append : (v : ℕ) (r x : List ℕ) → value-bytes v r ++ x ≡ value-bytes v (r ++ x)
+unfolding value-bytes
+value-append v r x = refl
+
+pub value-reads : (cut-short : Fault) (v : ℕ) (r : List ℕ) → read-value cut-short (value-bytes v r) ≡ read v r
+unfolding read-value value-bytes
+value-reads cut-short v r = ap₂ read (omega arith) refl
+
+pub record FoundValue (s : List ℕ) (v : ℕ) (r : List ℕ) : Type 0 where
+  pub bytes : value-bytes v r ≡ s
+  pub below : v < level-limit
+  pub rest : Bytes r
+
+pub value-sound : (cut-short : Fault) (s : List ℕ) (v : ℕ) (r : List ℕ) → Bytes s → read-value cut-short s ≡ read v r → FoundValue s v r
+unfolding read-value value-bytes level-limit
+value-sound cut-short [] v r b e = let z : _≡_ {A = ℕ} 0 1 = cc in absurd (omega arith)
+value-sound cut-short (h ∷ []) v r b e = let z : _≡_ {A = ℕ} 0 1 = cc in absurd (omega arith)
+value-sound cut-short (h ∷ l ∷ s) v r b e =
+    let n : h * 256 + l ≡ v = cc in
+    let t : s ≡ r = cc in
+    let x : v / 256 ≡ h = omega (arith, b 0, b 1) in
+    let y : v % 256 ≡ l = omega (arith, b 0, b 1) in
+    record { bytes = rw (x, y, t); below = omega (arith, b 0, b 1); rest = rw (← t) (λ i. b (suc (suc i))) }

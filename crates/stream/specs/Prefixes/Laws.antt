@@ -1,0 +1,174 @@
+-- The laws of derivative and concatenation.
+use mathlib.Core.Path.{_≡_, refl, sym, ap, ap₂, _∙_}
+use mathlib.Core.Bool.{Bool, true, false, _&&_, false≢true}
+use Prim.Native.Nat.{ℕ, suc, _+_, _≤_}
+use native.Mathlib.Omega.{arith}
+use Rattle.stream.specs.Types.{Ty, empty, cue, level, seq, par, Nullable, null-empty, null-par, size}
+use Rattle.stream.specs.Types.Laws.{and-left, and-right, and-both, size-positive}
+use Rattle.stream.specs.Prefixes.{Prefix, nothing, cue-awaited, cue-come, level-awaited, level-come, in-first, crossed, beside, Complete, whole-nothing, whole-cue, whole-level, whole-crossed, whole-beside, complete, IsPrefix, of-empty, of-cue-awaited, of-cue-come, of-level-awaited, of-level-come, of-first, of-crossed, of-beside, empty-prefix, derivative, concat, on-seq, on-par}
+
+-- Complete: the test is the rule
+
+pub complete-sound : (p : Prefix) → complete p ≡ true → Complete p
+unfolding complete
+complete-sound nothing e = whole-nothing
+complete-sound cue-awaited e = absurd (false≢true e)
+complete-sound cue-come e = whole-cue
+complete-sound level-awaited e = absurd (false≢true e)
+complete-sound (level-come v) e = whole-level
+complete-sound (in-first p) e = absurd (false≢true e)
+complete-sound (crossed b q) e = whole-crossed (complete-sound q e)
+complete-sound (beside p q) e =
+    whole-beside (complete-sound p (and-left (complete p) (complete q) e))
+    (complete-sound q (and-right (complete p) (complete q) e))
+
+pub complete-complete : {p : Prefix} → Complete p → complete p ≡ true
+unfolding complete
+complete-complete whole-nothing = refl
+complete-complete whole-cue = refl
+complete-complete whole-level = refl
+complete-complete (whole-crossed c) = complete-complete c
+complete-complete (whole-beside c d) = and-both (complete-complete c) (complete-complete d)
+
+-- The parts of a complete prefix
+
+pub crossed-second : {b q : Prefix} → Complete (crossed b q) → Complete q
+crossed-second (whole-crossed c) = c
+
+pub beside-first : {p q : Prefix} → Complete (beside p q) → Complete p
+beside-first (whole-beside c d) = c
+
+pub beside-second : {p q : Prefix} → Complete (beside p q) → Complete q
+beside-second (whole-beside c d) = d
+
+-- The empty prefix
+
+pub empty-prefix-is-prefix : (t : Ty) → IsPrefix t (empty-prefix t)
+unfolding empty-prefix
+empty-prefix-is-prefix empty = of-empty
+empty-prefix-is-prefix cue = of-cue-awaited
+empty-prefix-is-prefix level = of-level-awaited
+empty-prefix-is-prefix (seq s t) = of-first (empty-prefix-is-prefix s)
+empty-prefix-is-prefix (par s t) = of-beside (empty-prefix-is-prefix s) (empty-prefix-is-prefix t)
+
+pub empty-prefix-complete : {t : Ty} → Nullable t → Complete (empty-prefix t)
+unfolding empty-prefix
+empty-prefix-complete null-empty = whole-nothing
+empty-prefix-complete (null-par h k) = whole-beside (empty-prefix-complete h) (empty-prefix-complete k)
+
+-- What the empty prefix leaves is the type.
+pub derivative-empty : (t : Ty) → derivative t (empty-prefix t) ≡ t
+unfolding derivative empty-prefix
+derivative-empty empty = refl
+derivative-empty cue = refl
+derivative-empty level = refl
+derivative-empty (seq s t) = ap (λ x. seq x t) (derivative-empty s)
+derivative-empty (par s t) = ap₂ par (derivative-empty s) (derivative-empty t)
+
+-- A prefix is complete exactly if what it leaves is nullable.
+
+pub complete→nullable : {t : Ty} {p : Prefix} → IsPrefix t p → Complete p → Nullable (derivative t p)
+unfolding derivative
+complete→nullable of-empty c = null-empty
+complete→nullable of-cue-come c = null-empty
+complete→nullable (of-level-come v) c = null-empty
+complete→nullable (of-crossed h d k) (whole-crossed c) = complete→nullable k c
+complete→nullable (of-beside h k) (whole-beside c d) = null-par (complete→nullable h c) (complete→nullable k d)
+
+pub nullable→complete : {t : Ty} {p : Prefix} → IsPrefix t p → Nullable (derivative t p) → Complete p
+unfolding derivative
+nullable→complete of-empty n = whole-nothing
+nullable→complete of-cue-come n = whole-cue
+nullable→complete (of-level-come v) n = whole-level
+nullable→complete (of-crossed h d k) n = whole-crossed (nullable→complete k n)
+nullable→complete (of-beside h k) (null-par n m) = whole-beside (nullable→complete h n) (nullable→complete k m)
+
+-- What is left is no larger.
+pub derivative-size : {t : Ty} {p : Prefix} → IsPrefix t p → size (derivative t p) ≤ size t
+unfolding derivative size
+derivative-size of-empty = omega arith
+derivative-size of-cue-awaited = omega arith
+derivative-size of-cue-come = omega arith
+derivative-size of-level-awaited = omega arith
+derivative-size (of-level-come v) = omega arith
+derivative-size (of-first h) = omega (arith, derivative-size h)
+derivative-size (of-crossed h c k) = omega (arith, derivative-size k)
+derivative-size (of-beside h k) = omega (arith, derivative-size h, derivative-size k)
+
+-- Concatenation
+
+pub concat-complete : {t : Ty} {p : Prefix} (q : Prefix) → IsPrefix t p → IsPrefix (derivative t p) q → Complete q → Complete (concat p q)
+unfolding derivative concat
+concat-complete q of-empty k c = whole-nothing
+concat-complete q of-cue-awaited k c = c
+concat-complete q of-cue-come k c = whole-cue
+concat-complete q of-level-awaited k c = c
+concat-complete q (of-level-come v) k c = whole-level
+concat-complete q (of-first h) (of-crossed i d k) (whole-crossed c) = whole-crossed c
+concat-complete q (of-crossed h d i) k c = whole-crossed (concat-complete q i k c)
+concat-complete q (of-beside h i) (of-beside k l) (whole-beside c d) = whole-beside (concat-complete _ h k c) (concat-complete _ i l d)
+
+-- A prefix again.
+pub concat-is-prefix : {t : Ty} {p : Prefix} (q : Prefix) → IsPrefix t p → IsPrefix (derivative t p) q → IsPrefix t (concat p q)
+unfolding derivative concat
+concat-is-prefix q of-empty k = of-empty
+concat-is-prefix q of-cue-awaited k = k
+concat-is-prefix q of-cue-come k = of-cue-come
+concat-is-prefix q of-level-awaited k = k
+concat-is-prefix q (of-level-come v) k = of-level-come v
+concat-is-prefix q (of-first h) (of-first k) = of-first (concat-is-prefix _ h k)
+concat-is-prefix q (of-first h) (of-crossed i d k) = of-crossed (concat-is-prefix _ h i) (concat-complete _ h i d) k
+concat-is-prefix q (of-crossed h d i) k = of-crossed h d (concat-is-prefix q i k)
+concat-is-prefix q (of-beside h i) (of-beside k l) = of-beside (concat-is-prefix _ h k) (concat-is-prefix _ i l)
+
+-- The derivative of the joined is the derivative twice.
+pub derivative-concat : {t : Ty} {p : Prefix} (q : Prefix) → IsPrefix t p → IsPrefix (derivative t p) q
+    → derivative t (concat p q) ≡ derivative (derivative t p) q
+unfolding derivative concat
+derivative-concat q of-empty of-empty = refl
+derivative-concat q of-cue-awaited k = refl
+derivative-concat q of-cue-come of-empty = refl
+derivative-concat q of-level-awaited k = refl
+derivative-concat q (of-level-come v) of-empty = refl
+derivative-concat q (of-first {t = t} h) (of-first k) = ap (λ x. seq x t) (derivative-concat _ h k)
+derivative-concat q (of-first h) (of-crossed i d k) = refl
+derivative-concat q (of-crossed h d i) k = derivative-concat q i k
+derivative-concat q (of-beside h i) (of-beside k l) = ap₂ par (derivative-concat _ h k) (derivative-concat _ i l)
+
+-- The empty prefix changes nothing on either side.
+
+pub concat-empty-left : {t : Ty} {q : Prefix} → IsPrefix t q → concat (empty-prefix t) q ≡ q
+unfolding concat empty-prefix
+concat-empty-left of-empty = refl
+concat-empty-left of-cue-awaited = refl
+concat-empty-left of-cue-come = refl
+concat-empty-left of-level-awaited = refl
+concat-empty-left (of-level-come v) = refl
+concat-empty-left (of-first h) = ap in-first (concat-empty-left h)
+concat-empty-left (of-crossed {q = q} h c k) = ap (λ x. crossed x q) (concat-empty-left h)
+concat-empty-left (of-beside h k) = ap₂ beside (concat-empty-left h) (concat-empty-left k)
+
+pub concat-empty-right : {t : Ty} {p : Prefix} → IsPrefix t p → concat p (empty-prefix (derivative t p)) ≡ p
+unfolding concat empty-prefix derivative
+concat-empty-right of-empty = refl
+concat-empty-right of-cue-awaited = refl
+concat-empty-right of-cue-come = refl
+concat-empty-right of-level-awaited = refl
+concat-empty-right (of-level-come v) = refl
+concat-empty-right (of-first h) = ap in-first (concat-empty-right h)
+concat-empty-right (of-crossed {b = b} h c k) = ap (crossed b) (concat-empty-right k)
+concat-empty-right (of-beside h k) = ap₂ beside (concat-empty-right h) (concat-empty-right k)
+
+pub concat-assoc : {t : Ty} {p : Prefix} (q r : Prefix) → IsPrefix t p → IsPrefix (derivative t p) q
+    → IsPrefix (derivative (derivative t p) q) r → concat (concat p q) r ≡ concat p (concat q r)
+unfolding concat derivative
+concat-assoc q r of-empty k l = refl
+concat-assoc q r of-cue-awaited k l = refl
+concat-assoc q r of-cue-come k l = refl
+concat-assoc q r of-level-awaited k l = refl
+concat-assoc q r (of-level-come v) k l = refl
+concat-assoc q r (of-first h) (of-first k) (of-first l) = ap in-first (concat-assoc _ _ h k l)
+concat-assoc q r (of-first h) (of-first k) (of-crossed {q = x} l d m) = ap (λ b. crossed b x) (concat-assoc _ _ h k l)
+concat-assoc q r (of-first h) (of-crossed i d k) l = refl
+concat-assoc q r (of-crossed {b = b} h d i) k l = ap (crossed b) (concat-assoc q r i k l)
+concat-assoc q r (of-beside h i) (of-beside k l) (of-beside m o) = ap₂ beside (concat-assoc _ _ h k m) (concat-assoc _ _ i l o)

@@ -1,0 +1,99 @@
+-- Files: sections, and trees in preorder, read with the first fault (document 01, Files and Operations).
+use mathlib.Core.Bool.{true, false}
+use mathlib.Core.List.{List, [], _∷_, _++_}
+use Prim.Native.Nat.{ℕ, zero, suc, _+_, _*_, _/_, _%_, _<_}
+use lib.Dec.{leb}
+use lib.ListN.{length, getD, take, drop}
+use Rattle.stream.specs.declared.Fault.{Fault}
+pub mod Laws
+
+-- A list of numbers that are bytes.
+abbrev pub Bytes : List ℕ → Type 0
+Bytes s = (i : ℕ) → getD s i 0 < 256
+
+-- What reading finds at the front of some bytes: a value and the bytes after it, or the first fault.
+pub data Reading (A : Type 0) : Type 0 where
+  read : A → List ℕ → Reading A
+  fault : Fault → Reading A
+
+-- What becomes of something handed in whole.
+pub data Result (A : Type 0) : Type 0 where
+  accepted : A → Result A
+  refused : Fault → Result A
+
+-- The first fault ends it; otherwise go on with what was read, or accepted.
+abbrev pub read-on : {A B : Type 0} → Reading A → (A → List ℕ → Reading B) → Reading B
+read-on (read a r) f = f a r
+read-on (fault e) f = fault e
+
+abbrev pub go-on : {A B : Type 0} → Result A → (A → Result B) → Result B
+go-on (accepted a) f = f a
+go-on (refused e) f = refused e
+
+-- No byte may be left; `left-over` is the fault if one is.
+abbrev pub whole : {A : Type 0} → Fault → Reading A → Result A
+whole left-over (read a []) = accepted a
+whole left-over (read a (b ∷ r)) = refused left-over
+whole left-over (fault e) = refused e
+
+-- The bytes r come after what was read.
+abbrev pub before : {A : Type 0} → List ℕ → Result A → Reading A
+before r (accepted a) = read a r
+before r (refused e) = fault e
+
+-- "A section is a two-byte count and then that many bytes", the high byte first: the section of `body`, and then `r`.
+unfoldable pub section-bytes : List ℕ → List ℕ → List ℕ
+section-bytes body r = length body / 256 ∷ length body % 256 ∷ (body ++ r)
+
+-- "A section's length is tried before its contents", here the n bytes of its count. The contents fill the section.
+unfoldable pub counted : {A : Type 0} → Fault → Fault → (List ℕ → Reading A) → ℕ → List ℕ → Reading A
+counted cut-short left-over contents n s =
+    elim (leb n (length s)) [ true ↦ before (drop n s) (whole left-over (contents (take n s))) | false ↦ fault cut-short ]
+
+unfoldable pub section : {A : Type 0} → Fault → Fault → (List ℕ → Reading A) → List ℕ → Reading A
+section cut-short left-over contents [] = fault cut-short
+section cut-short left-over contents (h ∷ []) = fault cut-short
+section cut-short left-over contents (h ∷ l ∷ s) = counted cut-short left-over contents (h * 256 + l) s
+
+-- "Trees are in preorder, root first, then the parts left to right." What the root's own bytes say: what is owed for each
+-- part, and how the tree is made, which takes its parts off the front of the trees that follow.
+pub record Root (W A : Type 0) : Type 0 where
+  pub parts : List W
+  pub build : List A → List A
+
+-- Reads a tree for each entry of `owed`, of at most `budget` nodes in all; `over` is the fault where one node more is
+-- needed. "When one is needed, 4 or 5 comes before 1, and 1 before 2."
+unfoldable pub forest : {W A : Type 0} → Fault → (W → List ℕ → Reading (Root W A)) → ℕ → List W → List ℕ → Reading (List A)
+forest over root zero [] s = read [] s
+forest over root (suc budget) [] s = read [] s
+forest over root zero (w ∷ owed) s = fault over
+forest over root (suc budget) (w ∷ owed) s =
+    read-on (root w s)
+    (λ n r. read-on (forest over root budget (n .parts ++ owed) r) (λ trees rest. read (n .build trees) rest))
+
+-- One tree. (A forest for one entry holds one tree; the clause for none is never met.)
+abbrev pub only : {A : Type 0} → Fault → List A → List ℕ → Reading A
+only over [] r = fault over
+only over (t ∷ ts) r = read t r
+
+unfoldable pub tree : {W A : Type 0} → Fault → (W → List ℕ → Reading (Root W A)) → ℕ → W → List ℕ → Reading A
+tree over root budget w s = read-on (forest over root budget (w ∷ []) s) (only over)
+
+-- The roots that most kinds have: no parts, one, or two.
+abbrev pub leaf : {W A : Type 0} → A → List ℕ → Reading (Root W A)
+leaf a s = read (record { parts = []; build = λ ts. a ∷ ts }) s
+
+abbrev pub on-one : {A : Type 0} → (A → A) → List A → List A
+on-one f [] = []
+on-one f (t ∷ ts) = f t ∷ ts
+
+abbrev pub one-part : {W A : Type 0} → (A → A) → W → List ℕ → Reading (Root W A)
+one-part f w s = read (record { parts = w ∷ []; build = on-one f }) s
+
+abbrev pub on-two : {A : Type 0} → (A → A → A) → List A → List A
+on-two f [] = []
+on-two f (t ∷ []) = []
+on-two f (t ∷ u ∷ ts) = f t u ∷ ts
+
+abbrev pub two-parts : {W A : Type 0} → (A → A → A) → W → W → List ℕ → Reading (Root W A)
+two-parts f v w s = read (record { parts = v ∷ w ∷ []; build = on-two f }) s

@@ -1,0 +1,162 @@
+-- A slice file is accepted exactly if it is the file of a prefix of the type.
+use mathlib.Core.Path.{_≡_, refl, sym, ap, _∙_}
+use mathlib.Core.Bool.{Bool, true, false, _&&_, not, true≢false, false≢true}
+use mathlib.Core.List.{List, [], _∷_, _++_}
+use Prim.Native.Nat.{ℕ, suc, _+_, _*_, _≤_, _<_}
+use native.Mathlib.Omega.{arith}
+use lib.ListN.{length, getD}
+use borrow.Author.Tests.{not-true}
+use Rattle.stream.specs.declared.Fault.{Fault}
+use Rattle.stream.specs.declared.Fault.the-variants.{SliceCutShort, SliceUnlisted, SliceLeftOver, SliceMisplaced}
+use Rattle.stream.specs.Types.{Ty, empty, cue, level, seq, par, size, type-limit, first-part, second-part, has-kind}
+use Rattle.stream.specs.Types.Laws.{and-left, and-right, made-of, size-positive}
+use Rattle.stream.specs.Levels.{value-bytes, read-value}
+use Rattle.stream.specs.Levels.Laws.{value-width, value-length, value-append, value-reads, value-sound}
+use Rattle.stream.specs.Prefixes.{Prefix, nothing, cue-awaited, cue-come, level-awaited, level-come, in-first, crossed, beside, Complete, whole-nothing, whole-cue, whole-level, whole-crossed, whole-beside, IsPrefix, of-empty, of-cue-awaited, of-cue-come, of-level-awaited, of-level-come, of-first, of-crossed, of-beside}
+use Rattle.stream.specs.Prefixes.Laws.{crossed-second, beside-first, beside-second}
+use Rattle.stream.specs.Reading.{Bytes, Reading, read, fault, Result, accepted, read-on, whole, section-bytes, section, Root, tree, leaf, one-part, two-parts}
+use Rattle.stream.specs.Reading.Laws.{Reads, reads-leaf, reads-one, reads-two, tree-reads, RootIs, leaf-is, one-is, two-is, tree-sound, section-reads, section-sound, whole-sound, every, bytes-tail}
+use Rattle.stream.specs.SliceFiles.{prefix-bytes, slice-file-bytes, Owed, owed, belongs, prefix-kinds, prefix-root, read-prefix, slice-file}
+
+-- Lengths
+
+pub nodes : Prefix → ℕ
+nodes nothing = 1
+nodes cue-awaited = 1
+nodes cue-come = 1
+nodes level-awaited = 1
+nodes (level-come v) = 1
+nodes (in-first p) = suc (nodes p)
+nodes (crossed b q) = suc (nodes b + nodes q)
+nodes (beside p q) = suc (nodes p + nodes q)
+
+pub nodes-within : {t : Ty} {p : Prefix} → IsPrefix t p → nodes p ≤ size t
+unfolding nodes size
+nodes-within of-empty = omega arith
+nodes-within of-cue-awaited = omega arith
+nodes-within of-cue-come = omega arith
+nodes-within of-level-awaited = omega arith
+nodes-within (of-level-come h) = omega arith
+nodes-within (of-first h) = omega (arith, nodes-within h)
+nodes-within (of-crossed h c k) = omega (arith, nodes-within h, nodes-within k)
+nodes-within (of-beside h k) = omega (arith, nodes-within h, nodes-within k)
+
+-- A level takes three bytes, so a prefix takes at most one byte more than two for each node of its type.
+pub prefix-length : {t : Ty} {p : Prefix} (r : List ℕ) → IsPrefix t p → length (prefix-bytes p r) ≤ value-width * size t + 1 + length r
+unfolding prefix-bytes size
+prefix-length r of-empty = omega arith
+prefix-length r of-cue-awaited = omega arith
+prefix-length r of-cue-come = omega arith
+prefix-length r of-level-awaited = omega arith
+prefix-length r (of-level-come {v = v} h) = omega (arith, value-length v r)
+prefix-length r (of-first {t = t} h) = omega (arith, prefix-length r h, size-positive t)
+prefix-length r (of-crossed {q = q} h c k) = omega (arith, prefix-length (prefix-bytes q r) h, prefix-length r k)
+prefix-length r (of-beside {q = q} h k) = omega (arith, prefix-length (prefix-bytes q r) h, prefix-length r k)
+
+-- Reading what was written
+
+reads : {t : Ty} {p : Prefix} (c : Bool) → IsPrefix t p → (c ≡ true → Complete p)
+    → Reads SliceCutShort prefix-root (owed t c) p (nodes p) (prefix-bytes p)
+unfolding prefix-bytes nodes prefix-root
+reads c of-empty w = reads-leaf SliceCutShort prefix-root _ (λ s. refl)
+reads true of-cue-awaited w = elim (w refl) [ ]
+reads false of-cue-awaited w = reads-leaf SliceCutShort prefix-root _ (λ s. refl)
+reads c of-cue-come w = reads-leaf SliceCutShort prefix-root _ (λ s. refl)
+reads true of-level-awaited w = elim (w refl) [ ]
+reads false of-level-awaited w = reads-leaf SliceCutShort prefix-root _ (λ s. refl)
+reads c (of-level-come {v = v} h) w = reads-leaf SliceCutShort prefix-root _ (λ s. rw (value-reads SliceCutShort v s))
+reads true (of-first h) w = elim (w refl) [ ]
+reads false (of-first h) w = reads-one SliceCutShort prefix-root in-first _ (λ s. refl) (reads false h (λ e. absurd (false≢true e)))
+reads c (of-crossed h d k) w =
+    reads-two SliceCutShort prefix-root crossed _ (λ s. refl) (reads true h (λ e. d)) (reads c k (λ e. crossed-second (w e)))
+reads c (of-beside h k) w =
+    reads-two SliceCutShort prefix-root beside _ (λ s. refl) (reads c h (λ e. beside-first (w e))) (reads c k (λ e. beside-second (w e)))
+
+pub read-prefix-reads : {t : Ty} {p : Prefix} (r : List ℕ) → IsPrefix t p → size t ≤ type-limit → read-prefix t (prefix-bytes p r) ≡ read p r
+unfolding read-prefix
+read-prefix-reads r h w =
+    tree-reads SliceCutShort prefix-root type-limit r (reads false h (λ e. absurd (false≢true e))) (omega (arith, nodes-within h))
+
+body-short : {t : Ty} {p : Prefix} → IsPrefix t p → size t ≤ type-limit → length (prefix-bytes p []) < 65536
+unfolding type-limit
+body-short h w = omega (arith, prefix-length [] h)
+
+pub slice-file-complete : {t : Ty} {p : Prefix} → IsPrefix t p → size t ≤ type-limit → slice-file t (slice-file-bytes p) ≡ accepted p
+unfolding slice-file slice-file-bytes
+slice-file-complete {t} {p} h w =
+    rw (section-reads SliceCutShort SliceLeftOver (read-prefix t) (prefix-bytes p []) [] p (body-short h w) (read-prefix-reads [] h w))
+
+-- What was read was written
+
+record Fills (o : Owed) (p : Prefix) : Type 0 where
+  is : IsPrefix (o .type) p
+  whole : o .must-complete ≡ true → Complete p
+
+abbrev Root-is : Owed → List ℕ → Reading (Root Owed Prefix) → Type 0
+Root-is o s g = RootIs SliceCutShort prefix-root Fills prefix-bytes nodes o s g
+
+belongs-is : (o : Owed) (s r : List ℕ) (b : Bool) (root : List ℕ → Reading (Root Owed Prefix))
+    → (b ≡ true → Root-is o s (root r)) → Root-is o s (belongs b root r)
+belongs-is o s r true root h = h refl
+belongs-is o s r false root h = tt
+
+-- A kind that keeps a prefix from being complete stands only where none has to be.
+free : (b c : Bool) {p : Prefix} → b && not c ≡ true → c ≡ true → Complete p
+free b c e d = absurd (true≢false (sym d ∙ not-true c (and-right b (not c) e)))
+
+value-is : (t : Ty) (c : Bool) (s : List ℕ) → Bytes s → has-kind 2 t ≡ true
+    → Root-is (owed t c) (4 ∷ s) (read-on (read-value SliceCutShort s) (λ v r. leaf (level-come v) r))
+unfolding prefix-bytes nodes
+value-is t c s b e = go (read-value SliceCutShort s) refl
+  where
+    go : (g : Reading ℕ) → read-value SliceCutShort s ≡ g → Root-is (owed t c) (4 ∷ s) (read-on g (λ v r. leaf (level-come v) r))
+    go (fault x) h = tt
+    go (read v r) h =
+        let f = value-sound SliceCutShort s v r b h in
+        leaf-is SliceCutShort prefix-root Fills prefix-bytes nodes (level-come v) (4 ∷ s) r (f .rest)
+        (record { is = rw (made-of 2 t e) (of-level-come (f .below)); whole = λ d. whole-level }) refl (ap (λ l. 4 ∷ l) (f .bytes))
+
+kinds-sound : (t : Ty) (c : Bool) (s : List ℕ) → Bytes s → (k : ℕ)
+    → Root-is (owed t c) (k ∷ s) (getD prefix-kinds k (λ u d r. fault SliceUnlisted) t c s)
+unfolding prefix-bytes nodes
+kinds-sound t c s b =
+    every (λ k f. Root-is (owed t c) (k ∷ s) (f t c s)) (λ u d r. fault SliceUnlisted) prefix-kinds
+    (belongs-is (owed t c) _ s (has-kind 0 t) _
+      (λ e. leaf-is SliceCutShort prefix-root Fills prefix-bytes nodes nothing _ s b
+        (record { is = rw (made-of 0 t e) of-empty; whole = λ d. whole-nothing }) refl refl)
+    , (belongs-is (owed t c) _ s (has-kind 1 t && not c) _
+      (λ e. leaf-is SliceCutShort prefix-root Fills prefix-bytes nodes cue-awaited _ s b
+        (record { is = rw (made-of 1 t (and-left (has-kind 1 t) (not c) e)) of-cue-awaited; whole = λ d. free (has-kind 1 t) c e d }) refl refl)
+    , (belongs-is (owed t c) _ s (has-kind 1 t) _
+      (λ e. leaf-is SliceCutShort prefix-root Fills prefix-bytes nodes cue-come _ s b
+        (record { is = rw (made-of 1 t e) of-cue-come; whole = λ d. whole-cue }) refl refl)
+    , (belongs-is (owed t c) _ s (has-kind 2 t && not c) _
+      (λ e. leaf-is SliceCutShort prefix-root Fills prefix-bytes nodes level-awaited _ s b
+        (record { is = rw (made-of 2 t (and-left (has-kind 2 t) (not c) e)) of-level-awaited; whole = λ d. free (has-kind 2 t) c e d }) refl refl)
+    , (belongs-is (owed t c) _ s (has-kind 2 t) _ (λ e. value-is t c s b e)
+    , (belongs-is (owed t c) _ s (has-kind 3 t && not c) _
+      (λ e. one-is SliceCutShort prefix-root Fills prefix-bytes nodes in-first 5 s b
+        (λ p i. record { is = rw (made-of 3 t (and-left (has-kind 3 t) (not c) e)) (of-first (i .is)); whole = λ d. free (has-kind 3 t) c e d })
+        (λ p. refl) (λ p x. refl))
+    , (belongs-is (owed t c) _ s (has-kind 3 t) _
+      (λ e. two-is SliceCutShort prefix-root Fills prefix-bytes nodes crossed 6 s b
+        (λ p q i j. record { is = rw (made-of 3 t e) (of-crossed (i .is) (i .whole refl) (j .is)); whole = λ d. whole-crossed (j .whole d) })
+        (λ p q. refl) (λ p q x. refl))
+    , (belongs-is (owed t c) _ s (has-kind 4 t) _
+      (λ e. two-is SliceCutShort prefix-root Fills prefix-bytes nodes beside 7 s b
+        (λ p q i j. record { is = rw (made-of 4 t e) (of-beside (i .is) (j .is)); whole = λ d. whole-beside (i .whole d) (j .whole d) })
+        (λ p q. refl) (λ p q x. refl))
+    , (λ k h. tt)))))))))
+
+root-sound : (o : Owed) (s : List ℕ) → Bytes s → Root-is o s (prefix-root o s)
+unfolding prefix-root
+root-sound o [] b = tt
+root-sound o (k ∷ s) b = kinds-sound (o .type) (o .must-complete) s (bytes-tail k s b) k
+
+pub slice-file-sound : (t : Ty) (s : List ℕ) (p : Prefix) → Bytes s → slice-file t s ≡ accepted p → (slice-file-bytes p ≡ s) × IsPrefix t p
+unfolding slice-file slice-file-bytes read-prefix
+slice-file-sound t s p b e =
+    let f = section-sound SliceCutShort SliceLeftOver (read-prefix t) s p [] b
+          (whole-sound SliceLeftOver (section SliceCutShort SliceLeftOver (read-prefix t) s) p e) in
+    let g = tree-sound SliceCutShort prefix-root Fills prefix-bytes nodes root-sound type-limit (owed t false) (f .body) p [] (f .body-bytes) (f .inside) in
+    (rw (g .bytes) (f .bytes), g .is .is)

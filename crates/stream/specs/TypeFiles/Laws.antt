@@ -1,0 +1,104 @@
+-- A type file is accepted exactly if it is the file of a type within the limit.
+use mathlib.Core.Path.{_≡_, refl, sym, ap, _∙_}
+use mathlib.Core.List.{List, [], _∷_, _++_, append-nil}
+use Prim.Native.Nat.{ℕ, suc, _+_, _≤_, _<_}
+use native.Mathlib.Omega.{arith}
+use native.Mathlib.Nat.{add-zero}
+use lib.ListN.{length, getD}
+use Rattle.stream.specs.declared.Fault.the-variants.{CutShort, Unlisted, LeftOver, TypeTooLarge}
+use Rattle.stream.specs.Types.{Ty, empty, cue, level, seq, par, size, type-limit}
+use Rattle.stream.specs.Reading.{Bytes, Reading, read, fault, Result, accepted, whole, section-bytes, section, Root, tree, leaf, two-parts}
+use Rattle.stream.specs.Reading.Laws.{Reads, reads-leaf, reads-two, tree-reads, RootIs, leaf-is, two-is, FoundTree, tree-sound, FoundSection, section-reads, section-sound, whole-sound, every, bytes-tail}
+use Rattle.stream.specs.TypeFiles.{type-bytes, type-file-bytes, type-kinds, type-root, read-type, type-section, type-file}
+
+pub type-length : (t : Ty) (r : List ℕ) → length (type-bytes t r) ≡ size t + length r
+unfolding type-bytes size
+type-length empty r = omega arith
+type-length cue r = omega arith
+type-length level r = omega arith
+type-length (seq s t) r = omega (arith, type-length s (type-bytes t r), type-length t r)
+type-length (par s t) r = omega (arith, type-length s (type-bytes t r), type-length t r)
+
+pub type-append : (t : Ty) (r x : List ℕ) → type-bytes t r ++ x ≡ type-bytes t (r ++ x)
+unfolding type-bytes
+type-append empty r x = refl
+type-append cue r x = refl
+type-append level r x = refl
+type-append (seq s t) r x = ap (λ l. 3 ∷ l) (type-append s (type-bytes t r) x ∙ ap (type-bytes s) (type-append t r x))
+type-append (par s t) r x = ap (λ l. 4 ∷ l) (type-append s (type-bytes t r) x ∙ ap (type-bytes s) (type-append t r x))
+
+-- Reading what was written
+
+reads : (t : Ty) → Reads TypeTooLarge type-root tt t (size t) (type-bytes t)
+unfolding type-bytes size type-root
+reads empty = reads-leaf TypeTooLarge type-root _ (λ s. refl)
+reads cue = reads-leaf TypeTooLarge type-root _ (λ s. refl)
+reads level = reads-leaf TypeTooLarge type-root _ (λ s. refl)
+reads (seq s t) = reads-two TypeTooLarge type-root seq _ (λ r. refl) (reads s) (reads t)
+reads (par s t) = reads-two TypeTooLarge type-root par _ (λ r. refl) (reads s) (reads t)
+
+pub read-type-reads : (t : Ty) (r : List ℕ) → size t ≤ type-limit → read-type (type-bytes t r) ≡ read t r
+unfolding read-type
+read-type-reads t r h = tree-reads TypeTooLarge type-root type-limit r (reads t) h
+
+body-short : (t : Ty) → size t ≤ type-limit → length (type-bytes t []) < 65536
+unfolding type-limit
+body-short t h = omega (arith, type-length t [])
+
+pub type-section-reads : (t : Ty) (r : List ℕ) → size t ≤ type-limit → type-section (section-bytes (type-bytes t []) r) ≡ read t r
+unfolding type-section
+type-section-reads t r h =
+    section-reads CutShort LeftOver read-type (type-bytes t []) r t (body-short t h) (read-type-reads t [] h)
+
+pub type-file-complete : (t : Ty) → size t ≤ type-limit → type-file (type-file-bytes t) ≡ accepted t
+unfolding type-file type-file-bytes
+type-file-complete t h = rw (type-section-reads t [] h)
+
+-- What was read was written
+
+IsType : Unit {0} → Ty → Type 0
+IsType w t = Unit
+
+root-sound : (w : Unit {0}) (s : List ℕ) → Bytes s → RootIs TypeTooLarge type-root IsType type-bytes size w s (type-root w s)
+unfolding type-root type-bytes size IsType
+root-sound w [] b = tt
+root-sound w (k ∷ s) b =
+    every (λ j f. RootIs TypeTooLarge type-root IsType type-bytes size w (j ∷ s) (f s)) (λ r. fault Unlisted) type-kinds
+    (leaf-is TypeTooLarge type-root IsType type-bytes size empty _ s c tt refl refl
+    , (leaf-is TypeTooLarge type-root IsType type-bytes size cue _ s c tt refl refl
+    , (leaf-is TypeTooLarge type-root IsType type-bytes size level _ s c tt refl refl
+    , (two-is TypeTooLarge type-root IsType type-bytes size seq 3 s c (λ t u i j. tt) (λ t u. refl) (λ t u x. refl)
+    , (two-is TypeTooLarge type-root IsType type-bytes size par 4 s c (λ t u i j. tt) (λ t u. refl) (λ t u x. refl)
+    , (λ j h. tt)))))) k
+  where
+    c : Bytes s
+    c = bytes-tail k s b
+
+pub record FoundType (s : List ℕ) (t : Ty) (r : List ℕ) : Type 0 where
+  pub bytes : type-bytes t r ≡ s
+  pub within : size t ≤ type-limit
+  pub rest : Bytes r
+
+pub read-type-sound : (s : List ℕ) (t : Ty) (r : List ℕ) → Bytes s → read-type s ≡ read t r → FoundType s t r
+unfolding read-type
+read-type-sound s t r b e =
+    let f = tree-sound TypeTooLarge type-root IsType type-bytes size root-sound type-limit tt s t r b e in
+    record { bytes = f .bytes; within = f .few; rest = f .rest }
+
+pub record FoundTypeSection (s : List ℕ) (t : Ty) (r : List ℕ) : Type 0 where
+  pub bytes : section-bytes (type-bytes t []) r ≡ s
+  pub within : size t ≤ type-limit
+  pub rest : Bytes r
+
+pub type-section-sound : (s : List ℕ) (t : Ty) (r : List ℕ) → Bytes s → type-section s ≡ read t r → FoundTypeSection s t r
+unfolding type-section
+type-section-sound s t r b e =
+    let f = section-sound CutShort LeftOver read-type s t r b e in
+    let g = read-type-sound (f .body) t [] (f .body-bytes) (f .inside) in
+    record { bytes = rw (g .bytes) (f .bytes); within = g .within; rest = f .rest }
+
+pub type-file-sound : (s : List ℕ) (t : Ty) → Bytes s → type-file s ≡ accepted t → (type-file-bytes t ≡ s) × (size t ≤ type-limit)
+unfolding type-file type-file-bytes
+type-file-sound s t b e =
+    let f = type-section-sound s t [] b (whole-sound LeftOver (type-section s) t e) in
+    (f .bytes, f .within)

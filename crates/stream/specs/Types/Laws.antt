@@ -1,0 +1,66 @@
+-- What is true of types: the test for nullable is the rule, and a type is made of its kind and its parts.
+use mathlib.Core.Path.{_≡_, refl, sym, ap, _∙_}
+use mathlib.Core.Bool.{Bool, true, false, _&&_, false≢true}
+use Prim.Native.Nat.{ℕ, zero, suc, _+_, _≤_}
+use native.Mathlib.Omega.{arith}
+use borrow.Author.Tests.{eqb-true}
+use Rattle.stream.specs.Types.{Ty, empty, cue, level, seq, par, Nullable, null-empty, null-par, nullable, size, kind, first-part, second-part, has-kind}
+
+-- Booleans
+
+pub and-left : (a b : Bool) → a && b ≡ true → a ≡ true
+and-left true b e = refl
+and-left false b e = e
+
+pub and-right : (a b : Bool) → a && b ≡ true → b ≡ true
+and-right true b e = e
+and-right false b e = absurd (false≢true e)
+
+pub and-both : {a b : Bool} → a ≡ true → b ≡ true → a && b ≡ true
+and-both d e = rw (d, e)
+
+-- nullable
+
+pub nullable-sound : (t : Ty) → nullable t ≡ true → Nullable t
+unfolding nullable
+nullable-sound empty e = null-empty
+nullable-sound cue e = absurd (false≢true e)
+nullable-sound level e = absurd (false≢true e)
+nullable-sound (seq s t) e = absurd (false≢true e)
+nullable-sound (par s t) e =
+    null-par (nullable-sound s (and-left (nullable s) (nullable t) e))
+    (nullable-sound t (and-right (nullable s) (nullable t) e))
+
+pub nullable-complete : {t : Ty} → Nullable t → nullable t ≡ true
+unfolding nullable
+nullable-complete null-empty = refl
+nullable-complete (null-par h k) = and-both (nullable-complete h) (nullable-complete k)
+
+-- size
+
+pub size-positive : (t : Ty) → 1 ≤ size t
+unfolding size
+size-positive empty = omega arith
+size-positive cue = omega arith
+size-positive level = omega arith
+size-positive (seq s t) = omega arith
+size-positive (par s t) = omega arith
+
+-- kinds and parts
+
+abbrev pub of-kind : ℕ → Ty → Ty → Ty
+of-kind zero s t = empty
+of-kind (suc zero) s t = cue
+of-kind (suc (suc zero)) s t = level
+of-kind (suc (suc (suc zero))) s t = seq s t
+of-kind (suc (suc (suc (suc k)))) s t = par s t
+
+made : (t : Ty) → t ≡ of-kind (kind t) (first-part t) (second-part t)
+made empty = refl
+made cue = refl
+made level = refl
+made (seq s t) = refl
+made (par s t) = refl
+
+pub made-of : (k : ℕ) (t : Ty) → has-kind k t ≡ true → t ≡ of-kind k (first-part t) (second-part t)
+made-of k t e = made t ∙ ap (λ x. of-kind x (first-part t) (second-part t)) (eqb-true (kind t) k e)
