@@ -6,6 +6,7 @@ use lib.Dec.{leb}
 use lib.ListN.{length, getD, take, drop}
 use Rattle.stream.specs.declared.Fault.{Fault}
 pub mod Laws
+pub mod Examples
 
 -- A list of numbers that are bytes.
 abbrev pub Bytes : List ℕ → Type 0

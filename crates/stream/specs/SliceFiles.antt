@@ -10,6 +10,7 @@ use Rattle.stream.specs.Levels.{value-bytes, read-value}
 use Rattle.stream.specs.Prefixes.{Prefix, nothing, cue-awaited, cue-come, level-awaited, level-come, in-first, crossed, beside}
 use Rattle.stream.specs.Reading.{Reading, read, fault, Result, read-on, whole, section-bytes, section, Root, tree, leaf, one-part, two-parts}
 pub mod Laws
+pub mod Examples
 
 -- The bytes of a prefix in preorder, and then r.
 unfoldable pub prefix-bytes : Prefix → List ℕ → List ℕ

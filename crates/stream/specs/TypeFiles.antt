@@ -6,6 +6,7 @@ use Rattle.stream.specs.declared.Fault.the-variants.{CutShort, Unlisted,
 use Rattle.stream.specs.Types.{Ty, empty, cue, level, seq, par, type-limit}
 use Rattle.stream.specs.Reading.{Reading, read, fault, Result, whole, section-bytes, section, Root, tree, leaf, two-parts}
 pub mod Laws
+pub mod Examples
 
 -- The bytes of a type in preorder, and then r.
 unfoldable pub type-bytes : Ty → List ℕ → List ℕ

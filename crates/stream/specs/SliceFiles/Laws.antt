@@ -2,19 +2,19 @@
 use mathlib.Core.Path.{_≡_, refl, sym, ap, _∙_}
 use mathlib.Core.Bool.{Bool, true, false, _&&_, not, true≢false, false≢true}
 use mathlib.Core.List.{List, [], _∷_, _++_}
-use Prim.Native.Nat.{ℕ, suc, _+_, _*_, _≤_, _<_}
+use Prim.Native.Nat.{ℕ, zero, suc, _+_, _*_, _≤_, _<_}
 use native.Mathlib.Omega.{arith}
 use lib.ListN.{length, getD}
 use borrow.Author.Tests.{not-true}
 use Rattle.stream.specs.declared.Fault.{Fault}
 use Rattle.stream.specs.declared.Fault.the-variants.{SliceCutShort, SliceUnlisted, SliceLeftOver, SliceMisplaced}
 use Rattle.stream.specs.Types.{Ty, empty, cue, level, seq, par, size, type-limit, first-part, second-part, has-kind}
-use Rattle.stream.specs.Types.Laws.{and-left, and-right, made-of, size-positive}
+use Rattle.stream.specs.Types.Laws.{and-left, and-right, made-of, parts-size, size-positive}
 use Rattle.stream.specs.Levels.{value-bytes, read-value}
 use Rattle.stream.specs.Levels.Laws.{value-width, value-length, value-append, value-reads, value-sound}
 use Rattle.stream.specs.Prefixes.{Prefix, nothing, cue-awaited, cue-come, level-awaited, level-come, in-first, crossed, beside, Complete, whole-nothing, whole-cue, whole-level, whole-crossed, whole-beside, IsPrefix, of-empty, of-cue-awaited, of-cue-come, of-level-awaited, of-level-come, of-first, of-crossed, of-beside}
 use Rattle.stream.specs.Prefixes.Laws.{crossed-second, beside-first, beside-second}
-use Rattle.stream.specs.Reading.{Bytes, Reading, read, fault, Result, accepted, read-on, whole, section-bytes, section, Root, tree, leaf, one-part, two-parts}
+use Rattle.stream.specs.Reading.{Bytes, Reading, read, fault, Result, accepted, read-on, whole, section-bytes, section, Root, forest, tree, leaf, one-part, two-parts}
 use Rattle.stream.specs.Reading.Laws.{Reads, reads-leaf, reads-one, reads-two, tree-reads, RootIs, leaf-is, one-is, two-is, tree-sound, section-reads, section-sound, whole-sound, every, bytes-tail}
 use Rattle.stream.specs.SliceFiles.{prefix-bytes, slice-file-bytes, Owed, owed, belongs, prefix-kinds, prefix-root, read-prefix, slice-file}
 
@@ -160,3 +160,71 @@ slice-file-sound t s p b e =
           (whole-sound SliceLeftOver (section SliceCutShort SliceLeftOver (read-prefix t) s) p e) in
     let g = tree-sound SliceCutShort prefix-root Fills prefix-bytes nodes root-sound type-limit (owed t false) (f .body) p [] (f .body-bytes) (f .inside) in
     (rw (g .bytes) (f .bytes), g .is .is)
+
+-- The limit of 255 is never met: each node read takes at least one from the sizes of the types owed.
+
+weight : List Owed → ℕ
+weight [] = 0
+weight (o ∷ os) = size (o .type) + weight os
+
+weight-append : (os us : List Owed) → weight (os ++ us) ≡ weight os + weight us
+unfolding weight
+weight-append [] us = omega arith
+weight-append (o ∷ os) us = omega (arith, weight-append os us)
+
+abbrev Lighter : Ty → Reading (Root Owed Prefix) → Type 0
+Lighter t (read n r) = weight (n .parts) < size t
+Lighter t (fault e) = Unit
+
+belongs-lighter : (t : Ty) (r : List ℕ) (b : Bool) (root : List ℕ → Reading (Root Owed Prefix))
+    → (b ≡ true → Lighter t (root r)) → Lighter t (belongs b root r)
+belongs-lighter t r true root h = h refl
+belongs-lighter t r false root h = tt
+
+value-lighter : (t : Ty) (g : Reading ℕ) → Lighter t (read-on g (λ v r. leaf (level-come v) r))
+unfolding weight
+value-lighter t (read v r) = omega (arith, size-positive t)
+value-lighter t (fault e) = tt
+
+kinds-lighter : (t : Ty) (c : Bool) (s : List ℕ) (k : ℕ) → Lighter t (getD prefix-kinds k (λ u d r. fault SliceUnlisted) t c s)
+unfolding weight
+kinds-lighter t c s =
+    every (λ k f. Lighter t (f t c s)) (λ u d r. fault SliceUnlisted) prefix-kinds
+    (leafy (has-kind 0 t) nothing , (leafy (has-kind 1 t && not c) cue-awaited , (leafy (has-kind 1 t) cue-come
+    , (leafy (has-kind 2 t && not c) level-awaited
+    , (belongs-lighter t s (has-kind 2 t) _ (λ e. value-lighter t (read-value SliceCutShort s))
+    , (belongs-lighter t s (has-kind 3 t && not c) _
+        (λ e. omega (arith, parts-size 3 t (omega arith) (and-left (has-kind 3 t) (not c) e), size-positive (second-part t)))
+    , (belongs-lighter t s (has-kind 3 t) _ (λ e. omega (arith, parts-size 3 t (omega arith) e))
+    , (belongs-lighter t s (has-kind 4 t) _ (λ e. omega (arith, parts-size 4 t (omega arith) e))
+    , (λ k h. tt)))))))))
+  where
+    leafy : (b : Bool) (p : Prefix) → Lighter t (belongs b (leaf p) s)
+    leafy b p = belongs-lighter t s b (leaf p) (λ e. omega (arith, size-positive t))
+
+root-lighter : (o : Owed) (s : List ℕ) → Lighter (o .type) (prefix-root o s)
+unfolding prefix-root
+root-lighter o [] = tt
+root-lighter o (k ∷ s) = kinds-lighter (o .type) (o .must-complete) s k
+
+limit-not-met-by : (e d : Fault) (budget : ℕ) (os : List Owed) (s : List ℕ) → weight os ≤ budget
+    → forest e prefix-root budget os s ≡ forest d prefix-root budget os s
+unfolding forest weight
+limit-not-met-by e d zero [] s h = refl
+limit-not-met-by e d (suc budget) [] s h = refl
+limit-not-met-by e d zero (o ∷ os) s h = absurd (omega (arith, size-positive (o .type)))
+limit-not-met-by e d (suc budget) (o ∷ os) s h =
+    go (prefix-root o s) (root-lighter o s) (λ us r i. limit-not-met-by e d budget us r i)
+  where
+    go : (g : Reading (Root Owed Prefix)) → Lighter (o .type) g
+        → ((us : List Owed) (r : List ℕ) → weight us ≤ budget → forest e prefix-root budget us r ≡ forest d prefix-root budget us r)
+        → read-on g (λ n r. read-on (forest e prefix-root budget (n .parts ++ os) r) (λ ts rest. read (n .build ts) rest))
+        ≡ read-on g (λ n r. read-on (forest d prefix-root budget (n .parts ++ os) r) (λ ts rest. read (n .build ts) rest))
+    go (read n r) l k = rw (k (n .parts ++ os) r (omega (arith, weight-append (n .parts) os)))
+    go (fault x) l k = refl
+
+-- Whatever the bytes, the reading of a slice never depends on the fault that a 256th node would give.
+pub limit-not-met : (e d : Fault) (t : Ty) (s : List ℕ) → size t ≤ type-limit
+    → forest e prefix-root type-limit (owed t false ∷ []) s ≡ forest d prefix-root type-limit (owed t false ∷ []) s
+unfolding weight
+limit-not-met e d t s h = limit-not-met-by e d type-limit (owed t false ∷ []) s (omega arith)

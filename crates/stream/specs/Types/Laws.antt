@@ -64,3 +64,11 @@ made (par s t) = refl
 
 pub made-of : (k : ℕ) (t : Ty) → has-kind k t ≡ true → t ≡ of-kind k (first-part t) (second-part t)
 made-of k t e = made t ∙ ap (λ x. of-kind x (first-part t) (second-part t)) (eqb-true (kind t) k e)
+
+pub parts-size : (k : ℕ) (t : Ty) → 3 ≤ k → has-kind k t ≡ true → size t ≡ suc (size (first-part t) + size (second-part t))
+unfolding size
+parts-size k empty h e = absurd (omega (arith, eqb-true 0 k e))
+parts-size k cue h e = absurd (omega (arith, eqb-true 1 k e))
+parts-size k level h e = absurd (omega (arith, eqb-true 2 k e))
+parts-size k (seq s t) h e = refl
+parts-size k (par s t) h e = refl

@@ -1,0 +1,74 @@
+-- Slice files that tell the readings of document 01 apart (docs/DECISIONS.md), each with its type and its number.
+use mathlib.Core.Path.{_≡_, refl}
+use mathlib.Core.Bool.{Bool, true, false}
+use mathlib.Core.List.{List, [], _∷_, _++_, map}
+use Prim.Native.Nat.{ℕ}
+use Rattle.stream.specs.Types.{Ty, empty, cue, level, seq, par, type-limit}
+use Rattle.stream.specs.Levels.{read-value, value-bytes}
+use Rattle.stream.specs.Prefixes.{Prefix, nothing, cue-awaited, cue-come, level-awaited, level-come, in-first, crossed, beside, complete, derivative, concat}
+use Rattle.stream.specs.Reading.{Result, accepted, refused, go-on, section-bytes, counted, section, forest, tree}
+use Rattle.stream.specs.Reading.Examples.{verdict, section-of, copies, numbers, verdicts}
+use Rattle.stream.specs.SliceFiles.{prefix-bytes, prefix-root, read-prefix, slice-file}
+
+abbrev table : List ((Ty × List ℕ) × ℕ)
+table =
+    ((seq cue cue, section-of (6 ∷ 2 ∷ 1 ∷ [])), 0)
+    ∷ ((seq cue cue, section-of (5 ∷ 2 ∷ [])), 0)
+    ∷ ((level, section-of (4 ∷ 0 ∷ 0 ∷ [])), 0)
+    -- a count that is cut short, a section of no bytes, a tree or a value cut short
+    ∷ ((cue, []), 11)
+    ∷ ((cue, 0 ∷ 1 ∷ []), 11)
+    ∷ ((cue, section-of []), 11)
+    ∷ ((par cue cue, section-of (7 ∷ 1 ∷ [])), 11)
+    ∷ ((level, section-of (4 ∷ 1 ∷ [])), 11)
+    -- 12 is decided by the number alone, before the type is asked; 14 by the kind, before its value is read
+    ∷ ((cue, section-of (15 ∷ [])), 12)
+    ∷ ((empty, section-of (1 ∷ [])), 14)
+    ∷ ((cue, section-of (4 ∷ 1 ∷ [])), 14)
+    -- a kind that keeps a crossed first part from being complete is refused at its own byte
+    ∷ ((seq cue cue, section-of (6 ∷ 1 ∷ 1 ∷ [])), 14)
+    ∷ ((seq level cue, section-of (6 ∷ 3 ∷ 1 ∷ [])), 14)
+    ∷ ((seq (par cue cue) cue, section-of (6 ∷ 7 ∷ 1 ∷ [])), 14)
+    ∷ ((seq (par cue cue) cue, section-of (6 ∷ 7 ∷ 1 ∷ 15 ∷ [])), 14)
+    ∷ ((seq (par cue cue) cue, section-of (6 ∷ 7 ∷ 1 ∷ 2 ∷ 1 ∷ 1 ∷ [])), 14)
+    ∷ ((seq (par cue cue) cue, section-of (6 ∷ 7 ∷ 15 ∷ [])), 12)
+    -- .. and so into the second part of a crossing inside it, but not into the second part itself
+    ∷ ((seq (seq cue cue) cue, section-of (6 ∷ 6 ∷ 2 ∷ 1 ∷ 1 ∷ [])), 14)
+    ∷ ((seq (seq cue cue) cue, section-of (6 ∷ 5 ∷ 2 ∷ 1 ∷ [])), 14)
+    ∷ ((seq (seq cue cue) cue, section-of (6 ∷ 6 ∷ 2 ∷ 2 ∷ 1 ∷ [])), 0)
+    -- empty in sequence with empty: the crossing is still owed
+    ∷ ((seq (seq empty empty) cue, section-of (6 ∷ 5 ∷ 0 ∷ 1 ∷ [])), 14)
+    ∷ ((seq (seq empty empty) cue, section-of (6 ∷ 6 ∷ 0 ∷ 0 ∷ 1 ∷ [])), 0)
+    -- bytes left over, in the section and after it
+    ∷ ((cue, section-of (1 ∷ 1 ∷ [])), 13)
+    ∷ ((cue, 0 ∷ 1 ∷ 1 ∷ 9 ∷ []), 13)
+    ∷ []
+
+pub slice-file-examples : verdicts (λ x. verdict (slice-file (x .0) (x .1))) table ≡ numbers table
+unfolding section-bytes counted section forest tree type-limit read-value prefix-root read-prefix slice-file
+slice-file-examples = refl
+
+-- What prefixes are and do: whether one is complete, what it leaves, and joins.
+
+pub complete-examples :
+    map complete (level-come 0 ∷ level-awaited ∷ in-first cue-come ∷ crossed cue-come cue-awaited ∷ crossed cue-come cue-come ∷ [])
+    ≡ true ∷ false ∷ false ∷ false ∷ true ∷ []
+unfolding complete
+complete-examples = refl
+
+pub derivative-examples :
+    (derivative (seq cue level) (in-first cue-come) ≡ seq empty level)
+    × (derivative (seq cue level) (crossed cue-come level-awaited) ≡ level)
+    × (derivative (par cue level) (beside cue-come level-awaited) ≡ par empty level)
+    × (derivative level (level-come 0) ≡ empty)
+unfolding derivative
+derivative-examples = (refl, refl, refl, refl)
+
+-- 5 p joined with 6 b r keeps p.
+pub concat-examples :
+    (concat (in-first cue-come) (crossed nothing cue-awaited) ≡ crossed cue-come cue-awaited)
+    × (concat (in-first cue-awaited) (in-first cue-come) ≡ in-first cue-come)
+    × (concat (crossed cue-come cue-awaited) cue-come ≡ crossed cue-come cue-come)
+    × (concat (level-come 0) nothing ≡ level-come 0)
+unfolding concat
+concat-examples = (refl, refl, refl, refl)
