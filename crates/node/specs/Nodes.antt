@@ -1,0 +1,109 @@
+-- Nodes, their typing and their limits (document 01, Nodes and Bounds). A node is one of the source's kernel transformers,
+-- or a structural rule that document 01 keeps as a node.
+use Prim.Native.Nat.{ℕ, suc, _+_, _<_, _≤_}
+use Rattle.stream.specs.Types.{Ty, empty, cue, level, seq, par, Nullable, first-part, second-part, size, type-limit}
+use Rattle.stream.specs.Levels.{level-limit}
+pub mod Laws
+
+pub data Node : Type 0 where
+  pass : Node -- 0
+  silent : Ty → Node -- 1, and a nullable type
+  emit-cue : Node -- 2, document 01's cue
+  emit-level : ℕ → Node -- 3, document 01's level, and its value
+  both : Node → Node → Node -- 4
+  left : Node -- 5
+  right : Node -- 6
+  first : Node -- 7
+  second : Node -- 8
+  then : Node → Node → Node -- 9
+  chain : Node → Node → Node -- 10, the source's cut
+  regroup-right : Node -- 11
+  regroup-left : Node -- 12
+  spread : Node -- 13
+  front : Node -- 14
+
+-- "Each node takes an input type to an output type": Types s n t says that n takes s to t.
+pub data Types : Ty → Node → Ty → Type 0 where
+  types-pass : {s : Ty} → Types s pass s
+  types-silent : {s n : Ty} → Nullable n → Types s (silent n) n
+  types-cue : {s : Ty} → Types s emit-cue cue
+  types-level : {s : Ty} {v : ℕ} → v < level-limit → Types s (emit-level v) level
+  types-both : {s t r : Ty} {n m : Node} → Types s n t → Types s m r → Types s (both n m) (par t r)
+  types-left : {s t : Ty} → Types (par s t) left s
+  types-right : {s t : Ty} → Types (par s t) right t
+  types-first : {s t : Ty} → Types (seq s t) first s
+  types-second : {s t : Ty} → Types (seq s t) second t
+  types-then : {s t u v : Ty} {n m : Node} → Types s n u → Types t m v → Types (seq s t) (then n m) (seq u v)
+  types-chain : {s t r : Ty} {n m : Node} → Types s n t → Types t m r → Types s (chain n m) r
+  types-regroup-right : {s t r : Ty} → Types (seq (seq s t) r) regroup-right (seq s (seq t r))
+  types-regroup-left : {s t r : Ty} → Types (seq s (seq t r)) regroup-left (seq (seq s t) r)
+  types-spread : {s t r : Ty} → Types (seq s (par t r)) spread (par (seq s t) (seq s r))
+  types-front : {s : Ty} → Types s front (seq empty s)
+
+-- The output type that the rules give.
+unfoldable pub output-type : Ty → Node → Ty
+output-type s pass = s
+output-type s (silent n) = n
+output-type s emit-cue = cue
+output-type s (emit-level v) = level
+output-type s (both n m) = par (output-type s n) (output-type s m)
+output-type s left = first-part s
+output-type s right = second-part s
+output-type s first = first-part s
+output-type s second = second-part s
+output-type s (then n m) = seq (output-type (first-part s) n) (output-type (second-part s) m)
+output-type s (chain n m) = output-type (output-type s n) m
+output-type s regroup-right = seq (first-part (first-part s)) (seq (second-part (first-part s)) (second-part s))
+output-type s regroup-left = seq (seq (first-part s) (first-part (second-part s))) (second-part (second-part s))
+output-type s spread = par (seq (first-part s) (first-part (second-part s))) (seq (first-part s) (second-part (second-part s)))
+output-type s front = seq empty s
+
+-- The number of nodes; a type that silent carries does not count.
+unfoldable pub count : Node → ℕ
+count pass = 1
+count (silent n) = 1
+count emit-cue = 1
+count (emit-level v) = 1
+count (both n m) = suc (count n + count m)
+count left = 1
+count right = 1
+count first = 1
+count second = 1
+count (then n m) = suc (count n + count m)
+count (chain n m) = suc (count n + count m)
+count regroup-right = 1
+count regroup-left = 1
+count spread = 1
+count front = 1
+
+-- "At most 63 nodes in a patch."
+unfoldable pub node-limit : ℕ
+node-limit = 63
+
+-- "At most 255 nodes in a type .. wherever it arises: read, carried by silent, or given by a node."
+abbrev pub Small : Ty → Type 0
+Small t = size t ≤ type-limit
+
+abbrev pub Fits : Ty → Node → Type 0
+Fits s pass = Small s
+Fits s (silent n) = Small n
+Fits s emit-cue = Small cue
+Fits s (emit-level v) = Small level
+Fits s (both n m) = Fits s n × Fits s m × Small (output-type s (both n m))
+Fits s left = Small (output-type s left)
+Fits s right = Small (output-type s right)
+Fits s first = Small (output-type s first)
+Fits s second = Small (output-type s second)
+Fits s (then n m) = Fits (first-part s) n × Fits (second-part s) m × Small (output-type s (then n m))
+Fits s (chain n m) = Fits s n × Fits (output-type s n) m × Small (output-type s (chain n m))
+Fits s regroup-right = Small (output-type s regroup-right)
+Fits s regroup-left = Small (output-type s regroup-left)
+Fits s spread = Small (output-type s spread)
+Fits s front = Small (output-type s front)
+
+-- A patch, "the kernel rules .. as document 01 takes them for one input, and its limits": from s to t by n.
+pub record Allowed (s : Ty) (n : Node) (t : Ty) : Type 0 where
+  pub types : Types s n t
+  pub input-small : Small s
+  pub few : count n ≤ node-limit
+  pub fits : Fits s n
