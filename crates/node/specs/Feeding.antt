@@ -5,6 +5,7 @@ use Rattle.stream.specs.Prefixes.{Prefix, nothing, cue-come, level-come, in-fir
 use Rattle.node.specs.Nodes.{Node, pass, silent, emit-cue, emit-level, both, left, right, first, second, then, chain, regroup-right, regroup-left, spread, front, Types, output-type}
 pub mod Laws
 pub mod Lists
+pub mod Examples
 
 -- Feeds s n p o n′: fed the prefix p of s, the node n sends o and leaves n′.
 pub data Feeds : Ty → Node → Prefix → Prefix → Node → Type 0 where

@@ -1,2 +1,4 @@
 pub mod Nodes
 pub mod Feeding
+pub mod Checking
+pub mod PatchFiles

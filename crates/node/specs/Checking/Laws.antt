@@ -1,0 +1,182 @@
+-- The second pass accepts exactly what the typing rules and the limit allow.
+use mathlib.Core.Path.{_≡_, refl, sym, ap, _∙_}
+use mathlib.Core.Bool.{Bool, true, false, _&&_}
+use Prim.Native.Nat.{ℕ, _≤_, _<_}
+use native.Mathlib.Omega.{arith}
+use lib.Dec.{leb}
+use borrow.Author.Tests.{leb-true, le-leb}
+use Rattle.stream.specs.declared.Fault.{Fault}
+use Rattle.stream.specs.declared.Fault.the-variants.{TypeTooLarge, NotNullable, WrongShape}
+use Rattle.stream.specs.Types.{Ty, empty, cue, level, seq, par, nullable, size, type-limit, first-part, second-part, has-kind}
+use Rattle.stream.specs.Types.Laws.{and-left, and-right, nullable-sound, nullable-complete, made-of}
+use Rattle.stream.specs.Levels.{level-limit}
+use Rattle.stream.specs.Reading.{Result, accepted, refused, go-on}
+use Rattle.node.specs.Nodes.{Node, pass, silent, emit-cue, emit-level, both, left, right, first, second, then, chain, regroup-right, regroup-left, spread, front, Types, types-pass, types-silent, types-cue, types-level, types-both, types-left, types-right, types-first, types-second, types-then, types-chain, types-regroup-right, types-regroup-left, types-spread, types-front, output-type, Small, Fits}
+use Rattle.node.specs.Nodes.Laws.{output-type-is}
+use Rattle.node.specs.Checking.{require, gives, typing}
+
+-- What nodes carry is within its limits, as the reader of nodes sees to.
+abbrev pub Carries : Node → Type 0
+Carries pass = Unit
+Carries (silent n) = Small n
+Carries emit-cue = Unit
+Carries (emit-level v) = v < level-limit
+Carries (both n m) = Carries n × Carries m
+Carries left = Unit
+Carries right = Unit
+Carries first = Unit
+Carries second = Unit
+Carries (then n m) = Carries n × Carries m
+Carries (chain n m) = Carries n × Carries m
+Carries regroup-right = Unit
+Carries regroup-left = Unit
+Carries spread = Unit
+Carries front = Unit
+
+pub types-carries : {s t : Ty} {n : Node} → Types s n t → Fits s n → Carries n
+types-carries types-pass f = tt
+types-carries (types-silent z) f = f
+types-carries types-cue f = tt
+types-carries (types-level v) f = v
+types-carries (types-both d e) f = (types-carries d f.0, types-carries e f.1)
+types-carries types-left f = tt
+types-carries types-right f = tt
+types-carries types-first f = tt
+types-carries types-second f = tt
+types-carries (types-then d e) f = (types-carries d f.0, types-carries e f.1)
+types-carries (types-chain d e) f = (types-carries d f.0, types-carries e (rw (output-type-is d) at f.1))
+types-carries types-regroup-right f = tt
+types-carries types-regroup-left f = tt
+types-carries types-spread f = tt
+types-carries types-front f = tt
+
+-- The steps of the pass
+
+pub go-on-accepted : {A B : Type 0} (g : Result A) (f : A → Result B) (b : B) → go-on g f ≡ accepted b → (a : A) × (g ≡ accepted a) × (f a ≡ accepted b)
+go-on-accepted (accepted a) f b e = (a, refl, e)
+go-on-accepted (refused x) f b e = let z : _≡_ {A = ℕ} 0 1 = cc in absurd (omega arith)
+
+require-accepted : {A : Type 0} (c : Bool) (x : Fault) (r : Result A) (a : A) → require c x r ≡ accepted a → (c ≡ true) × (r ≡ accepted a)
+require-accepted true x r a e = (refl, e)
+require-accepted false x r a e = let z : _≡_ {A = ℕ} 0 1 = cc in absurd (omega arith)
+
+gives-accepted : (u t : Ty) → gives u ≡ accepted t → (u ≡ t) × Small t
+unfolding gives
+gives-accepted u t e =
+    let r = require-accepted (leb (size u) type-limit) TypeTooLarge (accepted u) t e in
+    let h : u ≡ t = let d = r .1 in cc in
+    (h, rw (← h) (leb-true (size u) type-limit (r .0)))
+
+gives-small : {t : Ty} → Small t → gives t ≡ accepted t
+unfolding gives
+gives-small {t} h = rw (le-leb (size t) type-limit h)
+
+-- What the pass accepts is typed and fits
+
+pub record Typed (s : Ty) (n : Node) (t : Ty) : Type 0 where
+  pub types : Types s n t
+  pub fits : Fits s n
+
+given : {s u : Ty} {n : Node} (t : Ty) → gives u ≡ accepted t → ((h : u ≡ t) → Small u → Typed s n t) → Typed s n t
+given {u = u} t e k = let g = gives-accepted u t e in k (g .0) (rw (g .0) (g .1))
+
+then-types : {u v : Ty} {n m : Node} (s : Ty) → has-kind 3 s ≡ true → Types (first-part s) n u → Types (second-part s) m v → Types s (then n m) (seq u v)
+then-types s e d f = rw (made-of 3 s e) (types-then d f)
+
+pub typing-sound : (s : Ty) (n : Node) (t : Ty) → Carries n → typing s n ≡ accepted t → Typed s n t
+unfolding typing output-type
+typing-sound s pass t v e = given t e (λ h k. rw (← h) (record { types = types-pass; fits = k }))
+typing-sound s (silent n) t v e =
+    let r = require-accepted (nullable n) NotNullable (gives n) t e in
+    given t (r .1) (λ h k. rw (← h) (record { types = types-silent (nullable-sound n (r .0)); fits = k }))
+typing-sound s emit-cue t v e = given t e (λ h k. rw (← h) (record { types = types-cue; fits = k }))
+typing-sound s (emit-level x) t v e = given t e (λ h k. rw (← h) (record { types = types-level v; fits = k }))
+typing-sound s (both n m) t v e =
+    let x = go-on-accepted (typing s n) (λ u. go-on (typing s m) (λ r. gives (par u r))) t e in
+    let y = go-on-accepted (typing s m) (λ r. gives (par (x .0) r)) t (x .2) in
+    let a = typing-sound s n (x .0) (v .0) (x .1) in
+    let b = typing-sound s m (y .0) (v .1) (y .1) in
+    given t (y .2) (λ h k. rw (← h)
+      (record { types = types-both a.types b.types; fits = (a.fits, b.fits, rw (output-type-is a.types, output-type-is b.types) k) }))
+typing-sound s left t v e =
+    let r = require-accepted (has-kind 4 s) WrongShape (gives (first-part s)) t e in
+    given t (r .1) (λ h k. rw (← h) (record { types = rw (made-of 4 s (r .0)) types-left; fits = k }))
+typing-sound s right t v e =
+    let r = require-accepted (has-kind 4 s) WrongShape (gives (second-part s)) t e in
+    given t (r .1) (λ h k. rw (← h) (record { types = rw (made-of 4 s (r .0)) types-right; fits = k }))
+typing-sound s first t v e =
+    let r = require-accepted (has-kind 3 s) WrongShape (gives (first-part s)) t e in
+    given t (r .1) (λ h k. rw (← h) (record { types = rw (made-of 3 s (r .0)) types-first; fits = k }))
+typing-sound s second t v e =
+    let r = require-accepted (has-kind 3 s) WrongShape (gives (second-part s)) t e in
+    given t (r .1) (λ h k. rw (← h) (record { types = rw (made-of 3 s (r .0)) types-second; fits = k }))
+typing-sound s (then n m) t v e =
+    let r = require-accepted (has-kind 3 s) WrongShape
+          (go-on (typing (first-part s) n) (λ u. go-on (typing (second-part s) m) (λ w. gives (seq u w)))) t e in
+    let x = go-on-accepted (typing (first-part s) n) (λ u. go-on (typing (second-part s) m) (λ w. gives (seq u w))) t (r .1) in
+    let y = go-on-accepted (typing (second-part s) m) (λ w. gives (seq (x .0) w)) t (x .2) in
+    let a = typing-sound (first-part s) n (x .0) (v .0) (x .1) in
+    let b = typing-sound (second-part s) m (y .0) (v .1) (y .1) in
+    given t (y .2) (λ h k. rw (← h)
+      (record {
+        types = then-types s (r .0) a.types b.types;
+        fits = (a.fits, b.fits, rw (output-type-is a.types, output-type-is b.types) k)
+      }))
+typing-sound s (chain n m) t v e =
+    let x = go-on-accepted (typing s n) (λ u. go-on (typing u m) (λ r. gives r)) t e in
+    let y = go-on-accepted (typing (x .0) m) (λ r. gives r) t (x .2) in
+    let a = typing-sound s n (x .0) (v .0) (x .1) in
+    let b = typing-sound (x .0) m (y .0) (v .1) (y .1) in
+    given t (y .2) (λ h k. rw (← h)
+      (record { types = types-chain a.types b.types; fits = rw (output-type-is a.types) (a.fits, b.fits, rw (output-type-is b.types) k) }))
+typing-sound s regroup-right t v e =
+    let c = has-kind 3 s && has-kind 3 (first-part s) in
+    let r = require-accepted c WrongShape (gives (seq (first-part (first-part s)) (seq (second-part (first-part s)) (second-part s)))) t e in
+    given t (r .1) (λ h k. rw (← h)
+      (record {
+        types = rw (made-of 3 s (and-left (has-kind 3 s) _ (r .0)), made-of 3 (first-part s) (and-right (has-kind 3 s) _ (r .0))) types-regroup-right;
+        fits = k
+      }))
+typing-sound s regroup-left t v e =
+    let c = has-kind 3 s && has-kind 3 (second-part s) in
+    let r = require-accepted c WrongShape (gives (seq (seq (first-part s) (first-part (second-part s))) (second-part (second-part s)))) t e in
+    given t (r .1) (λ h k. rw (← h)
+      (record {
+        types = rw (made-of 3 s (and-left (has-kind 3 s) _ (r .0)), made-of 3 (second-part s) (and-right (has-kind 3 s) _ (r .0))) types-regroup-left;
+        fits = k
+      }))
+typing-sound s spread t v e =
+    let c = has-kind 3 s && has-kind 4 (second-part s) in
+    let r = require-accepted c WrongShape
+          (gives (par (seq (first-part s) (first-part (second-part s))) (seq (first-part s) (second-part (second-part s))))) t e in
+    given t (r .1) (λ h k. rw (← h)
+      (record {
+        types = rw (made-of 3 s (and-left (has-kind 3 s) _ (r .0)), made-of 4 (second-part s) (and-right (has-kind 3 s) _ (r .0))) types-spread;
+        fits = k
+      }))
+typing-sound s front t v e = given t e (λ h k. rw (← h) (record { types = types-front; fits = k }))
+
+-- What is typed and fits is accepted
+
+pub typing-complete : {s t : Ty} {n : Node} → Types s n t → Fits s n → typing s n ≡ accepted t
+unfolding typing output-type
+typing-complete types-pass f = gives-small f
+typing-complete (types-silent z) f = rw (nullable-complete z) (gives-small f)
+typing-complete types-cue f = gives-small f
+typing-complete (types-level v) f = gives-small f
+typing-complete (types-both d e) f =
+    rw (typing-complete d f.0, typing-complete e f.1) (gives-small (rw (output-type-is d, output-type-is e) at f.2))
+typing-complete types-left f = gives-small f
+typing-complete types-right f = gives-small f
+typing-complete types-first f = gives-small f
+typing-complete types-second f = gives-small f
+typing-complete (types-then d e) f =
+    rw (typing-complete d f.0, typing-complete e f.1) (gives-small (rw (output-type-is d, output-type-is e) at f.2))
+typing-complete (types-chain d e) f =
+    let g = rw (output-type-is d) at f.1 in
+    let k = rw (output-type-is d, output-type-is e) at f.2 in
+    rw (typing-complete d f.0, typing-complete e g) (gives-small k)
+typing-complete types-regroup-right f = gives-small f
+typing-complete types-regroup-left f = gives-small f
+typing-complete types-spread f = gives-small f
+typing-complete types-front f = gives-small f

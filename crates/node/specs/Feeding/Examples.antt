@@ -1,0 +1,67 @@
+-- A feed of each kind of node, in document 01's order: what is sent, and the node left.
+use mathlib.Core.Path.{_≡_, refl}
+use mathlib.Core.List.{List, [], _∷_}
+use Prim.Native.Nat.{ℕ}
+use Rattle.stream.specs.Types.{Ty, empty, cue, level, seq, par}
+use Rattle.stream.specs.Prefixes.{Prefix, nothing, cue-awaited, cue-come, level-awaited, level-come, in-first, crossed, beside, empty-prefix, derivative}
+use Rattle.node.specs.Nodes.{Node, pass, silent, emit-cue, emit-level, both, left, right, first, second, then, chain, regroup-right, regroup-left, spread, front, output-type}
+use Rattle.node.specs.Feeding.{sends, leaves}
+
+-- A row: the input type, the node and the prefix fed; then the prefix sent and the node left.
+pub record Row : Type 0 where
+  pub input : Ty
+  pub node : Node
+  pub fed : Prefix
+  pub sent : Prefix
+  pub left-behind : Node
+
+abbrev row : Ty → Node → Prefix → Prefix → Node → Row
+row s n p o m = record { input = s; node = n; fed = p; sent = o; left-behind = m }
+
+abbrev table : List Row
+table =
+    row level pass (level-come 0) (level-come 0) pass
+    ∷ row cue (silent (par empty empty)) cue-come (beside nothing nothing) (silent (par empty empty))
+    ∷ row cue emit-cue cue-awaited cue-come (silent empty)
+    ∷ row cue (emit-level 7) cue-awaited (level-come 7) (silent empty)
+    ∷ row cue (both emit-cue pass) cue-awaited (beside cue-come cue-awaited) (both (silent empty) pass)
+    ∷ row (par cue level) left (beside cue-come level-awaited) cue-come left
+    ∷ row (par cue level) right (beside cue-come level-awaited) level-awaited right
+    ∷ row (seq cue cue) first (in-first cue-come) cue-come first
+    ∷ row (seq (par cue cue) cue) first (crossed (beside cue-come cue-come) cue-awaited) (beside cue-come cue-come) (silent (par empty empty))
+    ∷ row (seq cue (seq level cue)) second (in-first cue-come) (in-first level-awaited) second
+    ∷ row (seq cue level) second (crossed cue-come (level-come 0)) (level-come 0) pass
+    ∷ row (seq cue cue) (then emit-cue pass) (in-first cue-awaited) (in-first cue-come) (then (silent empty) pass)
+    ∷ row (seq cue cue) (then pass emit-cue) (crossed cue-come cue-awaited) (crossed cue-come cue-come) (silent empty)
+    ∷ row cue (chain front (then emit-cue pass)) cue-awaited (crossed cue-come cue-awaited) (chain pass pass)
+    ∷ row (seq (seq cue cue) cue) regroup-right (in-first (in-first cue-come)) (in-first cue-come) regroup-right
+    ∷ row (seq (seq cue cue) cue) regroup-right (in-first (crossed cue-come cue-awaited)) (crossed cue-come (in-first cue-awaited)) pass
+    ∷ row (seq (seq cue level) cue) regroup-right (crossed (crossed cue-come (level-come 1)) cue-awaited)
+      (crossed cue-come (crossed (level-come 1) cue-awaited)) pass
+    ∷ row (seq cue (seq cue cue)) regroup-left (in-first cue-come) (in-first (in-first cue-come)) regroup-left
+    ∷ row (seq cue (seq cue cue)) regroup-left (crossed cue-come (in-first cue-awaited)) (in-first (crossed cue-come cue-awaited)) pass
+    ∷ row (seq cue (seq level cue)) regroup-left (crossed cue-come (crossed (level-come 1) cue-awaited))
+      (crossed (crossed cue-come (level-come 1)) cue-awaited) pass
+    ∷ row (seq cue (par cue cue)) spread (in-first cue-come) (beside (in-first cue-come) (in-first cue-come)) spread
+    ∷ row (seq cue (par cue level)) spread (crossed cue-come (beside cue-come level-awaited))
+      (beside (crossed cue-come cue-come) (crossed cue-come level-awaited)) pass
+    ∷ row cue front cue-awaited (crossed nothing cue-awaited) pass
+    ∷ []
+
+abbrev sent-by : Row → Prefix
+sent-by r = sends (r .input) (r .node) (r .fed)
+
+abbrev left-by : Row → Node
+left-by r = leaves (r .input) (r .node) (r .fed)
+
+abbrev each : {A : Type 0} → (Row → A) → List Row → List A
+each f [] = []
+each f (r ∷ rs) = f r ∷ each f rs
+
+pub sends-examples : each sent-by table ≡ each (λ r. r .sent) table
+unfolding sends output-type empty-prefix
+sends-examples = refl
+
+pub leaves-examples : each left-by table ≡ each (λ r. r .left-behind) table
+unfolding leaves sends output-type empty-prefix derivative
+leaves-examples = refl

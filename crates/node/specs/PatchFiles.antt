@@ -1,0 +1,87 @@
+-- Patch files: their bytes, and Check's two passes over them with refusals 1 to 7 (document 01, Files and Operations).
+use mathlib.Core.List.{List, [], _∷_}
+use Prim.Native.Nat.{ℕ}
+use lib.ListN.{getD}
+use Rattle.stream.specs.declared.Fault.the-variants.{CutShort, Unlisted, LeftOver, TooManyNodes}
+use Rattle.stream.specs.Types.{Ty}
+use Rattle.stream.specs.Levels.{value-bytes, read-value}
+use Rattle.stream.specs.Reading.{Reading, read, fault, Result, accepted, read-on, go-on, whole, section-bytes, section, Root, tree, leaf, two-parts}
+use Rattle.stream.specs.TypeFiles.{type-bytes, read-type, type-section}
+use Rattle.node.specs.Nodes.{Node, pass, silent, emit-cue, emit-level, both, left, right, first, second, then, chain, regroup-right, regroup-left, spread, front, node-limit}
+use Rattle.node.specs.Checking.{typing}
+pub mod Laws
+pub mod Examples
+
+-- The bytes of a node in preorder, and then r.
+unfoldable pub node-bytes : Node → List ℕ → List ℕ
+node-bytes pass r = 0 ∷ r
+node-bytes (silent n) r = 1 ∷ type-bytes n r
+node-bytes emit-cue r = 2 ∷ r
+node-bytes (emit-level v) r = 3 ∷ value-bytes v r
+node-bytes (both n m) r = 4 ∷ node-bytes n (node-bytes m r)
+node-bytes left r = 5 ∷ r
+node-bytes right r = 6 ∷ r
+node-bytes first r = 7 ∷ r
+node-bytes second r = 8 ∷ r
+node-bytes (then n m) r = 9 ∷ node-bytes n (node-bytes m r)
+node-bytes (chain n m) r = 10 ∷ node-bytes n (node-bytes m r)
+node-bytes regroup-right r = 11 ∷ r
+node-bytes regroup-left r = 12 ∷ r
+node-bytes spread r = 13 ∷ r
+node-bytes front r = 14 ∷ r
+
+-- "A patch file is two [sections], the input type and then the nodes."
+unfoldable pub patch-file-bytes : Ty → Node → List ℕ
+patch-file-bytes s n = section-bytes (type-bytes s []) (section-bytes (node-bytes n []) [])
+
+-- What each kind byte begins, by its number.
+abbrev pub node-kinds : List (List ℕ → Reading (Root (Unit {0}) Node))
+node-kinds =
+    leaf pass
+    ∷ (λ s. read-on (read-type s) (λ n r. leaf (silent n) r))
+    ∷ leaf emit-cue
+    ∷ (λ s. read-on (read-value CutShort s) (λ v r. leaf (emit-level v) r))
+    ∷ two-parts both tt tt
+    ∷ leaf left
+    ∷ leaf right
+    ∷ leaf first
+    ∷ leaf second
+    ∷ two-parts then tt tt
+    ∷ two-parts chain tt tt
+    ∷ leaf regroup-right
+    ∷ leaf regroup-left
+    ∷ leaf spread
+    ∷ leaf front
+    ∷ []
+
+unfoldable pub node-root : Unit {0} → List ℕ → Reading (Root (Unit {0}) Node)
+node-root w [] = fault CutShort
+node-root w (k ∷ s) = getD node-kinds k (λ r. fault Unlisted) s
+
+unfoldable pub read-node : List ℕ → Reading Node
+read-node s = tree TooManyNodes node-root node-limit tt s
+
+unfoldable pub node-section : List ℕ → Reading Node
+node-section s = section CutShort LeftOver read-node s
+
+-- A patch: its input type and its node; and the output type that Check finds for it.
+pub record Patch : Type 0 where
+  pub input : Ty
+  pub node : Node
+
+pub record Checked : Type 0 where
+  pub patch : Patch
+  pub output : Ty
+
+-- "First pass, left to right .. the type section ends before the next begins."
+unfoldable pub first-pass : List ℕ → Result Patch
+first-pass s =
+    whole LeftOver
+    (read-on (type-section s) (λ t r. read-on (node-section r) (λ n rest. read (record { input = t; node = n }) rest)))
+
+-- "Second pass, in preorder."
+unfoldable pub second-pass : Patch → Result Checked
+second-pass p = go-on (typing (p .input) (p .node)) (λ t. accepted (record { patch = p; output = t }))
+
+unfoldable pub patch-file : List ℕ → Result Checked
+patch-file s = go-on (first-pass s) second-pass

@@ -1,0 +1,199 @@
+-- A patch file is accepted exactly if it is the file of a patch that the rules and the limits allow.
+use mathlib.Core.Path.{_≡_, refl, sym, ap, _∙_}
+use mathlib.Core.List.{List, [], _∷_, _++_}
+use Prim.Native.Nat.{ℕ, suc, _+_, _*_, _≤_, _<_}
+use native.Mathlib.Omega.{arith}
+use lib.ListN.{length, getD}
+use Rattle.stream.specs.declared.Fault.the-variants.{CutShort, Unlisted, LeftOver, TooManyNodes}
+use Rattle.stream.specs.Types.{Ty, size, type-limit}
+use Rattle.stream.specs.Levels.{value-bytes, read-value}
+use Rattle.stream.specs.Levels.Laws.{value-length, value-reads, value-sound}
+use Rattle.stream.specs.Reading.{Bytes, Reading, read, fault, Result, accepted, refused, read-on, go-on, whole, section-bytes, section, Root, tree, leaf, two-parts}
+use Rattle.stream.specs.Reading.Laws.{Reads, reads-leaf, reads-two, tree-reads, RootIs, leaf-is, two-is, tree-sound, section-reads, section-sound, whole-sound, every, bytes-tail}
+use Rattle.stream.specs.TypeFiles.{type-bytes, read-type, type-section}
+use Rattle.stream.specs.TypeFiles.Laws.{type-length, read-type-reads, read-type-sound, type-section-reads, type-section-sound}
+use Rattle.node.specs.Nodes.{Node, pass, silent, emit-cue, emit-level, both, left, right, first, second, then, chain, regroup-right, regroup-left, spread, front, Types, count, node-limit, Small, Fits, Allowed}
+use Rattle.node.specs.Checking.{typing}
+use Rattle.node.specs.Checking.Laws.{Carries, types-carries, go-on-accepted, typing-sound, typing-complete}
+use Rattle.node.specs.PatchFiles.{node-bytes, patch-file-bytes, node-kinds, node-root, read-node, node-section, Patch, Checked, first-pass, second-pass, patch-file}
+
+-- Lengths
+
+-- A silent takes at most 256 bytes and every other node at most three; of c nodes at most (c + 1) / 2 have no parts.
+pub node-length : (n : Node) (r : List ℕ) → Carries n → 2 * length (node-bytes n r) ≤ 257 * count n + 255 + 2 * length r
+unfolding node-bytes count type-limit
+node-length pass r f = omega arith
+node-length (silent n) r f = omega (arith, type-length n r)
+node-length emit-cue r f = omega arith
+node-length (emit-level v) r f = omega (arith, value-length v r)
+node-length (both n m) r f = omega (arith, node-length n (node-bytes m r) f.0, node-length m r f.1)
+node-length left r f = omega arith
+node-length right r f = omega arith
+node-length first r f = omega arith
+node-length second r f = omega arith
+node-length (then n m) r f = omega (arith, node-length n (node-bytes m r) f.0, node-length m r f.1)
+node-length (chain n m) r f = omega (arith, node-length n (node-bytes m r) f.0, node-length m r f.1)
+node-length regroup-right r f = omega arith
+node-length regroup-left r f = omega arith
+node-length spread r f = omega arith
+node-length front r f = omega arith
+
+nodes-short : (n : Node) → Carries n → count n ≤ node-limit → length (node-bytes n []) ≤ 8223
+unfolding node-limit
+nodes-short n f h = omega (arith, node-length n [] f)
+
+-- Reading what was written
+
+reads : (n : Node) → Carries n → Reads TooManyNodes node-root tt n (count n) (node-bytes n)
+unfolding node-bytes count node-root
+reads pass f = reads-leaf TooManyNodes node-root _ (λ s. refl)
+reads (silent n) f = reads-leaf TooManyNodes node-root _ (λ s. rw (read-type-reads n s f))
+reads emit-cue f = reads-leaf TooManyNodes node-root _ (λ s. refl)
+reads (emit-level v) f = reads-leaf TooManyNodes node-root _ (λ s. rw (value-reads CutShort v s))
+reads (both n m) f = reads-two TooManyNodes node-root both _ (λ s. refl) (reads n f.0) (reads m f.1)
+reads left f = reads-leaf TooManyNodes node-root _ (λ s. refl)
+reads right f = reads-leaf TooManyNodes node-root _ (λ s. refl)
+reads first f = reads-leaf TooManyNodes node-root _ (λ s. refl)
+reads second f = reads-leaf TooManyNodes node-root _ (λ s. refl)
+reads (then n m) f = reads-two TooManyNodes node-root then _ (λ s. refl) (reads n f.0) (reads m f.1)
+reads (chain n m) f = reads-two TooManyNodes node-root chain _ (λ s. refl) (reads n f.0) (reads m f.1)
+reads regroup-right f = reads-leaf TooManyNodes node-root _ (λ s. refl)
+reads regroup-left f = reads-leaf TooManyNodes node-root _ (λ s. refl)
+reads spread f = reads-leaf TooManyNodes node-root _ (λ s. refl)
+reads front f = reads-leaf TooManyNodes node-root _ (λ s. refl)
+
+pub read-node-reads : (n : Node) (r : List ℕ) → Carries n → count n ≤ node-limit → read-node (node-bytes n r) ≡ read n r
+unfolding read-node
+read-node-reads n r f h = tree-reads TooManyNodes node-root node-limit r (reads n f) h
+
+node-section-reads : (n : Node) (r : List ℕ) → Carries n → count n ≤ node-limit → node-section (section-bytes (node-bytes n []) r) ≡ read n r
+unfolding node-section
+node-section-reads n r f h =
+    section-reads CutShort LeftOver read-node (node-bytes n []) r n (omega (arith, nodes-short n f h)) (read-node-reads n [] f h)
+
+pub patch-file-complete : {s t : Ty} {n : Node} → Allowed s n t
+    → patch-file (patch-file-bytes s n) ≡ accepted (record { patch = record { input = s; node = n }; output = t })
+unfolding patch-file first-pass second-pass patch-file-bytes
+patch-file-complete {s} {t} {n} a =
+    rw (type-section-reads s (section-bytes (node-bytes n []) []) (a .input-small))
+    (rw (node-section-reads n [] (types-carries (a .types) (a .fits)) (a .few)) (rw (typing-complete (a .types) (a .fits))))
+
+-- What was read was written
+
+abbrev IsNode : Unit {0} → Node → Type 0
+IsNode w n = Carries n
+
+abbrev Root-is : Unit {0} → List ℕ → Reading (Root (Unit {0}) Node) → Type 0
+Root-is w s g = RootIs TooManyNodes node-root IsNode node-bytes count w s g
+
+carried-is : (w : Unit {0}) (s : List ℕ) → Bytes s → Root-is w (1 ∷ s) (read-on (read-type s) (λ n r. leaf (silent n) r))
+unfolding node-bytes count
+carried-is w s b = go (read-type s) refl
+  where
+    go : (g : Reading Ty) → read-type s ≡ g → Root-is w (1 ∷ s) (read-on g (λ n r. leaf (silent n) r))
+    go (fault e) h = tt
+    go (read n r) h =
+        let f = read-type-sound s n r b h in
+        leaf-is TooManyNodes node-root IsNode node-bytes count (silent n) (1 ∷ s) r (f .rest)
+        (f .within) refl (ap (λ l. 1 ∷ l) (f .bytes))
+
+value-is : (w : Unit {0}) (s : List ℕ) → Bytes s → Root-is w (3 ∷ s) (read-on (read-value CutShort s) (λ v r. leaf (emit-level v) r))
+unfolding node-bytes count
+value-is w s b = go (read-value CutShort s) refl
+  where
+    go : (g : Reading ℕ) → read-value CutShort s ≡ g → Root-is w (3 ∷ s) (read-on g (λ v r. leaf (emit-level v) r))
+    go (fault e) h = tt
+    go (read v r) h =
+        let f = value-sound CutShort s v r b h in
+        leaf-is TooManyNodes node-root IsNode node-bytes count (emit-level v) (3 ∷ s) r (f .rest)
+        (f .below) refl (ap (λ l. 3 ∷ l) (f .bytes))
+
+kinds-sound : (w : Unit {0}) (s : List ℕ) → Bytes s → (k : ℕ) → Root-is w (k ∷ s) (getD node-kinds k (λ r. fault Unlisted) s)
+unfolding node-bytes count
+kinds-sound w s b =
+    every (λ k f. Root-is w (k ∷ s) (f s)) (λ r. fault Unlisted) node-kinds
+    (plain pass tt refl refl
+    , (carried-is w s b
+    , (plain emit-cue tt refl refl
+    , (value-is w s b
+    , (forked both 4 (λ n m i j. (i, j)) (λ n m. refl) (λ n m x. refl)
+    , (plain left tt refl refl
+    , (plain right tt refl refl
+    , (plain first tt refl refl
+    , (plain second tt refl refl
+    , (forked then 9 (λ n m i j. (i, j)) (λ n m. refl) (λ n m x. refl)
+    , (forked chain 10 (λ n m i j. (i, j)) (λ n m. refl) (λ n m x. refl)
+    , (plain regroup-right tt refl refl
+    , (plain regroup-left tt refl refl
+    , (plain spread tt refl refl
+    , (plain front tt refl refl
+    , (λ k h. tt))))))))))))))))
+  where
+    plain : {k : ℕ} (n : Node) → Carries n → count n ≡ 1 → node-bytes n s ≡ k ∷ s → Root-is w (k ∷ s) (leaf n s)
+    plain n f c e = leaf-is TooManyNodes node-root IsNode node-bytes count n _ s b f c e
+
+    forked : (f : Node → Node → Node) (k : ℕ) → ((n m : Node) → IsNode tt n → IsNode tt m → IsNode w (f n m))
+        → ((n m : Node) → count (f n m) ≡ suc (count n + count m)) → ((n m : Node) (x : List ℕ) → node-bytes (f n m) x ≡ k ∷ node-bytes n (node-bytes m x))
+        → Root-is w (k ∷ s) (two-parts f tt tt s)
+    forked f k i c e = two-is TooManyNodes node-root IsNode node-bytes count f k s b i c e
+
+root-sound : (w : Unit {0}) (s : List ℕ) → Bytes s → Root-is w s (node-root w s)
+unfolding node-root
+root-sound w [] b = tt
+root-sound w (k ∷ s) b = kinds-sound w s (bytes-tail k s b) k
+
+record FoundNodes (s : List ℕ) (n : Node) (r : List ℕ) : Type 0 where
+  bytes : section-bytes (node-bytes n []) r ≡ s
+  carries : Carries n
+  few : count n ≤ node-limit
+
+node-section-sound : (s : List ℕ) (n : Node) (r : List ℕ) → Bytes s → node-section s ≡ read n r → FoundNodes s n r
+unfolding node-section read-node
+node-section-sound s n r b e =
+    let f = section-sound CutShort LeftOver read-node s n r b e in
+    let g = tree-sound TooManyNodes node-root IsNode node-bytes count root-sound node-limit tt (f .body) n [] (f .body-bytes) (f .inside) in
+    record { bytes = rw (g .bytes) (f .bytes); carries = g .is; few = g .few }
+
+read-on-read : {A B : Type 0} (g : Reading A) (f : A → List ℕ → Reading B) (b : B) (r : List ℕ) → read-on g f ≡ read b r
+    → (a : A) × (x : List ℕ) × (g ≡ read a x) × (f a x ≡ read b r)
+read-on-read (read a x) f b r e = (a, x, refl, e)
+read-on-read (fault y) f b r e = let z : _≡_ {A = ℕ} 0 1 = cc in absurd (omega arith)
+
+record FoundPatch (s : List ℕ) (p : Patch) : Type 0 where
+  bytes : patch-file-bytes (p .input) (p .node) ≡ s
+  input-small : Small (p .input)
+  carries : Carries (p .node)
+  few : count (p .node) ≤ node-limit
+
+first-pass-sound : (s : List ℕ) (p : Patch) → Bytes s → first-pass s ≡ accepted p → FoundPatch s p
+unfolding first-pass patch-file-bytes
+first-pass-sound s p b e =
+    let w = whole-sound LeftOver (read-on (type-section s) (λ t r. read-on (node-section r) (λ n rest. read (record { input = t; node = n }) rest))) p e in
+    let x = read-on-read (type-section s) (λ t r. read-on (node-section r) (λ n rest. read (record { input = t; node = n }) rest)) p [] w in
+    let y = read-on-read (node-section (x .1)) (λ n rest. read (record { input = x .0; node = n }) rest) p [] (x .3) in
+    let f = type-section-sound s (x .0) (x .1) b (x .2) in
+    let g = node-section-sound (x .1) (y .0) (y .1) (f .rest) (y .2) in
+    go (x .0) (y .0) (y .1) (let d = y .3 in cc) (let d = y .3 in cc) (rw (g .bytes) (f .bytes)) (f .within) (g .carries) (g .few)
+  where
+    go : (t : Ty) (n : Node) (r : List ℕ) → _≡_ {A = Patch} (record { input = t; node = n }) p → r ≡ []
+        → section-bytes (type-bytes t []) (section-bytes (node-bytes n []) r) ≡ s → Small t → Carries n → count n ≤ node-limit → FoundPatch s p
+    go t n r h k e w v c = rw (← h) (record { bytes = rw k at e; input-small = w; carries = v; few = c })
+
+-- The trees of an accepted patch file, its bytes, and that they are allowed.
+pub record Accepted (s : List ℕ) (c : Checked) : Type 0 where
+  pub bytes : patch-file-bytes (c .patch .input) (c .patch .node) ≡ s
+  pub allowed : Allowed (c .patch .input) (c .patch .node) (c .output)
+
+pub patch-file-sound : (s : List ℕ) (c : Checked) → Bytes s → patch-file s ≡ accepted c → Accepted s c
+unfolding patch-file second-pass
+patch-file-sound s c b e =
+    let x = go-on-accepted (first-pass s) second-pass c e in
+    let y = go-on-accepted (typing (x .0 .input) (x .0 .node)) (λ t. accepted (record { patch = x .0; output = t })) c (x .2) in
+    let f = first-pass-sound s (x .0) b (x .1) in
+    let g = typing-sound (x .0 .input) (x .0 .node) (y .0) (f .carries) (y .1) in
+    go (x .0) (y .0) (let d = y .2 in cc) (f .bytes)
+    (record { types = g .types; input-small = f .input-small; few = f .few; fits = g .fits })
+  where
+    go : (p : Patch) (t : Ty) → _≡_ {A = Checked} (record { patch = p; output = t }) c → patch-file-bytes (p .input) (p .node) ≡ s
+        → Allowed (p .input) (p .node) t → Accepted s c
+    go p t h e a = rw (← h) (record { bytes = e; allowed = a })
