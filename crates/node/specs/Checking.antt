@@ -1,16 +1,11 @@
 -- Check's second pass: the output type of a node, or its first fault in preorder (document 01, Operations, Check).
-use mathlib.Core.Bool.{Bool, true, false, _&&_}
+use mathlib.Core.Bool.{_&&_}
 use lib.Dec.{leb}
-use Rattle.stream.specs.declared.Fault.{Fault}
 use Rattle.stream.specs.declared.Fault.the-variants.{TypeTooLarge, NotNullable, WrongShape}
 use Rattle.stream.specs.Types.{Ty, empty, cue, level, seq, par, nullable, size, type-limit, first-part, second-part, has-kind}
-use Rattle.stream.specs.Reading.{Result, accepted, refused, go-on}
+use Rattle.stream.specs.Reading.{Result, accepted, require, go-on}
 use Rattle.node.specs.Nodes.{Node, pass, silent, emit-cue, emit-level, both, left, right, first, second, then, chain, regroup-right, regroup-left, spread, front}
 pub mod Laws
-
-abbrev pub require : {A : Type 0} → Bool → Fault → Result A → Result A
-require true e r = r
-require false e r = refused e
 
 -- "4 if the type it gives is too large."
 unfoldable pub gives : Ty → Result Ty

@@ -74,10 +74,12 @@ pub record Checked : Type 0 where
   pub output : Ty
 
 -- "First pass, left to right .. the type section ends before the next begins."
+unfoldable pub patch-sections : List ℕ → Reading Patch
+patch-sections s =
+    read-on (type-section s) (λ t r. read-on (node-section r) (λ n rest. read (record { input = t; node = n }) rest))
+
 unfoldable pub first-pass : List ℕ → Result Patch
-first-pass s =
-    whole LeftOver
-    (read-on (type-section s) (λ t r. read-on (node-section r) (λ n rest. read (record { input = t; node = n }) rest)))
+first-pass s = whole LeftOver (patch-sections s)
 
 -- "Second pass, in preorder."
 unfoldable pub second-pass : Patch → Result Checked

@@ -1,11 +1,13 @@
 -- Files: sections, and trees in preorder, read with the first fault (document 01, Files and Operations).
-use mathlib.Core.Bool.{true, false}
+use mathlib.Core.Bool.{Bool, true, false}
 use mathlib.Core.List.{List, [], _∷_, _++_}
 use Prim.Native.Nat.{ℕ, zero, suc, _+_, _*_, _/_, _%_, _<_}
 use lib.Dec.{leb}
 use lib.ListN.{length, getD, take, drop}
 use Rattle.stream.specs.declared.Fault.{Fault}
 pub mod Laws
+pub mod Walking
+pub mod Refusals
 pub mod Examples
 
 -- A list of numbers that are bytes.
@@ -30,6 +32,11 @@ read-on (fault e) f = fault e
 abbrev pub go-on : {A B : Type 0} → Result A → (A → Result B) → Result B
 go-on (accepted a) f = f a
 go-on (refused e) f = refused e
+
+-- What has to hold; `e` is the fault if it does not.
+abbrev pub require : {A : Type 0} → Bool → Fault → Result A → Result A
+require true e r = r
+require false e r = refused e
 
 -- No byte may be left; `left-over` is the fault if one is.
 abbrev pub whole : {A : Type 0} → Fault → Reading A → Result A

@@ -1,4 +1,8 @@
 // Types and prefixes as bytes.
+ghost use mathlib.Core.Path.{_≡_};
+ghost use Rattle.stream.specs.Faults.{number};
+
+pub mod types;
 
 // Why an operation refuses. `number` in specs/Faults.antt gives document 01's number for each.
 pub enum Fault {
@@ -14,4 +18,24 @@ pub enum Fault {
     SliceLeftOver,
     SliceMisplaced,
     NoRoom,
+}
+
+// Document 01's number of a refusal, which a caller in another language is told.
+pub fn number_of(fault: Fault) -> u32
+    ensures { λ r. ⌜ r ≡ number fault ⌝ }
+{
+    match fault {
+        Fault::CutShort => 1,
+        Fault::Unlisted => 2,
+        Fault::LeftOver => 3,
+        Fault::TypeTooLarge => 4,
+        Fault::TooManyNodes => 5,
+        Fault::NotNullable => 6,
+        Fault::WrongShape => 7,
+        Fault::SliceCutShort => 11,
+        Fault::SliceUnlisted => 12,
+        Fault::SliceLeftOver => 13,
+        Fault::SliceMisplaced => 14,
+        Fault::NoRoom => 20,
+    }
 }

@@ -10,10 +10,12 @@ use Rattle.stream.specs.declared.Fault.the-variants.{TypeTooLarge, NotNullable,
 use Rattle.stream.specs.Types.{Ty, empty, cue, level, seq, par, nullable, size, type-limit, first-part, second-part, has-kind}
 use Rattle.stream.specs.Types.Laws.{and-left, and-right, nullable-sound, nullable-complete, made-of}
 use Rattle.stream.specs.Levels.{level-limit}
-use Rattle.stream.specs.Reading.{Result, accepted, refused, go-on}
+use Rattle.stream.specs.Reading.{Result, accepted, refused, require, go-on}
+use Rattle.stream.specs.Reading.Refusals.{Refusals, go-on-refusals, require-refusals}
+use Rattle.stream.specs.Reading.Laws.{go-on-accepted, require-accepted}
 use Rattle.node.specs.Nodes.{Node, pass, silent, emit-cue, emit-level, both, left, right, first, second, then, chain, regroup-right, regroup-left, spread, front, Types, types-pass, types-silent, types-cue, types-level, types-both, types-left, types-right, types-first, types-second, types-then, types-chain, types-regroup-right, types-regroup-left, types-spread, types-front, output-type, Small, Fits}
 use Rattle.node.specs.Nodes.Laws.{output-type-is}
-use Rattle.node.specs.Checking.{require, gives, typing}
+use Rattle.node.specs.Checking.{gives, typing}
 
 -- What nodes carry is within its limits, as the reader of nodes sees to.
 abbrev pub Carries : Node → Type 0
@@ -51,14 +53,6 @@ types-carries types-spread f = tt
 types-carries types-front f = tt
 
 -- The steps of the pass
-
-pub go-on-accepted : {A B : Type 0} (g : Result A) (f : A → Result B) (b : B) → go-on g f ≡ accepted b → (a : A) × (g ≡ accepted a) × (f a ≡ accepted b)
-go-on-accepted (accepted a) f b e = (a, refl, e)
-go-on-accepted (refused x) f b e = let z : _≡_ {A = ℕ} 0 1 = cc in absurd (omega arith)
-
-require-accepted : {A : Type 0} (c : Bool) (x : Fault) (r : Result A) (a : A) → require c x r ≡ accepted a → (c ≡ true) × (r ≡ accepted a)
-require-accepted true x r a e = (refl, e)
-require-accepted false x r a e = let z : _≡_ {A = ℕ} 0 1 = cc in absurd (omega arith)
 
 gives-accepted : (u t : Ty) → gives u ≡ accepted t → (u ≡ t) × Small t
 unfolding gives
@@ -180,3 +174,37 @@ typing-complete types-regroup-right f = gives-small f
 typing-complete types-regroup-left f = gives-small f
 typing-complete types-spread f = gives-small f
 typing-complete types-front f = gives-small f
+
+-- The refusals of the pass are 4, 6 and 7.
+module _ (P : Fault → Type 0) (large : P TypeTooLarge) (null : P NotNullable) (shape : P WrongShape) where
+  gives-refusals : (t : Ty) → Refusals P (gives t)
+  unfolding gives
+  gives-refusals t = require-refusals P (leb (size t) type-limit) TypeTooLarge (accepted t) large tt
+
+  shaped : (b : Bool) (r : Result Ty) → Refusals P r → Refusals P (require b WrongShape r)
+  shaped b r h = require-refusals P b WrongShape r shape h
+
+  pub typing-refusals : (s : Ty) (n : Node) → Refusals P (typing s n)
+  unfolding typing
+  typing-refusals s pass = gives-refusals s
+  typing-refusals s (silent n) = require-refusals P (nullable n) NotNullable (gives n) null (gives-refusals n)
+  typing-refusals s emit-cue = gives-refusals cue
+  typing-refusals s (emit-level v) = gives-refusals level
+  typing-refusals s (both n m) =
+      go-on-refusals P (typing s n) _ (typing-refusals s n)
+      (λ t. go-on-refusals P (typing s m) _ (typing-refusals s m) (λ r. gives-refusals (par t r)))
+  typing-refusals s left = shaped (has-kind 4 s) _ (gives-refusals (first-part s))
+  typing-refusals s right = shaped (has-kind 4 s) _ (gives-refusals (second-part s))
+  typing-refusals s first = shaped (has-kind 3 s) _ (gives-refusals (first-part s))
+  typing-refusals s second = shaped (has-kind 3 s) _ (gives-refusals (second-part s))
+  typing-refusals s (then n m) =
+      shaped (has-kind 3 s) _
+      (go-on-refusals P (typing (first-part s) n) _ (typing-refusals (first-part s) n)
+      (λ t. go-on-refusals P (typing (second-part s) m) _ (typing-refusals (second-part s) m) (λ r. gives-refusals (seq t r))))
+  typing-refusals s (chain n m) =
+      go-on-refusals P (typing s n) _ (typing-refusals s n)
+      (λ t. go-on-refusals P (typing t m) _ (typing-refusals t m) (λ r. gives-refusals r))
+  typing-refusals s regroup-right = shaped (has-kind 3 s && has-kind 3 (first-part s)) _ (gives-refusals _)
+  typing-refusals s regroup-left = shaped (has-kind 3 s && has-kind 3 (second-part s)) _ (gives-refusals _)
+  typing-refusals s spread = shaped (has-kind 3 s && has-kind 4 (second-part s)) _ (gives-refusals _)
+  typing-refusals s front = gives-refusals (seq empty s)

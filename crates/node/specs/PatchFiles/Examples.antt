@@ -9,7 +9,7 @@ use Rattle.stream.specs.Reading.Examples.{verdict, section-of, copies, numbers,
 use Rattle.stream.specs.TypeFiles.{type-root, read-type, type-section}
 use Rattle.node.specs.Nodes.{node-limit}
 use Rattle.node.specs.Checking.{gives, typing}
-use Rattle.node.specs.PatchFiles.{Checked, node-root, read-node, node-section, first-pass, second-pass, patch-file}
+use Rattle.node.specs.PatchFiles.{Checked, node-root, read-node, node-section, patch-sections, first-pass, second-pass, patch-file}
 
 -- The sections of a patch file.
 abbrev pub sections : List ℕ → List ℕ → List ℕ
@@ -68,7 +68,7 @@ table =
     ∷ []
 
 pub patch-file-examples : verdicts (λ file. verdict (patch-file file)) table ≡ numbers table
-unfolding section-bytes counted section forest tree type-limit type-root read-type type-section read-value node-limit node-root read-node node-section first-pass nullable size gives typing second-pass patch-file
+unfolding section-bytes counted section forest tree type-limit type-root read-type type-section read-value node-limit node-root read-node node-section patch-sections first-pass nullable size gives typing second-pass patch-file
 patch-file-examples = refl
 
 -- The output types of the nodes.
@@ -98,5 +98,5 @@ given =
     ∷ []
 
 pub output-type-examples : Equal (outputs given)
-unfolding section-bytes counted section forest tree type-limit type-root read-type type-section read-value node-limit node-root read-node node-section first-pass nullable size gives typing second-pass patch-file
+unfolding section-bytes counted section forest tree type-limit type-root read-type type-section read-value node-limit node-root read-node node-section patch-sections first-pass nullable size gives typing second-pass patch-file
 output-type-examples = (refl, (refl, (refl, (refl, (refl, (refl, (refl, (refl, tt))))))))

@@ -4,18 +4,20 @@ use mathlib.Core.List.{List, [], _∷_, _++_}
 use Prim.Native.Nat.{ℕ, suc, _+_, _*_, _≤_, _<_}
 use native.Mathlib.Omega.{arith}
 use lib.ListN.{length, getD}
-use Rattle.stream.specs.declared.Fault.the-variants.{CutShort, Unlisted, LeftOver, TooManyNodes}
+use Rattle.stream.specs.declared.Fault.{Fault}
+use Rattle.stream.specs.declared.Fault.the-variants.{CutShort, Unlisted, LeftOver, TypeTooLarge, TooManyNodes, NotNullable, WrongShape}
 use Rattle.stream.specs.Types.{Ty, size, type-limit}
 use Rattle.stream.specs.Levels.{value-bytes, read-value}
-use Rattle.stream.specs.Levels.Laws.{value-length, value-reads, value-sound}
+use Rattle.stream.specs.Levels.Laws.{value-length, value-reads, value-sound, value-faults}
 use Rattle.stream.specs.Reading.{Bytes, Reading, read, fault, Result, accepted, refused, read-on, go-on, whole, section-bytes, section, Root, tree, leaf, two-parts}
-use Rattle.stream.specs.Reading.Laws.{Reads, reads-leaf, reads-two, tree-reads, RootIs, leaf-is, two-is, tree-sound, section-reads, section-sound, whole-sound, every, bytes-tail}
+use Rattle.stream.specs.Reading.Laws.{Reads, reads-leaf, reads-two, tree-reads, RootIs, leaf-is, two-is, tree-sound, section-reads, section-sound, whole-sound, every, bytes-tail, read-on-read, go-on-accepted}
+use Rattle.stream.specs.Reading.Refusals.{Faults, Refusals, read-on-faults, go-on-refusals, section-faults, tree-faults, whole-refusals}
 use Rattle.stream.specs.TypeFiles.{type-bytes, read-type, type-section}
-use Rattle.stream.specs.TypeFiles.Laws.{type-length, read-type-reads, read-type-sound, type-section-reads, type-section-sound}
+use Rattle.stream.specs.TypeFiles.Laws.{type-length, read-type-reads, read-type-sound, type-section-reads, type-section-sound, read-type-faults, type-section-faults}
 use Rattle.node.specs.Nodes.{Node, pass, silent, emit-cue, emit-level, both, left, right, first, second, then, chain, regroup-right, regroup-left, spread, front, Types, count, node-limit, Small, Fits, Allowed}
 use Rattle.node.specs.Checking.{typing}
-use Rattle.node.specs.Checking.Laws.{Carries, types-carries, go-on-accepted, typing-sound, typing-complete}
-use Rattle.node.specs.PatchFiles.{node-bytes, patch-file-bytes, node-kinds, node-root, read-node, node-section, Patch, Checked, first-pass, second-pass, patch-file}
+use Rattle.node.specs.Checking.Laws.{Carries, types-carries, typing-sound, typing-complete, typing-refusals}
+use Rattle.node.specs.PatchFiles.{node-bytes, patch-file-bytes, node-kinds, node-root, read-node, node-section, Patch, Checked, patch-sections, first-pass, second-pass, patch-file}
 
 -- Lengths
 
@@ -73,7 +75,7 @@ node-section-reads n r f h =
 
 pub patch-file-complete : {s t : Ty} {n : Node} → Allowed s n t
     → patch-file (patch-file-bytes s n) ≡ accepted (record { patch = record { input = s; node = n }; output = t })
-unfolding patch-file first-pass second-pass patch-file-bytes
+unfolding patch-file first-pass patch-sections second-pass patch-file-bytes
 patch-file-complete {s} {t} {n} a =
     rw (type-section-reads s (section-bytes (node-bytes n []) []) (a .input-small))
     (rw (node-section-reads n [] (types-carries (a .types) (a .fits)) (a .few)) (rw (typing-complete (a .types) (a .fits))))
@@ -154,11 +156,6 @@ node-section-sound s n r b e =
     let g = tree-sound TooManyNodes node-root IsNode node-bytes count root-sound node-limit tt (f .body) n [] (f .body-bytes) (f .inside) in
     record { bytes = rw (g .bytes) (f .bytes); carries = g .is; few = g .few }
 
-read-on-read : {A B : Type 0} (g : Reading A) (f : A → List ℕ → Reading B) (b : B) (r : List ℕ) → read-on g f ≡ read b r
-    → (a : A) × (x : List ℕ) × (g ≡ read a x) × (f a x ≡ read b r)
-read-on-read (read a x) f b r e = (a, x, refl, e)
-read-on-read (fault y) f b r e = let z : _≡_ {A = ℕ} 0 1 = cc in absurd (omega arith)
-
 record FoundPatch (s : List ℕ) (p : Patch) : Type 0 where
   bytes : patch-file-bytes (p .input) (p .node) ≡ s
   input-small : Small (p .input)
@@ -166,9 +163,9 @@ record FoundPatch (s : List ℕ) (p : Patch) : Type 0 where
   few : count (p .node) ≤ node-limit
 
 first-pass-sound : (s : List ℕ) (p : Patch) → Bytes s → first-pass s ≡ accepted p → FoundPatch s p
-unfolding first-pass patch-file-bytes
+unfolding first-pass patch-sections patch-file-bytes
 first-pass-sound s p b e =
-    let w = whole-sound LeftOver (read-on (type-section s) (λ t r. read-on (node-section r) (λ n rest. read (record { input = t; node = n }) rest))) p e in
+    let w = whole-sound LeftOver (patch-sections s) p e in
     let x = read-on-read (type-section s) (λ t r. read-on (node-section r) (λ n rest. read (record { input = t; node = n }) rest)) p [] w in
     let y = read-on-read (node-section (x .1)) (λ n rest. read (record { input = x .0; node = n }) rest) p [] (x .3) in
     let f = type-section-sound s (x .0) (x .1) b (x .2) in
@@ -197,3 +194,37 @@ patch-file-sound s c b e =
     go : (p : Patch) (t : Ty) → _≡_ {A = Checked} (record { patch = p; output = t }) c → patch-file-bytes (p .input) (p .node) ≡ s
         → Allowed (p .input) (p .node) t → Accepted s c
     go p t h e a = rw (← h) (record { bytes = e; allowed = a })
+
+-- The refusals of a patch file are 1 to 7.
+module _ (P : Fault → Type 0) (cut : P CutShort) (unlisted : P Unlisted) (over : P LeftOver) (large : P TypeTooLarge) (many : P TooManyNodes) where
+  kinds-faults : (s : List ℕ) (k : ℕ) → Faults P (getD node-kinds k (λ r. fault Unlisted) s)
+  kinds-faults s =
+      every (λ k f. Faults P (f s)) (λ r. fault Unlisted) node-kinds
+      (tt, (read-on-faults P (read-type s) _ (read-type-faults P cut unlisted large s) (λ n r. tt), (tt
+      , (read-on-faults P (read-value CutShort s) _ (value-faults P CutShort cut s) (λ v r. tt)
+      , (tt, (tt, (tt, (tt, (tt, (tt, (tt, (tt, (tt, (tt, (tt, (λ k h. unlisted))))))))))))))))
+
+  root-faults : (w : Unit {0}) (s : List ℕ) → Faults P (node-root w s)
+  unfolding node-root
+  root-faults w [] = cut
+  root-faults w (k ∷ s) = kinds-faults s k
+
+  read-node-faults : (s : List ℕ) → Faults P (read-node s)
+  unfolding read-node
+  read-node-faults s = tree-faults P TooManyNodes node-root many root-faults node-limit tt s
+
+  sections-faults : (s : List ℕ) → Faults P (patch-sections s)
+  unfolding patch-sections node-section
+  sections-faults s =
+      read-on-faults P (type-section s) _ (type-section-faults P cut unlisted large over s)
+      (λ t r. read-on-faults P (node-section r) _ (section-faults P CutShort LeftOver read-node cut over read-node-faults r) (λ n x. tt))
+
+  first-pass-refusals : (s : List ℕ) → Refusals P (first-pass s)
+  unfolding first-pass
+  first-pass-refusals s = whole-refusals P LeftOver (patch-sections s) over (sections-faults s)
+
+  pub patch-file-refusals : P NotNullable → P WrongShape → (s : List ℕ) → Refusals P (patch-file s)
+  unfolding patch-file second-pass
+  patch-file-refusals null shape s =
+      go-on-refusals P (first-pass s) _ (first-pass-refusals s)
+      (λ p. go-on-refusals P (typing (p .input) (p .node)) _ (typing-refusals P large null shape (p .input) (p .node)) (λ t. tt))

@@ -6,6 +6,7 @@ use native.Mathlib.Omega.{arith}
 use lib.ListN.{length, getD}
 use Rattle.stream.specs.declared.Fault.{Fault}
 use Rattle.stream.specs.Reading.{Bytes, Reading, read, fault}
+use Rattle.stream.specs.Reading.Refusals.{Faults}
 use Rattle.stream.specs.Levels.{level-limit, value-bytes, read-value}
 
 -- A value takes two bytes.
@@ -39,3 +40,9 @@ value-sound cut-short (h ∷ l ∷ s) v r b e =
     let x : v / 256 ≡ h = omega (arith, b 0, b 1) in
     let y : v % 256 ≡ l = omega (arith, b 0, b 1) in
     record { bytes = rw (x, y, t); below = omega (arith, b 0, b 1); rest = rw (← t) (λ i. b (suc (suc i))) }
+
+pub value-faults : (P : Fault → Type 0) (cut-short : Fault) → P cut-short → (s : List ℕ) → Faults P (read-value cut-short s)
+unfolding read-value
+value-faults P cut-short c [] = c
+value-faults P cut-short c (h ∷ []) = c
+value-faults P cut-short c (h ∷ l ∷ s) = tt

@@ -10,7 +10,7 @@ use lib.ListN.{length, getD, take, drop, length-append, take-append-drop}
 use lib.Seq.{getD-drop, length-take-le, take-append-seam, drop-append-seam}
 use borrow.Author.Tests.{le-leb, leb-true}
 use Rattle.stream.specs.declared.Fault.{Fault}
-use Rattle.stream.specs.Reading.{Bytes, Reading, read, fault, Result, accepted, refused, read-on, go-on, whole, before, section-bytes, counted, section, Root, forest, only, tree, leaf, one-part, two-parts, on-one, on-two}
+use Rattle.stream.specs.Reading.{Bytes, Reading, read, fault, Result, accepted, refused, read-on, go-on, require, whole, before, section-bytes, counted, section, Root, forest, only, tree, leaf, one-part, two-parts, on-one, on-two}
 
 -- Bytes
 
@@ -278,6 +278,21 @@ module _ {A : Type 0} (cut-short left-over : Fault) (contents : List ℕ → Rea
         body-bytes = bytes-take (h * 256 + l) s c;
         rest = rw (← w .2) (bytes-drop (h * 256 + l) s c)
       }
+
+-- What is read, or accepted, after something else was
+
+pub read-on-read : {A B : Type 0} (g : Reading A) (f : A → List ℕ → Reading B) (b : B) (r : List ℕ) → read-on g f ≡ read b r
+    → (a : A) × (x : List ℕ) × (g ≡ read a x) × (f a x ≡ read b r)
+read-on-read (read a x) f b r e = (a, x, refl, e)
+read-on-read (fault y) f b r e = let z : _≡_ {A = ℕ} 0 1 = cc in absurd (omega arith)
+
+pub go-on-accepted : {A B : Type 0} (g : Result A) (f : A → Result B) (b : B) → go-on g f ≡ accepted b → (a : A) × (g ≡ accepted a) × (f a ≡ accepted b)
+go-on-accepted (accepted a) f b e = (a, refl, e)
+go-on-accepted (refused x) f b e = let z : _≡_ {A = ℕ} 0 1 = cc in absurd (omega arith)
+
+pub require-accepted : {A : Type 0} (c : Bool) (x : Fault) (r : Result A) (a : A) → require c x r ≡ accepted a → (c ≡ true) × (r ≡ accepted a)
+require-accepted true x r a e = (refl, e)
+require-accepted false x r a e = let z : _≡_ {A = ℕ} 0 1 = cc in absurd (omega arith)
 
 -- A file: nothing may stand after it.
 

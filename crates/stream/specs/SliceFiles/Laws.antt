@@ -11,11 +11,12 @@ use Rattle.stream.specs.declared.Fault.the-variants.{SliceCutShort, Slic
 use Rattle.stream.specs.Types.{Ty, empty, cue, level, seq, par, size, type-limit, first-part, second-part, has-kind}
 use Rattle.stream.specs.Types.Laws.{and-left, and-right, made-of, parts-size, size-positive}
 use Rattle.stream.specs.Levels.{value-bytes, read-value}
-use Rattle.stream.specs.Levels.Laws.{value-width, value-length, value-append, value-reads, value-sound}
+use Rattle.stream.specs.Levels.Laws.{value-width, value-length, value-append, value-reads, value-sound, value-faults}
 use Rattle.stream.specs.Prefixes.{Prefix, nothing, cue-awaited, cue-come, level-awaited, level-come, in-first, crossed, beside, Complete, whole-nothing, whole-cue, whole-level, whole-crossed, whole-beside, IsPrefix, of-empty, of-cue-awaited, of-cue-come, of-level-awaited, of-level-come, of-first, of-crossed, of-beside}
 use Rattle.stream.specs.Prefixes.Laws.{crossed-second, beside-first, beside-second}
 use Rattle.stream.specs.Reading.{Bytes, Reading, read, fault, Result, accepted, read-on, whole, section-bytes, section, Root, forest, tree, leaf, one-part, two-parts}
 use Rattle.stream.specs.Reading.Laws.{Reads, reads-leaf, reads-one, reads-two, tree-reads, RootIs, leaf-is, one-is, two-is, tree-sound, section-reads, section-sound, whole-sound, every, bytes-tail}
+use Rattle.stream.specs.Reading.Refusals.{Faults, Refusals, read-on-faults, section-faults, tree-faults, whole-refusals}
 use Rattle.stream.specs.SliceFiles.{prefix-bytes, slice-file-bytes, Owed, owed, belongs, prefix-kinds, prefix-root, read-prefix, slice-file}
 
 -- Lengths
@@ -228,3 +229,37 @@ pub limit-not-met : (e d : Fault) (t : Ty) (s : List ℕ) → size t ≤ type-li
     → forest e prefix-root type-limit (owed t false ∷ []) s ≡ forest d prefix-root type-limit (owed t false ∷ []) s
 unfolding weight
 limit-not-met e d t s h = limit-not-met-by e d type-limit (owed t false ∷ []) s (omega arith)
+
+-- The refusals of a slice file are 11 to 14.
+module _ (P : Fault → Type 0) (cut : P SliceCutShort) (unlisted : P SliceUnlisted) (misplaced : P SliceMisplaced) (over : P SliceLeftOver) where
+  belongs-faults : (b : Bool) (root : List ℕ → Reading (Root Owed Prefix)) (s : List ℕ) → Faults P (root s) → Faults P (belongs b root s)
+  belongs-faults true root s h = h
+  belongs-faults false root s h = misplaced
+
+  kinds-faults : (t : Ty) (c : Bool) (s : List ℕ) (k : ℕ) → Faults P (getD prefix-kinds k (λ u d r. fault SliceUnlisted) t c s)
+  kinds-faults t c s =
+      every (λ k f. Faults P (f t c s)) (λ u d r. fault SliceUnlisted) prefix-kinds
+      (belongs-faults (has-kind 0 t) _ s tt
+      , (belongs-faults (has-kind 1 t && not c) _ s tt
+      , (belongs-faults (has-kind 1 t) _ s tt
+      , (belongs-faults (has-kind 2 t && not c) _ s tt
+      , (belongs-faults (has-kind 2 t) _ s (read-on-faults P (read-value SliceCutShort s) _ (value-faults P SliceCutShort cut s) (λ v r. tt))
+      , (belongs-faults (has-kind 3 t && not c) _ s tt
+      , (belongs-faults (has-kind 3 t) _ s tt
+      , (belongs-faults (has-kind 4 t) _ s tt
+      , (λ k h. unlisted)))))))))
+
+  root-faults : (o : Owed) (s : List ℕ) → Faults P (prefix-root o s)
+  unfolding prefix-root
+  root-faults o [] = cut
+  root-faults o (k ∷ s) = kinds-faults (o .type) (o .must-complete) s k
+
+  read-prefix-faults : (t : Ty) (s : List ℕ) → Faults P (read-prefix t s)
+  unfolding read-prefix
+  read-prefix-faults t s = tree-faults P SliceCutShort prefix-root cut root-faults type-limit (owed t false) s
+
+  pub slice-file-refusals : (t : Ty) (s : List ℕ) → Refusals P (slice-file t s)
+  unfolding slice-file
+  slice-file-refusals t s =
+      whole-refusals P SliceLeftOver (section SliceCutShort SliceLeftOver (read-prefix t) s) over
+      (section-faults P SliceCutShort SliceLeftOver (read-prefix t) cut over (read-prefix-faults t) s)

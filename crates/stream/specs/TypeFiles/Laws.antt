@@ -5,10 +5,12 @@ use Prim.Native.Nat.{ℕ, suc, _+_, _≤_, _<_}
 use native.Mathlib.Omega.{arith}
 use native.Mathlib.Nat.{add-zero}
 use lib.ListN.{length, getD}
+use Rattle.stream.specs.declared.Fault.{Fault}
 use Rattle.stream.specs.declared.Fault.the-variants.{CutShort, Unlisted, LeftOver, TypeTooLarge}
 use Rattle.stream.specs.Types.{Ty, empty, cue, level, seq, par, size, type-limit}
 use Rattle.stream.specs.Reading.{Bytes, Reading, read, fault, Result, accepted, whole, section-bytes, section, Root, tree, leaf, two-parts}
 use Rattle.stream.specs.Reading.Laws.{Reads, reads-leaf, reads-two, tree-reads, RootIs, leaf-is, two-is, FoundTree, tree-sound, FoundSection, section-reads, section-sound, whole-sound, every, bytes-tail}
+use Rattle.stream.specs.Reading.Refusals.{Faults, Refusals, section-faults, tree-faults, whole-refusals}
 use Rattle.stream.specs.TypeFiles.{type-bytes, type-file-bytes, type-kinds, type-root, read-type, type-section, type-file}
 
 pub type-length : (t : Ty) (r : List ℕ) → length (type-bytes t r) ≡ size t + length r
@@ -102,3 +104,24 @@ unfolding type-file type-file-bytes
 type-file-sound s t b e =
     let f = type-section-sound s t [] b (whole-sound LeftOver (type-section s) t e) in
     (f .bytes, f .within)
+
+-- The refusals of a type file are 1 to 4.
+module _ (P : Fault → Type 0) (cut : P CutShort) (unlisted : P Unlisted) (large : P TypeTooLarge) where
+  root-faults : (w : Unit {0}) (s : List ℕ) → Faults P (type-root w s)
+  unfolding type-root
+  root-faults w [] = cut
+  root-faults w (k ∷ s) =
+      every (λ j f. Faults P (f s)) (λ r. fault Unlisted) type-kinds (tt, (tt, (tt, (tt, (tt, (λ j h. unlisted)))))) k
+
+  pub read-type-faults : (s : List ℕ) → Faults P (read-type s)
+  unfolding read-type
+  read-type-faults s = tree-faults P TypeTooLarge type-root large root-faults type-limit tt s
+
+  module _ (over : P LeftOver) where
+    pub type-section-faults : (s : List ℕ) → Faults P (type-section s)
+    unfolding type-section
+    type-section-faults s = section-faults P CutShort LeftOver read-type cut over read-type-faults s
+
+    pub type-file-refusals : (s : List ℕ) → Refusals P (type-file s)
+    unfolding type-file
+    type-file-refusals s = whole-refusals P LeftOver (type-section s) over (type-section-faults s)

@@ -1,0 +1,2 @@
+pub mod TypeWalk
+pub mod TypeFile

@@ -1,0 +1,76 @@
+-- Which faults a reading can give: those that its parts can.
+use mathlib.Core.Bool.{Bool, true, false}
+use mathlib.Core.List.{List, [], _∷_, _++_}
+use Prim.Native.Nat.{ℕ, zero, suc}
+use lib.Dec.{leb}
+use lib.ListN.{length, take, drop}
+use Rattle.stream.specs.declared.Fault.{Fault}
+use Rattle.stream.specs.Reading.{Reading, read, fault, Result, accepted, refused, read-on, go-on, require, whole, before, counted, section, Root, forest, only, tree}
+
+-- Every fault has the property P.
+module _ (P : Fault → Type 0) where
+  abbrev pub Faults : {A : Type 0} → Reading A → Type 0
+  Faults (read a r) = Unit
+  Faults (fault e) = P e
+
+  abbrev pub Refusals : {A : Type 0} → Result A → Type 0
+  Refusals (accepted a) = Unit
+  Refusals (refused e) = P e
+
+  pub read-on-faults : {A B : Type 0} (g : Reading A) (f : A → List ℕ → Reading B) → Faults g → ((a : A) (r : List ℕ) → Faults (f a r)) → Faults (read-on g f)
+  read-on-faults (read a r) f h k = k a r
+  read-on-faults (fault e) f h k = h
+
+  pub go-on-refusals : {A B : Type 0} (g : Result A) (f : A → Result B) → Refusals g → ((a : A) → Refusals (f a)) → Refusals (go-on g f)
+  go-on-refusals (accepted a) f h k = k a
+  go-on-refusals (refused e) f h k = h
+
+  pub require-refusals : {A : Type 0} (b : Bool) (e : Fault) (r : Result A) → P e → Refusals r → Refusals (require b e r)
+  require-refusals true e r h k = k
+  require-refusals false e r h k = h
+
+  pub whole-refusals : {A : Type 0} (left-over : Fault) (g : Reading A) → P left-over → Faults g → Refusals (whole left-over g)
+  whole-refusals o (read a []) h k = tt
+  whole-refusals o (read a (b ∷ r)) h k = h
+  whole-refusals o (fault e) h k = k
+
+  before-faults : {A : Type 0} (r : List ℕ) (g : Result A) → Refusals g → Faults (before r g)
+  before-faults r (accepted a) h = tt
+  before-faults r (refused e) h = h
+
+  module _ {A : Type 0} (cut-short left-over : Fault) (contents : List ℕ → Reading A) where
+    counted-faults : P cut-short → P left-over → ((s : List ℕ) → Faults (contents s)) → (n : ℕ) (s : List ℕ)
+        → Faults (counted cut-short left-over contents n s)
+    unfolding counted
+    counted-faults c o k n s = go (leb n (length s))
+      where
+        go : (t : Bool)
+            → Faults {A = A} (elim t as (λ u. Reading A)
+              [ true ↦ before (drop n s) (whole left-over (contents (take n s))) | false ↦ fault cut-short ])
+        go true = before-faults (drop n s) (whole left-over (contents (take n s))) (whole-refusals left-over (contents (take n s)) o (k (take n s)))
+        go false = c
+
+    pub section-faults : P cut-short → P left-over → ((s : List ℕ) → Faults (contents s)) → (s : List ℕ)
+        → Faults (section cut-short left-over contents s)
+    unfolding section
+    section-faults c o k [] = c
+    section-faults c o k (h ∷ []) = c
+    section-faults c o k (h ∷ l ∷ s) = counted-faults c o k _ s
+
+  module _ {W A : Type 0} (over : Fault) (root : W → List ℕ → Reading (Root W A)) (P-over : P over) (roots : (w : W) (s : List ℕ) → Faults (root w s)) where
+    forest-faults : (budget : ℕ) (owed : List W) (s : List ℕ) → Faults (forest over root budget owed s)
+    unfolding forest
+    forest-faults zero [] s = tt
+    forest-faults (suc budget) [] s = tt
+    forest-faults zero (w ∷ owed) s = P-over
+    forest-faults (suc budget) (w ∷ owed) s =
+        read-on-faults (root w s) _ (roots w s)
+        (λ n r. read-on-faults (forest over root budget (n .parts ++ owed) r) _ (forest-faults budget (n .parts ++ owed) r) (λ ts x. tt))
+
+    only-faults : (ts : List A) (r : List ℕ) → Faults (only over ts r)
+    only-faults [] r = P-over
+    only-faults (t ∷ ts) r = tt
+
+    pub tree-faults : (budget : ℕ) (w : W) (s : List ℕ) → Faults (tree over root budget w s)
+    unfolding tree
+    tree-faults budget w s = read-on-faults (forest over root budget (w ∷ []) s) _ (forest-faults budget (w ∷ []) s) only-faults
