@@ -1,5 +1,6 @@
 -- Patch files: their bytes, and Check's two passes over them with refusals 1 to 7 (document 01, Files and Operations).
 use mathlib.Core.List.{List, [], _∷_}
+use mathlib.Core.Path.{_≡_}
 use Prim.Native.Nat.{ℕ}
 use lib.ListN.{getD}
 use Rattle.stream.specs.declared.Fault.the-variants.{CutShort, Unlisted, LeftOver, TooManyNodes}
@@ -7,7 +8,7 @@ use Rattle.stream.specs.Types.{Ty}
 use Rattle.stream.specs.Levels.{value-bytes, read-value}
 use Rattle.stream.specs.Reading.{Reading, read, fault, Result, accepted, read-on, go-on, whole, section-bytes, section, Root, tree, leaf, two-parts}
 use Rattle.stream.specs.TypeFiles.{type-bytes, read-type, type-section}
-use Rattle.node.specs.Nodes.{Node, pass, silent, emit-cue, emit-level, both, left, right, first, second, then, chain, regroup-right, regroup-left, spread, front, node-limit}
+use Rattle.node.specs.Nodes.{Node, pass, silent, emit-cue, emit-level, both, left, right, first, second, then, chain, regroup-right, regroup-left, spread, front, node-limit, Allowed}
 use Rattle.node.specs.Checking.{typing}
 pub mod Laws
 pub mod Examples
@@ -33,6 +34,14 @@ node-bytes front r = 14 ∷ r
 -- "A patch file is two [sections], the input type and then the nodes."
 unfoldable pub patch-file-bytes : Ty → Node → List ℕ
 patch-file-bytes s n = section-bytes (type-bytes s []) (section-bytes (node-bytes n []) [])
+
+-- The bytes that are a patch file: those of trees that the rules and the limits allow.
+pub record PatchFile (file : List ℕ) : Type 0 where
+  pub input : Ty
+  pub node : Node
+  pub output : Ty
+  pub allowed : Allowed input node output
+  pub bytes : patch-file-bytes input node ≡ file
 
 -- What each kind byte begins, by its number.
 abbrev pub node-kinds : List (List ℕ → Reading (Root (Unit {0}) Node))

@@ -1,6 +1,7 @@
 -- Files: sections, and trees in preorder, read with the first fault (document 01, Files and Operations).
 use mathlib.Core.Bool.{Bool, true, false}
 use mathlib.Core.List.{List, [], _∷_, _++_}
+use mathlib.Core.Path.{_≡_}
 use Prim.Native.Nat.{ℕ, zero, suc, _+_, _*_, _/_, _%_, _<_}
 use lib.Dec.{leb}
 use lib.ListN.{length, getD, take, drop}
@@ -23,6 +24,9 @@ pub data Reading (A : Type 0) : Type 0 where
 pub data Result (A : Type 0) : Type 0 where
   accepted : A → Result A
   refused : Fault → Result A
+
+abbrev pub IsAccepted : {A : Type 0} → Result A → Type 0
+IsAccepted {A} r = (a : A) × (r ≡ accepted a)
 
 -- The first fault ends it; otherwise go on with what was read, or accepted.
 abbrev pub read-on : {A B : Type 0} → Reading A → (A → List ℕ → Reading B) → Reading B

@@ -2,12 +2,13 @@
 -- Operations, Admit).
 use mathlib.Core.Bool.{Bool, true, false, _&&_, not}
 use mathlib.Core.List.{List, [], _∷_}
+use mathlib.Core.Path.{_≡_}
 use Prim.Native.Nat.{ℕ}
 use lib.ListN.{getD}
 use Rattle.stream.specs.declared.Fault.the-variants.{SliceCutShort, SliceUnlisted, SliceLeftOver, SliceMisplaced}
 use Rattle.stream.specs.Types.{Ty, first-part, second-part, has-kind, type-limit}
 use Rattle.stream.specs.Levels.{value-bytes, read-value}
-use Rattle.stream.specs.Prefixes.{Prefix, nothing, cue-awaited, cue-come, level-awaited, level-come, in-first, crossed, beside}
+use Rattle.stream.specs.Prefixes.{Prefix, nothing, cue-awaited, cue-come, level-awaited, level-come, in-first, crossed, beside, IsPrefix}
 use Rattle.stream.specs.Reading.{Reading, read, fault, Result, read-on, whole, section-bytes, section, Root, tree, leaf, one-part, two-parts}
 pub mod Laws
 pub mod Examples
@@ -26,6 +27,12 @@ prefix-bytes (beside p q) r = 7 ∷ prefix-bytes p (prefix-bytes q r)
 -- "A slice file is one section."
 unfoldable pub slice-file-bytes : Prefix → List ℕ
 slice-file-bytes p = section-bytes (prefix-bytes p []) []
+
+-- The bytes that are a slice file of a type.
+pub record SliceFile (type : Ty) (file : List ℕ) : Type 0 where
+  pub prefix : Prefix
+  pub is-prefix : IsPrefix type prefix
+  pub bytes : slice-file-bytes prefix ≡ file
 
 -- What is owed at a place of a slice: a prefix of a type, and whether it has to be complete, as in a crossed first part.
 pub record Owed : Type 0 where

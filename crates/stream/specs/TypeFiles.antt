@@ -1,9 +1,10 @@
 -- Type files: their bytes, and their reading with refusals 1 to 4 (document 01, Files, "Types"; Operations, Check).
 use mathlib.Core.List.{List, [], _∷_}
-use Prim.Native.Nat.{ℕ}
+use mathlib.Core.Path.{_≡_}
+use Prim.Native.Nat.{ℕ, _≤_}
 use lib.ListN.{getD}
 use Rattle.stream.specs.declared.Fault.the-variants.{CutShort, Unlisted, LeftOver, TypeTooLarge}
-use Rattle.stream.specs.Types.{Ty, empty, cue, level, seq, par, type-limit}
+use Rattle.stream.specs.Types.{Ty, empty, cue, level, seq, par, size, type-limit}
 use Rattle.stream.specs.Reading.{Reading, read, fault, Result, whole, section-bytes, section, Root, tree, leaf, two-parts}
 pub mod Laws
 pub mod Examples
@@ -19,6 +20,12 @@ type-bytes (par s t) r = 4 ∷ type-bytes s (type-bytes t r)
 -- "A type file is one section."
 unfoldable pub type-file-bytes : Ty → List ℕ
 type-file-bytes t = section-bytes (type-bytes t []) []
+
+-- The bytes that are a type file.
+pub record TypeFile (file : List ℕ) : Type 0 where
+  pub type : Ty
+  pub small : size type ≤ type-limit
+  pub bytes : type-file-bytes type ≡ file
 
 -- What each kind byte begins, by its number.
 abbrev pub type-kinds : List (List ℕ → Reading (Root (Unit {0}) Ty))

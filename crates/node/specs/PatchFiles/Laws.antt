@@ -1,15 +1,16 @@
 -- A patch file is accepted exactly if it is the file of a patch that the rules and the limits allow.
 use mathlib.Core.Path.{_≡_, refl, sym, ap, _∙_}
-use mathlib.Core.List.{List, [], _∷_, _++_}
+use mathlib.Core.Logic.{_↔_}
+use mathlib.Core.List.{List, [], _∷_, _++_, append-nil}
 use Prim.Native.Nat.{ℕ, suc, _+_, _*_, _≤_, _<_}
 use native.Mathlib.Omega.{arith}
-use lib.ListN.{length, getD}
+use lib.ListN.{length, getD, length-append}
 use Rattle.stream.specs.declared.Fault.{Fault}
 use Rattle.stream.specs.declared.Fault.the-variants.{CutShort, Unlisted, LeftOver, TypeTooLarge, TooManyNodes, NotNullable, WrongShape}
 use Rattle.stream.specs.Types.{Ty, size, type-limit}
 use Rattle.stream.specs.Levels.{value-bytes, read-value}
 use Rattle.stream.specs.Levels.Laws.{value-length, value-reads, value-sound, value-faults}
-use Rattle.stream.specs.Reading.{Bytes, Reading, read, fault, Result, accepted, refused, read-on, go-on, whole, section-bytes, section, Root, tree, leaf, two-parts}
+use Rattle.stream.specs.Reading.{Bytes, Reading, read, fault, Result, accepted, refused, IsAccepted, read-on, go-on, whole, section-bytes, section, Root, tree, leaf, two-parts}
 use Rattle.stream.specs.Reading.Laws.{Reads, reads-leaf, reads-two, tree-reads, RootIs, leaf-is, two-is, tree-sound, section-reads, section-sound, whole-sound, every, bytes-tail, read-on-read, go-on-accepted}
 use Rattle.stream.specs.Reading.Refusals.{Faults, Refusals, read-on-faults, go-on-refusals, section-faults, tree-faults, whole-refusals}
 use Rattle.stream.specs.TypeFiles.{type-bytes, read-type, type-section}
@@ -17,7 +18,7 @@ use Rattle.stream.specs.TypeFiles.Laws.{type-length, read-type-reads, read-type
 use Rattle.node.specs.Nodes.{Node, pass, silent, emit-cue, emit-level, both, left, right, first, second, then, chain, regroup-right, regroup-left, spread, front, Types, count, node-limit, Small, Fits, Allowed}
 use Rattle.node.specs.Checking.{typing}
 use Rattle.node.specs.Checking.Laws.{Carries, types-carries, typing-sound, typing-complete, typing-refusals}
-use Rattle.node.specs.PatchFiles.{node-bytes, patch-file-bytes, node-kinds, node-root, read-node, node-section, Patch, Checked, patch-sections, first-pass, second-pass, patch-file}
+use Rattle.node.specs.PatchFiles.{node-bytes, patch-file-bytes, PatchFile, node-kinds, node-root, read-node, node-section, Patch, Checked, patch-sections, first-pass, second-pass, patch-file}
 
 -- Lengths
 
@@ -43,6 +44,13 @@ node-length front r f = omega arith
 nodes-short : (n : Node) → Carries n → count n ≤ node-limit → length (node-bytes n []) ≤ 8223
 unfolding node-limit
 nodes-short n f h = omega (arith, node-length n [] f)
+
+-- "No file is longer than 8,482 bytes."
+pub patch-file-length : {s t : Ty} {n : Node} → Allowed s n t → length (patch-file-bytes s n) ≤ 8482
+unfolding patch-file-bytes section-bytes type-limit
+patch-file-length {s} {t} {n} a =
+    rw (append-nil (node-bytes n []), length-append (type-bytes s []) _)
+    (omega (arith, type-length s [], nodes-short n (types-carries (a .types) (a .fits)) (a .few), a .input-small))
 
 -- Reading what was written
 
@@ -194,6 +202,14 @@ patch-file-sound s c b e =
     go : (p : Patch) (t : Ty) → _≡_ {A = Checked} (record { patch = p; output = t }) c → patch-file-bytes (p .input) (p .node) ≡ s
         → Allowed (p .input) (p .node) t → Accepted s c
     go p t h e a = rw (← h) (record { bytes = e; allowed = a })
+
+pub patch-file-accepted : (s : List ℕ) → Bytes s → IsAccepted (patch-file s) ↔ PatchFile s
+patch-file-accepted s b =
+    ((λ a.
+        let f = patch-file-sound s (a .0) b (a .1) in
+        let c = a .0 in
+        record { input = c .patch .input; node = c .patch .node; output = c .output; allowed = f .allowed; bytes = f .bytes })
+    , (λ f. (_, rw (f .bytes) at (patch-file-complete (f .allowed)))))
 
 -- The refusals of a patch file are 1 to 7.
 module _ (P : Fault → Type 0) (cut : P CutShort) (unlisted : P Unlisted) (over : P LeftOver) (large : P TypeTooLarge) (many : P TooManyNodes) where

@@ -1,6 +1,6 @@
 -- A value is read as it was written.
 use mathlib.Core.Path.{_≡_, refl, ap, ap₂}
-use mathlib.Core.List.{List, [], _∷_, _++_}
+use mathlib.Core.List.{List, [], _∷_}
 use Prim.Native.Nat.{ℕ, suc, _+_, _*_, _/_, _%_, _<_}
 use native.Mathlib.Omega.{arith}
 use lib.ListN.{length, getD}
@@ -16,10 +16,6 @@ value-width = 2
 pub value-length : (v : ℕ) (r : List ℕ) → length (value-bytes v r) ≡ value-width + length r
 unfolding value-bytes
 value-length v r = omega arith
-
-pub value-append : (v : ℕ) (r x : List ℕ) → value-bytes v r ++ x ≡ value-bytes v (r ++ x)
-unfolding value-bytes
-value-append v r x = refl
 
 pub value-reads : (cut-short : Fault) (v : ℕ) (r : List ℕ) → read-value cut-short (value-bytes v r) ≡ read v r
 unfolding read-value value-bytes

@@ -1,7 +1,8 @@
 -- A slice file is accepted exactly if it is the file of a prefix of the type.
 use mathlib.Core.Path.{_≡_, refl, sym, ap, _∙_}
 use mathlib.Core.Bool.{Bool, true, false, _&&_, not, true≢false, false≢true}
-use mathlib.Core.List.{List, [], _∷_, _++_}
+use mathlib.Core.Logic.{_↔_}
+use mathlib.Core.List.{List, [], _∷_, _++_, append-nil}
 use Prim.Native.Nat.{ℕ, zero, suc, _+_, _*_, _≤_, _<_}
 use native.Mathlib.Omega.{arith}
 use lib.ListN.{length, getD}
@@ -11,13 +12,13 @@ use Rattle.stream.specs.declared.Fault.the-variants.{SliceCutShort, Slic
 use Rattle.stream.specs.Types.{Ty, empty, cue, level, seq, par, size, type-limit, first-part, second-part, has-kind}
 use Rattle.stream.specs.Types.Laws.{and-left, and-right, made-of, parts-size, size-positive}
 use Rattle.stream.specs.Levels.{value-bytes, read-value}
-use Rattle.stream.specs.Levels.Laws.{value-width, value-length, value-append, value-reads, value-sound, value-faults}
+use Rattle.stream.specs.Levels.Laws.{value-width, value-length, value-reads, value-sound, value-faults}
 use Rattle.stream.specs.Prefixes.{Prefix, nothing, cue-awaited, cue-come, level-awaited, level-come, in-first, crossed, beside, Complete, whole-nothing, whole-cue, whole-level, whole-crossed, whole-beside, IsPrefix, of-empty, of-cue-awaited, of-cue-come, of-level-awaited, of-level-come, of-first, of-crossed, of-beside}
 use Rattle.stream.specs.Prefixes.Laws.{crossed-second, beside-first, beside-second}
-use Rattle.stream.specs.Reading.{Bytes, Reading, read, fault, Result, accepted, read-on, whole, section-bytes, section, Root, forest, tree, leaf, one-part, two-parts}
+use Rattle.stream.specs.Reading.{Bytes, Reading, read, fault, Result, accepted, IsAccepted, read-on, whole, section-bytes, section, Root, forest, tree, leaf, one-part, two-parts}
 use Rattle.stream.specs.Reading.Laws.{Reads, reads-leaf, reads-one, reads-two, tree-reads, RootIs, leaf-is, one-is, two-is, tree-sound, section-reads, section-sound, whole-sound, every, bytes-tail}
 use Rattle.stream.specs.Reading.Refusals.{Faults, Refusals, read-on-faults, section-faults, tree-faults, whole-refusals}
-use Rattle.stream.specs.SliceFiles.{prefix-bytes, slice-file-bytes, Owed, owed, belongs, prefix-kinds, prefix-root, read-prefix, slice-file}
+use Rattle.stream.specs.SliceFiles.{prefix-bytes, slice-file-bytes, SliceFile, Owed, owed, belongs, prefix-kinds, prefix-root, read-prefix, slice-file}
 
 -- Lengths
 
@@ -53,6 +54,11 @@ prefix-length r (of-level-come {v = v} h) = omega (arith, value-length v r)
 prefix-length r (of-first {t = t} h) = omega (arith, prefix-length r h, size-positive t)
 prefix-length r (of-crossed {q = q} h c k) = omega (arith, prefix-length (prefix-bytes q r) h, prefix-length r k)
 prefix-length r (of-beside {q = q} h k) = omega (arith, prefix-length (prefix-bytes q r) h, prefix-length r k)
+
+-- "So a slice file has at most 513 bytes."
+pub slice-file-length : {t : Ty} {p : Prefix} → IsPrefix t p → size t ≤ type-limit → length (slice-file-bytes p) ≤ 513
+unfolding slice-file-bytes section-bytes type-limit
+slice-file-length {p = p} h w = rw (append-nil (prefix-bytes p [])) (omega (arith, prefix-length [] h))
 
 -- Reading what was written
 
@@ -161,6 +167,11 @@ slice-file-sound t s p b e =
           (whole-sound SliceLeftOver (section SliceCutShort SliceLeftOver (read-prefix t) s) p e) in
     let g = tree-sound SliceCutShort prefix-root Fills prefix-bytes nodes root-sound type-limit (owed t false) (f .body) p [] (f .body-bytes) (f .inside) in
     (rw (g .bytes) (f .bytes), g .is .is)
+
+pub slice-file-accepted : (t : Ty) (s : List ℕ) → size t ≤ type-limit → Bytes s → IsAccepted (slice-file t s) ↔ SliceFile t s
+slice-file-accepted t s w b =
+    ((λ a. let f = slice-file-sound t s (a .0) b (a .1) in record { prefix = a .0; is-prefix = f .1; bytes = f .0 })
+    , (λ f. (f .prefix, rw (← f .bytes) (slice-file-complete (f .is-prefix) w))))
 
 -- The limit of 255 is never met: each node read takes at least one from the sizes of the types owed.
 

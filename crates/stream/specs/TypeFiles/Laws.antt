@@ -1,5 +1,6 @@
 -- A type file is accepted exactly if it is the file of a type within the limit.
 use mathlib.Core.Path.{_≡_, refl, sym, ap, _∙_}
+use mathlib.Core.Logic.{_↔_}
 use mathlib.Core.List.{List, [], _∷_, _++_, append-nil}
 use Prim.Native.Nat.{ℕ, suc, _+_, _≤_, _<_}
 use native.Mathlib.Omega.{arith}
@@ -8,10 +9,10 @@ use lib.ListN.{length, getD}
 use Rattle.stream.specs.declared.Fault.{Fault}
 use Rattle.stream.specs.declared.Fault.the-variants.{CutShort, Unlisted, LeftOver, TypeTooLarge}
 use Rattle.stream.specs.Types.{Ty, empty, cue, level, seq, par, size, type-limit}
-use Rattle.stream.specs.Reading.{Bytes, Reading, read, fault, Result, accepted, whole, section-bytes, section, Root, tree, leaf, two-parts}
+use Rattle.stream.specs.Reading.{Bytes, Reading, read, fault, Result, accepted, IsAccepted, whole, section-bytes, section, Root, tree, leaf, two-parts}
 use Rattle.stream.specs.Reading.Laws.{Reads, reads-leaf, reads-two, tree-reads, RootIs, leaf-is, two-is, FoundTree, tree-sound, FoundSection, section-reads, section-sound, whole-sound, every, bytes-tail}
 use Rattle.stream.specs.Reading.Refusals.{Faults, Refusals, section-faults, tree-faults, whole-refusals}
-use Rattle.stream.specs.TypeFiles.{type-bytes, type-file-bytes, type-kinds, type-root, read-type, type-section, type-file}
+use Rattle.stream.specs.TypeFiles.{type-bytes, type-file-bytes, TypeFile, type-kinds, type-root, read-type, type-section, type-file}
 
 pub type-length : (t : Ty) (r : List ℕ) → length (type-bytes t r) ≡ size t + length r
 unfolding type-bytes size
@@ -21,13 +22,9 @@ type-length level r = omega arith
 type-length (seq s t) r = omega (arith, type-length s (type-bytes t r), type-length t r)
 type-length (par s t) r = omega (arith, type-length s (type-bytes t r), type-length t r)
 
-pub type-append : (t : Ty) (r x : List ℕ) → type-bytes t r ++ x ≡ type-bytes t (r ++ x)
-unfolding type-bytes
-type-append empty r x = refl
-type-append cue r x = refl
-type-append level r x = refl
-type-append (seq s t) r x = ap (λ l. 3 ∷ l) (type-append s (type-bytes t r) x ∙ ap (type-bytes s) (type-append t r x))
-type-append (par s t) r x = ap (λ l. 4 ∷ l) (type-append s (type-bytes t r) x ∙ ap (type-bytes s) (type-append t r x))
+pub type-file-length : (t : Ty) → size t ≤ type-limit → length (type-file-bytes t) ≤ 257
+unfolding type-file-bytes section-bytes type-limit
+type-file-length t w = rw (append-nil (type-bytes t [])) (omega (arith, type-length t []))
 
 -- Reading what was written
 
@@ -104,6 +101,11 @@ unfolding type-file type-file-bytes
 type-file-sound s t b e =
     let f = type-section-sound s t [] b (whole-sound LeftOver (type-section s) t e) in
     (f .bytes, f .within)
+
+pub type-file-accepted : (s : List ℕ) → Bytes s → IsAccepted (type-file s) ↔ TypeFile s
+type-file-accepted s b =
+    ((λ a. let f = type-file-sound s (a .0) b (a .1) in record { type = a .0; small = f .1; bytes = f .0 })
+    , (λ f. (f .type, rw (← f .bytes) (type-file-complete (f .type) (f .small)))))
 
 -- The refusals of a type file are 1 to 4.
 module _ (P : Fault → Type 0) (cut : P CutShort) (unlisted : P Unlisted) (large : P TypeTooLarge) where

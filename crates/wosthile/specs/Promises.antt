@@ -1,0 +1,59 @@
+-- The promises of the five operations: the text of each one's `ensures`; and what it is to keep them.
+use mathlib.Core.Path.{_≡_}
+use mathlib.Core.List.{List}
+use Prim.Native.Nat.{ℕ}
+use lib.ListN.{length}
+use Rattle.stream.specs.Reading.{Result}
+use Rattle.wosthile.specs.declared.Written.{Written}
+use Rattle.wosthile.specs.declared.Admitted.{Admitted}
+use Rattle.wosthile.specs.declared.Fed.{Fed}
+use Rattle.wosthile.specs.Answers.{check, admit, left, join, FedFiles, feed, room, room-both, written, admitted, fed, after}
+
+-- What an operation with one lent buffer promises: `outcome` is what it has to write, 20 aside.
+pub record Writes (outcome : Result (List ℕ)) (lent : List ℕ) (answer : Written) (lent-after : List ℕ) : Type 0 where
+  pub answers : answer ≡ written (room (length lent) outcome)
+  pub buffer : lent-after ≡ after (λ w. w) (room (length lent) outcome) lent
+
+abbrev pub CheckPromise : (patch lent : List ℕ) → Written → List ℕ → Type 0
+CheckPromise patch lent answer lent-after = Writes (check patch) lent answer lent-after
+
+abbrev pub AdmitPromise : (type slice : List ℕ) → Admitted → Type 0
+AdmitPromise type slice answer = answer ≡ admitted (admit type slice)
+
+abbrev pub LeftPromise : (type slice lent : List ℕ) → Written → List ℕ → Type 0
+LeftPromise type slice lent answer lent-after = Writes (left type slice) lent answer lent-after
+
+abbrev pub JoinPromise : (type first second lent : List ℕ) → Written → List ℕ → Type 0
+JoinPromise type first second lent answer lent-after = Writes (join type first second) lent answer lent-after
+
+pub record FeedPromise (patch slice output left : List ℕ) (answer : Fed) (output-after left-after : List ℕ) : Type 0 where
+  pub answers : answer ≡ fed (room-both (length output) (length left) (feed patch slice))
+  pub output-buffer : output-after ≡ after (λ w. w .output) (room-both (length output) (length left) (feed patch slice)) output
+  pub left-buffer : left-after ≡ after (λ w. w .patch) (room-both (length output) (length left) (feed patch slice)) left
+
+-- The five operations as functions of the bytes handed in: the answer, and each lent buffer afterwards. (A function of the
+-- code is given bytes alone; on a list that holds other numbers, take the definition's answer for its own.)
+pub record WrittenCall : Type 0 where
+  pub answer : Written
+  pub lent : List ℕ
+
+pub record FedCall : Type 0 where
+  pub answer : Fed
+  pub output : List ℕ
+  pub left : List ℕ
+
+pub record Operations : Type 0 where
+  pub check : (patch lent : List ℕ) → WrittenCall
+  pub admit : (type slice : List ℕ) → Admitted
+  pub left : (type slice lent : List ℕ) → WrittenCall
+  pub join : (type first second lent : List ℕ) → WrittenCall
+  pub feed : (patch slice output left : List ℕ) → FedCall
+
+pub record Keeps (ops : Operations) : Type 0 where
+  pub check : (patch lent : List ℕ) → (let c = ops .check patch lent in CheckPromise patch lent (c .answer) (c .lent))
+  pub admit : (type slice : List ℕ) → AdmitPromise type slice (ops .admit type slice)
+  pub left : (type slice lent : List ℕ) → (let c = ops .left type slice lent in LeftPromise type slice lent (c .answer) (c .lent))
+  pub join : (type first second lent : List ℕ)
+      → (let c = ops .join type first second lent in JoinPromise type first second lent (c .answer) (c .lent))
+  pub feed : (patch slice output left : List ℕ)
+      → (let c = ops .feed patch slice output left in FeedPromise patch slice output left (c .answer) (c .output) (c .left))

@@ -1,0 +1,185 @@
+-- A run over a function that keeps Feed's promise is a list of feeds of trees, and so it is as one feed.
+use mathlib.Core.Path.{_≡_, refl, sym, ap, ap₂, _∙_}
+use mathlib.Core.Bool.{Bool, true, false, _&&_}
+use mathlib.Core.List.{List, [], _∷_, _++_, map, append-nil}
+use Prim.Native.Nat.{ℕ, suc, _+_, _*_, _/_, _%_, _≤_}
+use native.Mathlib.Omega.{arith}
+use native.Mathlib.Nat.{le-trans}
+use lib.Dec.{leb, eqb}
+use lib.ListN.{length, take, drop}
+use lib.Seq.{take-append-seam}
+use borrow.Author.Tests.{ne-eqb}
+use Rattle.stream.specs.declared.Fault.{Fault}
+use Rattle.stream.specs.Faults.{number}
+use Rattle.stream.specs.Types.{Ty, size}
+use Rattle.stream.specs.Prefixes.{Prefix, IsPrefix, derivative, concat}
+use Rattle.stream.specs.Prefixes.Laws.{concat-is-prefix, derivative-concat}
+use Rattle.stream.specs.Reading.{Bytes, Result, accepted, refused, go-on, section-bytes}
+use Rattle.stream.specs.Reading.Laws.{go-on-accepted}
+use Rattle.stream.specs.TypeFiles.{type-bytes, type-file-bytes}
+use Rattle.stream.specs.SliceFiles.{slice-file, slice-file-bytes}
+use Rattle.stream.specs.SliceFiles.Laws.{slice-file-sound}
+use Rattle.node.specs.Nodes.{Node, Small, Allowed}
+use Rattle.node.specs.Feeding.{sends, leaves}
+use Rattle.node.specs.Nodes.Laws.{output-small}
+use Rattle.node.specs.Feeding.Laws.{Fed, fed as fed-laws, leaves-allowed}
+use Rattle.node.specs.Feeding.Lists.{Pieces, no-more, piece, concat-all, derivative-all, sends-all, leaves-all, sends-pieces, concat-all-is-prefix, derivative-concat-all, sends-concat-all, leaves-concat-all, leaves-all-allowed}
+use Rattle.node.specs.PatchFiles.{node-bytes, patch-file-bytes}
+use Rattle.wosthile.specs.Answers.{check, left, join, FedFiles, feed, room-both, fed, front, after}
+use Rattle.wosthile.specs.Answers.Laws.{check-answers, left-answers, join-answers, fed-files, feed-of-patch, feed-answers, number-positive, room-both-enough, room-both-accepted}
+use Rattle.wosthile.specs.Promises.{FeedPromise, FedCall}
+use Rattle.wosthile.specs.Runs.{Call, ByteSlices, Run, Feed, takes, goes-on, run, Joins, alone, joined, first-section, sends-and-leaves, AsOne}
+
+-- The call that an outcome is.
+abbrev call-of : Result FedFiles → List ℕ → List ℕ → FedCall
+call-of o output left = record { answer = fed o; output = after (λ w. w .output) o output; left = after (λ w. w .patch) o left }
+
+abbrev pub KeepsFeed : Feed → Type 0
+KeepsFeed f = (patch slice output left : List ℕ)
+    → (let c = f patch slice output left in FeedPromise patch slice output left (c .answer) (c .output) (c .left))
+
+pub kept : (f : Feed) → KeepsFeed f → (patch slice output left : List ℕ)
+    → f patch slice output left ≡ call-of (room-both (length output) (length left) (feed patch slice)) output left
+kept f k patch slice output left =
+    let h = k patch slice output left in
+    λ i. record { answer = h .answers i; output = h .output-buffer i; left = h .left-buffer i }
+
+-- A refused call changes nothing; an accepted one adds its files.
+
+refused-goes-on : (patch slice output left : List ℕ) (e : Fault) (rest : List ℕ → Run)
+    → goes-on patch slice (call-of (refused e) output left) rest ≡ rest patch
+unfolding fed
+refused-goes-on patch slice output left e rest =
+    let n : eqb (number e) 0 ≡ false = ne-eqb (number e) 0 (λ z. omega (arith, number-positive e)) in
+    ap (λ (b : Bool). elim b as (λ x. Run) [ true ↦ takes slice (call-of (refused e) output left) (rest (take 0 left)) | false ↦ rest patch ]) n
+
+accepted-goes-on : (patch slice output left : List ℕ) (w : FedFiles) (rest : List ℕ → Run)
+    → goes-on patch slice (call-of (accepted w) output left) rest
+    ≡ (let r = rest (w .patch) in record { patch = r .patch; slices = slice ∷ r .slices; outputs = w .output ∷ r .outputs })
+unfolding fed after
+accepted-goes-on patch slice output left w rest =
+    rw (take-append-seam (w .patch) (drop (length (w .patch)) left), take-append-seam (w .output) (drop (length (w .output)) output))
+
+-- Where a run has come to, by trees.
+record Traced (s : Ty) (n : Node) (r : Run) : Type 0 where
+  pieces : List Prefix
+  are-pieces : Pieces s pieces
+  patch : r .patch ≡ patch-file-bytes (derivative-all s pieces) (leaves-all s n pieces)
+  slices : r .slices ≡ map slice-file-bytes pieces
+  outputs : r .outputs ≡ map slice-file-bytes (sends-all s n pieces)
+
+one-more : {s : Ty} {n : Node} {p : Prefix} (r : Run) → IsPrefix s p → Traced (derivative s p) (leaves s n p) r
+    → Traced s n (record { patch = r .patch; slices = slice-file-bytes p ∷ r .slices; outputs = slice-file-bytes (sends s n p) ∷ r .outputs })
+unfolding derivative-all leaves-all sends-all
+one-more {p = p} r h t =
+    record {
+      pieces = p ∷ t .pieces;
+      are-pieces = piece h (t .are-pieces);
+      patch = t .patch;
+      slices = ap₂ _∷_ refl (t .slices);
+      outputs = ap₂ _∷_ refl (t .outputs)
+    }
+
+module _ (f : Feed) (keeps : KeepsFeed f) where
+  traced : {s t : Ty} {n : Node} (calls : List Call) → Allowed s n t → ByteSlices calls → Traced s n (run f (patch-file-bytes s n) calls)
+  unfolding run derivative-all leaves-all sends-all
+  traced [] a b = record { pieces = []; are-pieces = no-more; patch = refl; slices = refl; outputs = refl }
+  traced {s} {t} {n} (c ∷ calls) a b =
+      rw (kept f keeps (patch-file-bytes s n) (c .slice) (c .output) (c .left), feed-of-patch (c .slice) a)
+      (go (traced calls a (b .1)) (λ p h. traced calls (leaves-allowed a h) (b .1))
+      (room-both (length (c .output)) (length (c .left)) (go-on (slice-file s (c .slice)) (λ p. accepted (fed-files s n p)))) refl)
+    where
+      after : Prefix → List ℕ
+      after p = patch-file-bytes (derivative s p) (leaves s n p)
+
+      next : (p : Prefix) (w : FedFiles) → fed-files s n p ≡ w → slice-file-bytes p ≡ c .slice → IsPrefix s p
+          → Traced (derivative s p) (leaves s n p) (run f (after p) calls)
+          → Traced s n (let r = run f (w .patch) calls in
+            record { patch = r .patch; slices = c .slice ∷ r .slices; outputs = w .output ∷ r .outputs })
+      next p w e d h k = rw (← e, ← d) (one-more (run f (after p) calls) h k)
+
+      go : Traced s n (run f (patch-file-bytes s n) calls)
+          → ((p : Prefix) → IsPrefix s p → Traced (derivative s p) (leaves s n p) (run f (after p) calls))
+          → (o : Result FedFiles)
+          → room-both (length (c .output)) (length (c .left)) (go-on (slice-file s (c .slice)) (λ p. accepted (fed-files s n p))) ≡ o
+          → Traced s n (goes-on (patch-file-bytes s n) (c .slice) (call-of o (c .output) (c .left)) (λ p. run f p calls))
+      go same later (refused e) h = rw (refused-goes-on (patch-file-bytes s n) (c .slice) (c .output) (c .left) e (λ p. run f p calls)) same
+      go same later (accepted w) h =
+          let x = room-both-accepted _ _ (go-on (slice-file s (c .slice)) (λ p. accepted (fed-files s n p))) w h in
+          let y = go-on-accepted (slice-file s (c .slice)) (λ p. accepted (fed-files s n p)) w x in
+          let z = slice-file-sound s (c .slice) (y .0) (b .0) (y .1) in
+          let e : fed-files s n (y .0) ≡ w = let d = y .2 in cc in
+          rw (accepted-goes-on (patch-file-bytes s n) (c .slice) (c .output) (c .left) w (λ p. run f p calls))
+          (next (y .0) w e (z .0) (z .1) (later (y .0) (z .1)))
+
+-- The files of pieces join to the file of their concatenation.
+joins-all : {s : Ty} {p : Prefix} (ps : List Prefix) → Small s → IsPrefix s p → Pieces (derivative s p) ps
+    → Joins (type-file-bytes s) (slice-file-bytes p ∷ map slice-file-bytes ps) (slice-file-bytes (concat-all p ps))
+unfolding concat-all
+joins-all [] w h k = alone
+joins-all (q ∷ ps) w h (piece k r) = joined (join-answers q w h k) (joins-all ps w (concat-is-prefix q h k) (rw (derivative-concat q h k) r))
+
+pub first-section-of-patch : (s : Ty) (n : Node) → first-section (patch-file-bytes s n) ≡ type-file-bytes s
+unfolding first-section patch-file-bytes type-file-bytes section-bytes
+first-section-of-patch s n =
+    let b = type-bytes s [] in
+    let e : length b / 256 * 256 + length b % 256 ≡ length b = omega arith in
+    rw (e, take-append-seam b (section-bytes (node-bytes n []) []), append-nil b)
+
+module _ (f : Feed) (keeps : KeepsFeed f) where
+  -- Feed, called with room for the files that it writes.
+  pub feed-exactly : (patch slice : List ℕ) (w : FedFiles) (output left : List ℕ) → feed patch slice ≡ accepted w
+      → length (w .output) ≤ length output → length (w .patch) ≤ length left
+      → f patch slice output left ≡ sends-and-leaves (w .output) (w .patch) output left
+  unfolding fed after
+  feed-exactly patch slice w output left e h k =
+      kept f keeps patch slice output left
+      ∙ ap (λ o. call-of o output left) (ap (room-both (length output) (length left)) e ∙ room-both-enough (length output) (length left) w h k)
+
+  as-one-by : {s t : Ty} {n : Node} (r : Run) (ps : List Prefix) → Allowed s n t → Pieces s ps
+      → r .patch ≡ patch-file-bytes (derivative-all s ps) (leaves-all s n ps) → r .slices ≡ map slice-file-bytes ps
+      → r .outputs ≡ map slice-file-bytes (sends-all s n ps) → 1 ≤ length (r .slices) → AsOne f (patch-file-bytes s n) r
+  unfolding derivative-all leaves-all sends-all
+  as-one-by r [] a no-more e d o l = absurd (omega (arith, ap length d))
+  as-one-by {s} {t} {n} r (p ∷ ps) a (piece h k) e d o l =
+      record {
+        slice = slice-file-bytes (concat-all p ps);
+        output = slice-file-bytes (concat-all (sends s n p) (sends-all (derivative s p) (leaves s n p) ps));
+        output-type = type-file-bytes t;
+        checked = check-answers a;
+        slices-joined = rw (first-section-of-patch s n, d) (joins-all ps (a .input-small) h k);
+        outputs-joined = rw o (joins-all (sends-all (derivative s p) (leaves s n p) ps) small (x .sent) outputs);
+        fed-as-one = λ output left i j. feed-exactly (patch-file-bytes s n) _ _ output left fed-joined i j;
+        input-left = rw (first-section-of-patch s n, e, first-section-of-patch (derivative-all s (p ∷ ps)) (leaves-all s n (p ∷ ps)))
+            (left-answers (a .input-small) prefix ∙ ap (λ u. accepted (type-file-bytes u)) (derivative-concat-all ps h k));
+        output-left = left-answers small (concat-all-is-prefix (sends-all (derivative s p) (leaves s n p) ps) (x .sent) outputs)
+            ∙ ap (λ u. accepted (type-file-bytes u)) (derivative-concat-all (sends-all (derivative s p) (leaves s n p) ps) (x .sent) outputs)
+            ∙ sym (ap check e ∙ check-answers (leaves-all-allowed (p ∷ ps) a (piece h k)))
+      }
+    where
+      x : Fed s n t p
+      x = fed-laws (a .types) h
+
+      small : Small t
+      small = output-small (a .types) (a .fits)
+
+      outputs : Pieces (derivative t (sends s n p)) (sends-all (derivative s p) (leaves s n p) ps)
+      outputs = sends-pieces ps (x .types) k
+
+      prefix : IsPrefix s (concat-all p ps)
+      prefix = concat-all-is-prefix ps h k
+
+      patches : patch-file-bytes (derivative s (concat-all p ps)) (leaves s n (concat-all p ps)) ≡ r .patch
+      patches = ap₂ patch-file-bytes (derivative-concat-all ps h k) (leaves-concat-all ps (a .types) h k) ∙ sym e
+
+      joined-files : FedFiles
+      joined-files =
+          record {
+            output = slice-file-bytes (concat-all (sends s n p) (sends-all (derivative s p) (leaves s n p) ps));
+            patch = r .patch
+          }
+
+      fed-joined : feed (patch-file-bytes s n) (slice-file-bytes (concat-all p ps)) ≡ accepted joined-files
+      fed-joined =
+          feed-answers a prefix
+          ∙ (λ i. accepted (record { output = slice-file-bytes (sends-concat-all ps (a .types) h k i); patch = patches i }))
