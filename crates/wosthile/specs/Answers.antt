@@ -1,9 +1,11 @@
 -- What each operation answers, from the bytes handed in (document 01, Operations).
-use mathlib.Core.Bool.{Bool, true, false, _&&_}
-use mathlib.Core.List.{List, _++_}
+use mathlib.Core.Bool.{Bool, true, false, _&&_, _||_}
+use mathlib.Core.Path.{_≡_}
+use mathlib.Core.List.{List, [], _∷_, _++_}
 use Prim.Native.Nat.{ℕ}
-use lib.Dec.{leb}
+use lib.Dec.{leb, eqb}
 use lib.ListN.{length, drop}
+use Rattle.stream.specs.declared.Fault.{Fault}
 use Rattle.stream.specs.declared.Fault.the-variants.{NoRoom}
 use Rattle.stream.specs.Faults.{number}
 use Rattle.stream.specs.Prefixes.{complete, derivative, concat}
@@ -50,35 +52,61 @@ feed patch slice =
     accepted (record { output = slice-file-bytes (sends s n p); patch = patch-file-bytes (derivative s p) (leaves s n p) })))
 
 -- "Last 20: the buffer is too short for this answer"; for Feed "20 if either buffer is too short".
-unfoldable pub room : ℕ → Result (List ℕ) → Result (List ℕ)
-room lent r = go-on r (λ w. require (leb (length w) lent) NoRoom (accepted w))
+unfoldable pub with-room : {A : Type 0} → (A → Bool) → Result A → Result A
+with-room fits r = go-on r (λ a. require (fits a) NoRoom (accepted a))
 
-unfoldable pub room-both : ℕ → ℕ → Result FedFiles → Result FedFiles
-room-both output patch r =
-    go-on r (λ w. require (leb (length (w .output)) output && leb (length (w .patch)) patch) NoRoom (accepted w))
+abbrev pub fits-one : ℕ → List ℕ → Bool
+fits-one lent file = leb (length file) lent
+
+abbrev pub fits-both : ℕ → ℕ → FedFiles → Bool
+fits-both output left files = leb (length (files .output)) output && leb (length (files .patch)) left
 
 -- "Accepted is 0, with the number of bytes written, for Feed one number for each buffer. Refused: the number alone." The
 -- lengths, and Admit's `complete`, are free on a refusal; they are 0.
-unfoldable pub written : Result (List ℕ) → Written
-written (accepted w) = record { number = 0; written = length w }
-written (refused e) = record { number = number e; written = 0 }
+abbrev pub number-of : {A : Type 0} → Result A → ℕ
+number-of (accepted a) = 0
+number-of (refused e) = number e
+
+abbrev pub value-of : {A : Type 0} → (A → ℕ) → Result A → ℕ
+value-of f (accepted a) = f a
+value-of f (refused e) = 0
 
 abbrev pub as-number : Bool → ℕ
 as-number true = 1
 as-number false = 0
 
+unfoldable pub written : Result (List ℕ) → Written
+written r = record { number = number-of r; written = value-of length r }
+
 unfoldable pub admitted : Result Bool → Admitted
-admitted (accepted b) = record { number = 0; complete = as-number b }
-admitted (refused e) = record { number = number e; complete = 0 }
+admitted r = record { number = number-of r; complete = value-of as-number r }
 
 unfoldable pub fed : Result FedFiles → Fed
-fed (accepted w) = record { number = 0; output = length (w .output); patch = length (w .patch) }
-fed (refused e) = record { number = number e; output = 0; patch = 0 }
+fed r =
+    record { number = number-of r; output = value-of (λ w. length (w .output)) r; patch = value-of (λ w. length (w .patch)) r }
 
 -- "These stand at the front of the lent buffer, and the bytes behind them stay. Refused: .. every lent buffer unaltered."
 abbrev pub front : List ℕ → List ℕ → List ℕ
-front w lent = w ++ drop (length w) lent
+front file lent = file ++ drop (length file) lent
 
 unfoldable pub after : {A : Type 0} → (A → List ℕ) → Result A → List ℕ → List ℕ
 after file (accepted a) lent = front (file a) lent
 after file (refused e) lent = lent
+
+-- The numbers that document 01 lists for Check ("1" to "7"), for Admit, Left and Join ("1 to 4 as above", 11 to 14), and for
+-- Feed ("As Check without 20; 11 to 14"), 20 aside.
+abbrev pub patch-numbers : List ℕ
+patch-numbers = 1 ∷ 2 ∷ 3 ∷ 4 ∷ 5 ∷ 6 ∷ 7 ∷ []
+
+abbrev pub admit-numbers : List ℕ
+admit-numbers = 1 ∷ 2 ∷ 3 ∷ 4 ∷ 11 ∷ 12 ∷ 13 ∷ 14 ∷ []
+
+abbrev pub feed-numbers : List ℕ
+feed-numbers = 1 ∷ 2 ∷ 3 ∷ 4 ∷ 5 ∷ 6 ∷ 7 ∷ 11 ∷ 12 ∷ 13 ∷ 14 ∷ []
+
+abbrev pub contains : List ℕ → ℕ → Bool
+contains [] k = false
+contains (n ∷ ns) k = eqb n k || contains ns k
+
+abbrev pub Listed : List ℕ → Fault → Type 0
+Listed numbers e = contains numbers (number e) ≡ true

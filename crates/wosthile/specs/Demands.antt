@@ -1,1 +1,155 @@
+-- The user's demands, in the user's order, as theorems about any five operations that keep the promises of Promises.antt.
+-- What the statements speak of: answers and numbers (Answers.antt), runs (Runs.antt), files (TypeFiles, SliceFiles,
+-- PatchFiles), rules (IsPrefix in Prefixes, Types and Allowed in Nodes, Feeds in Feeding).
+use mathlib.Core.Path.{_≡_, refl, sym, ap, _∙_}
+use mathlib.Core.Logic.{_↔_, Iff·trans}
+use mathlib.Core.List.{List, [], _∷_}
+use Prim.Native.Nat.{ℕ, _≤_}
+use lib.ListN.{length}
+use Rattle.stream.specs.Types.{Ty}
+use Rattle.stream.specs.Prefixes.{Prefix, IsPrefix, complete, derivative, concat}
+use Rattle.stream.specs.Reading.{Bytes, accepted, IsAccepted}
+use Rattle.stream.specs.TypeFiles.{type-file-bytes}
+use Rattle.stream.specs.SliceFiles.{slice-file-bytes, SliceFile}
+use Rattle.node.specs.Nodes.{Node, Small, Allowed}
+use Rattle.node.specs.Feeding.{Feeds, sends, leaves}
+use Rattle.node.specs.Feeding.Laws.{feeds}
+use Rattle.node.specs.PatchFiles.{patch-file-bytes, PatchFile}
+use Rattle.wosthile.specs.Answers.{check, admit, left, join, feed, with-room, fits-one, fits-both, admitted, as-number, front, patch-numbers, admit-numbers, feed-numbers}
+use Rattle.wosthile.specs.Answers.Laws.{check-refusals, admit-refusals, left-refusals, join-refusals, feed-refusals, check-accepted, feed-accepted, check-length, left-length, join-length, feed-lengths, fed-patch}
+use Rattle.wosthile.specs.Promises.{Operations, Keeps, Decided, TooShort}
+use Rattle.wosthile.specs.Promises.Laws.{writes-decided, admits-decided, feeds-decided, writes-twenty, feeds-twenty, writes-bounded, feeds-bounded, writes-zero, feeds-zero}
+use Rattle.wosthile.specs.Runs.{Call, ByteSlices, Run, run, AsOne, sends-and-leaves}
+use Rattle.wosthile.specs.Runs.Laws.{feed-by-rules, run-patch, run-holds}
 
+module _ (ops : Operations) (keeps : Keeps ops) where
+
+  -- Demand 1. "A patch, type or slice handed in, whatever its bytes and length, is accepted or is refused with the number that
+  -- document 01 gives for its first fault .. and a refused one alters no byte of a lent buffer."
+
+  pub demand-1-check : (patch lent : List ℕ)
+      → (let c = ops .check patch lent in
+        Decided (with-room (fits-one (length lent)) (check patch)) (20 ∷ patch-numbers) (c .answer .number) (lent ∷ []) (c .lent ∷ []))
+  demand-1-check patch lent = writes-decided (check patch) lent _ _ (keeps .check patch lent) patch-numbers (check-refusals patch)
+
+  pub demand-1-admit : (type slice : List ℕ) → Decided (admit type slice) admit-numbers (ops .admit type slice .number) [] []
+  demand-1-admit type slice = admits-decided (admit type slice) _ admit-numbers (admit-refusals type slice) (keeps .admit type slice)
+
+  pub demand-1-left : (type slice lent : List ℕ)
+      → (let c = ops .left type slice lent in
+        Decided (with-room (fits-one (length lent)) (left type slice)) (20 ∷ admit-numbers) (c .answer .number) (lent ∷ []) (c .lent ∷ []))
+  demand-1-left type slice lent =
+      writes-decided (left type slice) lent _ _ (keeps .left type slice lent) admit-numbers (left-refusals type slice)
+
+  pub demand-1-join : (type first second lent : List ℕ)
+      → (let c = ops .join type first second lent in
+        Decided (with-room (fits-one (length lent)) (join type first second)) (20 ∷ admit-numbers) (c .answer .number) (lent ∷ []) (c .lent ∷ []))
+  demand-1-join type first second lent =
+      writes-decided (join type first second) lent _ _ (keeps .join type first second lent) admit-numbers (join-refusals type first second)
+
+  pub demand-1-feed : (patch slice output left : List ℕ)
+      → (let c = ops .feed patch slice output left in
+        Decided (with-room (fits-both (length output) (length left)) (feed patch slice)) (20 ∷ feed-numbers) (c .answer .number)
+        (output ∷ left ∷ []) (c .output ∷ c .left ∷ []))
+  demand-1-feed patch slice output left =
+      feeds-decided patch slice output left _ _ _ (keeps .feed patch slice output left) feed-numbers (feed-refusals patch slice)
+
+  -- 20 comes exactly if a buffer is too short for an answer that is due.
+
+  pub twenty-check : (patch lent : List ℕ) → ops .check patch lent .answer .number ≡ 20 ↔ TooShort (fits-one (length lent)) (check patch)
+  twenty-check patch lent = writes-twenty (check patch) lent _ _ (keeps .check patch lent) patch-numbers refl (check-refusals patch)
+
+  pub twenty-left : (type slice lent : List ℕ)
+      → ops .left type slice lent .answer .number ≡ 20 ↔ TooShort (fits-one (length lent)) (left type slice)
+  twenty-left type slice lent = writes-twenty (left type slice) lent _ _ (keeps .left type slice lent) admit-numbers refl (left-refusals type slice)
+
+  pub twenty-join : (type first second lent : List ℕ)
+      → ops .join type first second lent .answer .number ≡ 20 ↔ TooShort (fits-one (length lent)) (join type first second)
+  twenty-join type first second lent =
+      writes-twenty (join type first second) lent _ _ (keeps .join type first second lent) admit-numbers refl (join-refusals type first second)
+
+  pub twenty-feed : (patch slice output left : List ℕ)
+      → ops .feed patch slice output left .answer .number ≡ 20 ↔ TooShort (fits-both (length output) (length left)) (feed patch slice)
+  twenty-feed patch slice output left =
+      feeds-twenty patch slice output left _ _ _ (keeps .feed patch slice output left) feed-numbers refl (feed-refusals patch slice)
+
+  -- "So a slice file has at most 513 bytes", a type file 257 and a patch file 8,482: no answer is longer.
+
+  pub bound-check : (patch lent : List ℕ) → Bytes patch → ops .check patch lent .answer .written ≤ 257
+  bound-check patch lent b = writes-bounded (check patch) lent _ _ (keeps .check patch lent) 257 (λ file e. check-length patch file b e)
+
+  pub bound-left : (type slice lent : List ℕ) → Bytes type → Bytes slice → ops .left type slice lent .answer .written ≤ 257
+  bound-left type slice lent b c =
+      writes-bounded (left type slice) lent _ _ (keeps .left type slice lent) 257 (λ file e. left-length type slice file b c e)
+
+  pub bound-join : (type first second lent : List ℕ) → Bytes type → Bytes first → Bytes second
+      → ops .join type first second lent .answer .written ≤ 513
+  bound-join type first second lent b c d =
+      writes-bounded (join type first second) lent _ _ (keeps .join type first second lent) 513 (λ file e. join-length type first second file b c d e)
+
+  pub bound-feed : (patch slice output left : List ℕ) → Bytes patch → Bytes slice
+      → (let a = ops .feed patch slice output left .answer in (a .output ≤ 513) × (a .patch ≤ 8482))
+  bound-feed patch slice output left b c =
+      feeds-bounded patch slice output left _ _ _ (keeps .feed patch slice output left) (λ w e. feed-lengths slice w (fed-patch patch slice w b e) c e)
+
+  -- Demand 2. "A patch is accepted exactly when the kernel rules of stream types, as document 01 takes them for one input, and
+  -- its limits allow it;
+
+  pub demand-2-patch : (file lent : List ℕ) → Bytes file → 257 ≤ length lent → ops .check file lent .answer .number ≡ 0 ↔ PatchFile file
+  demand-2-patch file lent b h =
+      Iff·trans (writes-zero (check file) lent _ _ (keeps .check file lent) 257 (λ w e. check-length file w b e) h) (check-accepted file b)
+
+  -- a slice, exactly when it is a prefix of the type in force.
+
+  pub demand-2-slice : (file slice output left : List ℕ) (patch : PatchFile file) → Bytes slice → 513 ≤ length output → 8482 ≤ length left
+      → ops .feed file slice output left .answer .number ≡ 0 ↔ SliceFile (patch .input) slice
+  demand-2-slice file slice output left patch b h k =
+      Iff·trans (feeds-zero file slice output left _ _ _ (keeps .feed file slice output left) (λ w e. feed-lengths slice w patch b e) h k)
+      (feed-accepted slice patch b)
+
+  -- Given long enough buffers, a feed sends the output and leaves the patch that those rules define."
+
+  pub demand-2-feed : {n′ : Node} {p o : Prefix} (file output left : List ℕ) (patch : PatchFile file)
+      → IsPrefix (patch .input) p → Feeds (patch .input) (patch .node) p o n′
+      → length (slice-file-bytes o) ≤ length output → length (patch-file-bytes (derivative (patch .input) p) n′) ≤ length left
+      → ops .feed file (slice-file-bytes p) output left
+      ≡ sends-and-leaves (slice-file-bytes o) (patch-file-bytes (derivative (patch .input) p) n′) output left
+  demand-2-feed file output left patch h f i j = feed-by-rules (ops .feed) (keeps .feed) file patch output left h f i j
+
+  -- The rules do define one, for every prefix.
+  pub demand-2-defined : {s t : Ty} {n : Node} {p : Prefix} → Allowed s n t → IsPrefix s p → (o : Prefix) × (n′ : Node) × Feeds s n p o n′
+  demand-2-defined {s} {t} {n} {p} a h = (sends s n p, leaves s n p, feeds (a .types) h)
+
+  -- The same of every patch left in a run: it is a patch that the rules allow, takes the prefixes of its own input type, and is
+  -- fed as the rules say.
+
+  pub demand-2-left : (start : List ℕ) (calls : List Call) → PatchFile start → ByteSlices calls → PatchFile (run (ops .feed) start calls .patch)
+  demand-2-left start calls patch b = run-patch (ops .feed) (keeps .feed) start calls patch b
+
+  pub demand-2-left-slice : (start : List ℕ) (calls : List Call) (patch : PatchFile start) (b : ByteSlices calls) (slice output left : List ℕ)
+      → Bytes slice → 513 ≤ length output → 8482 ≤ length left
+      → ops .feed (run (ops .feed) start calls .patch) slice output left .answer .number ≡ 0
+      ↔ SliceFile (demand-2-left start calls patch b .input) slice
+  demand-2-left-slice start calls patch b slice output left = demand-2-slice _ slice output left (demand-2-left start calls patch b)
+
+  pub demand-2-left-feed : {n′ : Node} {p o : Prefix} (start : List ℕ) (calls : List Call) (patch : PatchFile start) (b : ByteSlices calls)
+      (output left : List ℕ)
+      → (let q = demand-2-left start calls patch b in
+        IsPrefix (q .input) p → Feeds (q .input) (q .node) p o n′
+        → length (slice-file-bytes o) ≤ length output → length (patch-file-bytes (derivative (q .input) p) n′) ≤ length left
+        → ops .feed (run (ops .feed) start calls .patch) (slice-file-bytes p) output left
+        ≡ sends-and-leaves (slice-file-bytes o) (patch-file-bytes (derivative (q .input) p) n′) output left)
+  demand-2-left-feed start calls patch b output left = demand-2-feed _ output left (demand-2-left start calls patch b)
+
+  -- Demand 3. "Take any accepted patch and any list of feeds from it, refused feeds included, whatever slices and buffers they are
+  -- handed, each given the patch that the last accepted one before it left, or the patch at the start while there is none. If
+  -- any was accepted, the accepted slices joined in order, fed as one to the patch at the start with long enough buffers, are
+  -- accepted too, send exactly the accepted feeds' outputs joined in order, and leave the patch that the list left, byte for
+  -- byte; if none was, the patch is the one at the start. After every feed the patch is itself accepted. Its input type is
+  -- exactly what the slices taken so far, joined, leave of the input type at the start, and its output type exactly what the
+  -- outputs so far, joined, leave of the output type at the start." (`AsOne` in Runs.antt says the middle part and the last.)
+
+  pub demand-3 : (start : List ℕ) (calls : List Call) → Bytes start → IsAccepted (check start) → ByteSlices calls
+      → (let r = run (ops .feed) start calls in
+        (1 ≤ length (r .slices) → AsOne (ops .feed) start r) × (r .slices ≡ [] → r .patch ≡ start) × IsAccepted (check (r .patch)))
+  demand-3 start calls b a c = run-holds (ops .feed) (keeps .feed) start calls (check-accepted start b .0 a) c

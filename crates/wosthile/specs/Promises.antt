@@ -1,18 +1,22 @@
 -- The promises of the five operations: the text of each one's `ensures`; and what it is to keep them.
 use mathlib.Core.Path.{_≡_}
+use mathlib.Core.Bool.{Bool, false}
 use mathlib.Core.List.{List}
 use Prim.Native.Nat.{ℕ}
 use lib.ListN.{length}
-use Rattle.stream.specs.Reading.{Result}
+use Rattle.stream.specs.Reading.{Result, accepted, refused}
+use Rattle.stream.specs.declared.Fault.{Fault}
+use Rattle.stream.specs.Faults.{number}
 use Rattle.wosthile.specs.declared.Written.{Written}
 use Rattle.wosthile.specs.declared.Admitted.{Admitted}
 use Rattle.wosthile.specs.declared.Fed.{Fed}
-use Rattle.wosthile.specs.Answers.{check, admit, left, join, FedFiles, feed, room, room-both, written, admitted, fed, after}
+use Rattle.wosthile.specs.Answers.{check, admit, left, join, FedFiles, feed, with-room, fits-one, fits-both, Listed, written, admitted, fed, after}
+pub mod Laws
 
 -- What an operation with one lent buffer promises: `outcome` is what it has to write, 20 aside.
 pub record Writes (outcome : Result (List ℕ)) (lent : List ℕ) (answer : Written) (lent-after : List ℕ) : Type 0 where
-  pub answers : answer ≡ written (room (length lent) outcome)
-  pub buffer : lent-after ≡ after (λ w. w) (room (length lent) outcome) lent
+  pub answers : answer ≡ written (with-room (fits-one (length lent)) outcome)
+  pub buffer : lent-after ≡ after (λ file. file) (with-room (fits-one (length lent)) outcome) lent
 
 abbrev pub CheckPromise : (patch lent : List ℕ) → Written → List ℕ → Type 0
 CheckPromise patch lent answer lent-after = Writes (check patch) lent answer lent-after
@@ -27,9 +31,9 @@ abbrev pub JoinPromise : (type first second lent : List ℕ) → Written → Lis
 JoinPromise type first second lent answer lent-after = Writes (join type first second) lent answer lent-after
 
 pub record FeedPromise (patch slice output left : List ℕ) (answer : Fed) (output-after left-after : List ℕ) : Type 0 where
-  pub answers : answer ≡ fed (room-both (length output) (length left) (feed patch slice))
-  pub output-buffer : output-after ≡ after (λ w. w .output) (room-both (length output) (length left) (feed patch slice)) output
-  pub left-buffer : left-after ≡ after (λ w. w .patch) (room-both (length output) (length left) (feed patch slice)) left
+  pub answers : answer ≡ fed (with-room (fits-both (length output) (length left)) (feed patch slice))
+  pub output-buffer : output-after ≡ after (λ w. w .output) (with-room (fits-both (length output) (length left)) (feed patch slice)) output
+  pub left-buffer : left-after ≡ after (λ w. w .patch) (with-room (fits-both (length output) (length left)) (feed patch slice)) left
 
 -- The five operations as functions of the bytes handed in: the answer, and each lent buffer afterwards. (A function of the
 -- code is given bytes alone; on a list that holds other numbers, take the definition's answer for its own.)
@@ -57,3 +61,17 @@ pub record Keeps (ops : Operations) : Type 0 where
       → (let c = ops .join type first second lent in JoinPromise type first second lent (c .answer) (c .lent))
   pub feed : (patch slice output left : List ℕ)
       → (let c = ops .feed patch slice output left in FeedPromise patch slice output left (c .answer) (c .output) (c .left))
+
+-- What demand 1 asks of a call, whose outcome is known with 20 taken in: "accepted or .. refused with the number that
+-- document 01 gives for its first fault .. and a refused one alters no byte of a lent buffer". `listed` are the numbers that
+-- document 01 has for the operation.
+pub data Decided {A : Type 0} (outcome : Result A) (listed : List ℕ) (answered : ℕ) (lent lent-after : List (List ℕ)) : Type 0 where
+  is-accepted : (a : A) → outcome ≡ accepted a → answered ≡ 0 → Decided outcome listed answered lent lent-after
+  is-refused : (e : Fault) → outcome ≡ refused e → answered ≡ number e → Listed listed e → lent-after ≡ lent
+      → Decided outcome listed answered lent lent-after
+
+-- When 20 is due: the call would be accepted but for a buffer that is too short for its answer.
+pub record TooShort {A : Type 0} (fits : A → Bool) (outcome : Result A) : Type 0 where
+  pub answer : A
+  pub due : outcome ≡ accepted answer
+  pub too-short : fits answer ≡ false

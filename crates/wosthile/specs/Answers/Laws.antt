@@ -13,20 +13,23 @@ use Rattle.stream.specs.declared.Fault.{Fault}
 use Rattle.stream.specs.declared.Fault.the-variants.{CutShort, Unlisted, LeftOver, TypeTooLarge, TooManyNodes, NotNullable, WrongShape, SliceCutShort, SliceUnlisted, SliceLeftOver, SliceMisplaced, NoRoom}
 use Rattle.stream.specs.Faults.{number}
 use Rattle.stream.specs.Types.{Ty, size, type-limit}
+use Rattle.stream.specs.Types.Laws.{and-both}
 use Rattle.stream.specs.Prefixes.{Prefix, IsPrefix, complete, derivative, concat}
 use Rattle.stream.specs.Prefixes.Laws.{derivative-size, concat-is-prefix}
 use Rattle.stream.specs.Reading.{Bytes, Result, accepted, refused, IsAccepted, go-on, require}
 use Rattle.stream.specs.Reading.Laws.{go-on-accepted, require-accepted}
 use Rattle.stream.specs.Reading.Refusals.{Refusals, go-on-refusals, require-refusals}
 use Rattle.stream.specs.TypeFiles.{type-file, type-file-bytes, TypeFile}
-use Rattle.stream.specs.TypeFiles.Laws.{type-file-complete, type-file-refusals}
+use Rattle.stream.specs.TypeFiles.Laws.{type-file-complete, type-file-sound, type-file-length, type-file-refusals}
 use Rattle.stream.specs.SliceFiles.{slice-file, slice-file-bytes, SliceFile}
-use Rattle.stream.specs.SliceFiles.Laws.{slice-file-complete, slice-file-refusals}
+use Rattle.stream.specs.SliceFiles.Laws.{slice-file-complete, slice-file-sound, slice-file-accepted, slice-file-length, slice-file-refusals}
 use Rattle.node.specs.Nodes.{Node, Small, Allowed}
+use Rattle.node.specs.Nodes.Laws.{output-small}
 use Rattle.node.specs.Feeding.{sends, leaves}
+use Rattle.node.specs.Feeding.Laws.{fed, leaves-allowed}
 use Rattle.node.specs.PatchFiles.{patch-file, patch-file-bytes, PatchFile}
-use Rattle.node.specs.PatchFiles.Laws.{patch-file-complete, patch-file-refusals}
-use Rattle.wosthile.specs.Answers.{check, admit, left, join, FedFiles, feed, room, room-both, written, admitted, fed, front, after}
+use Rattle.node.specs.PatchFiles.Laws.{patch-file-complete, patch-file-sound, patch-file-accepted, patch-file-length, patch-file-refusals}
+use Rattle.wosthile.specs.Answers.{check, admit, left, join, FedFiles, feed, with-room, fits-both, patch-numbers, admit-numbers, feed-numbers, Listed}
 
 -- No refusal has the number 0.
 pub number-positive : (e : Fault) → 1 ≤ number e
@@ -77,28 +80,162 @@ pub feed-answers : {s t : Ty} {n : Node} {p : Prefix} → Allowed s n t → IsPr
     → feed (patch-file-bytes s n) (slice-file-bytes p) ≡ accepted (fed-files s n p)
 feed-answers {p = p} a h = feed-of-patch (slice-file-bytes p) a ∙ rw (slice-file-complete h (a .input-small))
 
+-- What is accepted, 20 aside
+
+pub patch-checked : {file : List ℕ} → PatchFile file → IsAccepted (check file)
+patch-checked f = (_, rw (f .bytes) at (check-answers (f .allowed)))
+
+pub check-accepted : (patch : List ℕ) → Bytes patch → IsAccepted (check patch) ↔ PatchFile patch
+unfolding check
+check-accepted patch b =
+    ((λ a. let x = go-on-accepted (patch-file patch) (λ c. accepted (type-file-bytes (c .output))) (a .0) (a .1) in
+        patch-file-accepted patch b .0 (x .0, x .1))
+    , (λ f. patch-checked f))
+
+pub feed-accepted : {patch : List ℕ} (slice : List ℕ) (f : PatchFile patch) → Bytes slice → IsAccepted (feed patch slice) ↔ SliceFile (f .input) slice
+feed-accepted slice f b = rw (← f .bytes) (go (f .input) (f .node) (f .output) (f .allowed))
+  where
+    go : (s : Ty) (n : Node) (t : Ty) → Allowed s n t → IsAccepted (feed (patch-file-bytes s n) slice) ↔ SliceFile s slice
+    go s n t a =
+        ((λ w. let x = go-on-accepted (slice-file s slice) (λ p. accepted (fed-files s n p)) (w .0) (sym (feed-of-patch slice a) ∙ w .1) in
+            slice-file-accepted s slice (a .input-small) b .0 (x .0, x .1))
+        , (λ g. (_, rw (g .bytes) at (feed-answers a (g .is-prefix)))))
+
 -- Room
 
-pub room-enough : (lent : ℕ) (w : List ℕ) → length w ≤ lent → room lent (accepted w) ≡ accepted w
-unfolding room
-room-enough lent w h = rw (le-leb (length w) lent h)
+module _ {A : Type 0} (fits : A → Bool) where
+  pub enough-room : {a : A} (r : Result A) → r ≡ accepted a → fits a ≡ true → with-room fits r ≡ accepted a
+  unfolding with-room
+  enough-room r e h = rw (e, h)
 
-pub room-both-enough : (output patch : ℕ) (w : FedFiles) → length (w .output) ≤ output → length (w .patch) ≤ patch
-    → room-both output patch (accepted w) ≡ accepted w
-unfolding room-both
-room-both-enough output patch w h k = rw (le-leb (length (w .output)) output h, le-leb (length (w .patch)) patch k)
+  -- What is accepted with room taken in is what the call has to write, and it fits.
+  pub room-accepted : (r : Result A) (a : A) → with-room fits r ≡ accepted a → (r ≡ accepted a) × (fits a ≡ true)
+  unfolding with-room
+  room-accepted r a e =
+      let x = go-on-accepted r (λ b. require (fits b) NoRoom (accepted b)) a e in
+      let y = require-accepted (fits (x .0)) NoRoom (accepted (x .0)) a (x .2) in
+      let z : x .0 ≡ a = let d = y .1 in cc in
+      (x .1 ∙ y .1, rw (← z) (y .0))
 
--- With room or without, what is accepted is what the call has to write.
-pub room-accepted : (lent : ℕ) (r : Result (List ℕ)) (w : List ℕ) → room lent r ≡ accepted w → (r ≡ accepted w) × (length w ≤ lent)
-unfolding room
-room-accepted lent r w e =
-    let x = go-on-accepted r (λ v. require (leb (length v) lent) NoRoom (accepted v)) w e in
-    let y = require-accepted (leb (length (x .0)) lent) NoRoom (accepted (x .0)) w (x .2) in
-    let z : x .0 ≡ w = let d = y .1 in cc in
-    (x .1 ∙ y .1, rw (← z) (leb-true (length (x .0)) lent (y .0)))
+  pub room-refusals : (P : Fault → Type 0) (r : Result A) → P NoRoom → Refusals P r → Refusals P (with-room fits r)
+  unfolding with-room
+  room-refusals P r n h = go-on-refusals P r _ h (λ a. require-refusals P (fits a) NoRoom (accepted a) n tt)
 
-pub room-both-accepted : (output patch : ℕ) (r : Result FedFiles) (w : FedFiles) → room-both output patch r ≡ accepted w → r ≡ accepted w
-unfolding room-both
-room-both-accepted output patch r w e =
-    let x = go-on-accepted r (λ v. require (leb (length (v .output)) output && leb (length (v .patch)) patch) NoRoom (accepted v)) w e in
-    x .1 ∙ require-accepted (leb (length (x .0 .output)) output && leb (length (x .0 .patch)) patch) NoRoom (accepted (x .0)) w (x .2) .1
+pub both-fit : {output left : ℕ} (w : FedFiles) → length (w .output) ≤ output → length (w .patch) ≤ left → fits-both output left w ≡ true
+both-fit w h k = and-both (le-leb _ _ h) (le-leb _ _ k)
+
+-- The refusals of each operation, 20 aside
+
+pub check-refusals : (patch : List ℕ) → Refusals (Listed patch-numbers) (check patch)
+unfolding check
+check-refusals patch =
+    go-on-refusals (Listed patch-numbers) (patch-file patch) _
+    (patch-file-refusals (Listed patch-numbers) refl refl refl refl refl refl refl patch) (λ c. tt)
+
+-- A slice after something else with the numbers ns.
+module _ (ns : List ℕ) (cut : Listed ns SliceCutShort) (unlisted : Listed ns SliceUnlisted) (misplaced : Listed ns SliceMisplaced) (over : Listed ns SliceLeftOver) where
+  then-slice : {A : Type 0} (t : Ty) (slice : List ℕ) (f : Prefix → Result A) → ((p : Prefix) → Refusals (Listed ns) (f p))
+      → Refusals (Listed ns) (go-on (slice-file t slice) f)
+  then-slice t slice f h = go-on-refusals (Listed ns) (slice-file t slice) f (slice-file-refusals (Listed ns) cut unlisted misplaced over t slice) h
+
+after-type : {A : Type 0} (type : List ℕ) (f : Ty → Result A) → ((t : Ty) → Refusals (Listed admit-numbers) (f t))
+    → Refusals (Listed admit-numbers) (go-on (type-file type) f)
+after-type type f h = go-on-refusals (Listed admit-numbers) (type-file type) f (type-file-refusals (Listed admit-numbers) refl refl refl refl type) h
+
+pub admit-refusals : (type slice : List ℕ) → Refusals (Listed admit-numbers) (admit type slice)
+unfolding admit
+admit-refusals type slice = after-type type _ (λ t. then-slice admit-numbers refl refl refl refl t slice _ (λ p. tt))
+
+pub left-refusals : (type slice : List ℕ) → Refusals (Listed admit-numbers) (left type slice)
+unfolding left
+left-refusals type slice = after-type type _ (λ t. then-slice admit-numbers refl refl refl refl t slice _ (λ p. tt))
+
+pub join-refusals : (type first second : List ℕ) → Refusals (Listed admit-numbers) (join type first second)
+unfolding join
+join-refusals type first second =
+    after-type type _ (λ t. then-slice admit-numbers refl refl refl refl t first _
+    (λ p. then-slice admit-numbers refl refl refl refl (derivative t p) second _ (λ q. tt)))
+
+pub feed-refusals : (patch slice : List ℕ) → Refusals (Listed feed-numbers) (feed patch slice)
+unfolding feed
+feed-refusals patch slice =
+    go-on-refusals (Listed feed-numbers) (patch-file patch) _
+    (patch-file-refusals (Listed feed-numbers) refl refl refl refl refl refl refl patch)
+    (λ c. then-slice feed-numbers refl refl refl refl (c .patch .input) slice _ (λ p. tt))
+
+-- The lengths of what the operations write
+
+pub check-length : (patch file : List ℕ) → Bytes patch → check patch ≡ accepted file → length file ≤ 257
+unfolding check
+check-length patch file b e =
+    let x = go-on-accepted (patch-file patch) (λ c. accepted (type-file-bytes (c .output))) file e in
+    let a = (patch-file-sound patch (x .0) b (x .1)) .allowed in
+    let d : type-file-bytes (x .0 .output) ≡ file = let y = x .2 in cc in
+    rw (← d) (type-file-length (x .0 .output) (output-small (a .types) (a .fits)))
+
+-- A call on a type file and a slice file that is accepted: the trees, and what was made of them.
+record TypeAndSlice {A : Type 0} (f : Ty → Prefix → Result A) (a : A) : Type 0 where
+  t : Ty
+  p : Prefix
+  small : Small t
+  is-prefix : IsPrefix t p
+  made : f t p ≡ accepted a
+
+type-and-slice : {A : Type 0} (type slice : List ℕ) (f : Ty → Prefix → Result A) (a : A) → Bytes type → Bytes slice
+    → go-on (type-file type) (λ t. go-on (slice-file t slice) (λ p. f t p)) ≡ accepted a → TypeAndSlice f a
+type-and-slice type slice f a b c e =
+    let x = go-on-accepted (type-file type) (λ t. go-on (slice-file t slice) (λ p. f t p)) a e in
+    let y = go-on-accepted (slice-file (x .0) slice) (λ p. f (x .0) p) a (x .2) in
+    record {
+      t = x .0;
+      p = y .0;
+      small = type-file-sound type (x .0) b (x .1) .1;
+      is-prefix = slice-file-sound (x .0) slice (y .0) c (y .1) .1;
+      made = y .2
+    }
+
+pub left-length : (type slice file : List ℕ) → Bytes type → Bytes slice → left type slice ≡ accepted file → length file ≤ 257
+unfolding left
+left-length type slice file b c e =
+    let x = type-and-slice type slice (λ t p. accepted (type-file-bytes (derivative t p))) file b c e in
+    let d : type-file-bytes (derivative (x .t) (x .p)) ≡ file = let z = x .made in cc in
+    rw (← d) (type-file-length (derivative (x .t) (x .p)) (le-trans (derivative-size (x .is-prefix)) (x .small)))
+
+joined-length : {t : Ty} {p : Prefix} (second file : List ℕ) → Small t → IsPrefix t p → Bytes second
+    → go-on (slice-file (derivative t p) second) (λ q. accepted (slice-file-bytes (concat p q))) ≡ accepted file → length file ≤ 513
+joined-length {t} {p} second file w h b e =
+    let x = go-on-accepted (slice-file (derivative t p) second) (λ q. accepted (slice-file-bytes (concat p q))) file e in
+    let k = slice-file-sound (derivative t p) second (x .0) b (x .1) .1 in
+    let d : slice-file-bytes (concat p (x .0)) ≡ file = let z = x .2 in cc in
+    rw (← d) (slice-file-length (concat-is-prefix (x .0) h k) w)
+
+pub join-length : (type first second file : List ℕ) → Bytes type → Bytes first → Bytes second → join type first second ≡ accepted file → length file ≤ 513
+unfolding join
+join-length type first second file b c o e =
+    let x = type-and-slice type first (λ t p. go-on (slice-file (derivative t p) second) (λ q. accepted (slice-file-bytes (concat p q)))) file b c e in
+    joined-length second file (x .small) (x .is-prefix) o (x .made)
+
+pub record FedLengths (w : FedFiles) : Type 0 where
+  pub output : length (w .output) ≤ 513
+  pub patch : length (w .patch) ≤ 8482
+
+pub feed-lengths : {patch : List ℕ} (slice : List ℕ) (w : FedFiles) → PatchFile patch → Bytes slice → feed patch slice ≡ accepted w → FedLengths w
+feed-lengths slice w f b e = go (f .input) (f .node) (f .output) (f .allowed) (rw (← f .bytes) at e)
+  where
+    go : (s : Ty) (n : Node) (t : Ty) → Allowed s n t → feed (patch-file-bytes s n) slice ≡ accepted w → FedLengths w
+    go s n t a e =
+        let x = go-on-accepted (slice-file s slice) (λ p. accepted (fed-files s n p)) w (sym (feed-of-patch slice a) ∙ e) in
+        let h = slice-file-sound s slice (x .0) b (x .1) .1 in
+        let d : fed-files s n (x .0) ≡ w = let z = x .2 in cc in
+        rw (← d)
+        (record {
+          output = slice-file-length ((fed (a .types) h) .sent) (output-small (a .types) (a .fits));
+          patch = patch-file-length (leaves-allowed a h)
+        })
+
+-- An accepted feed was of a patch file.
+pub fed-patch : (patch slice : List ℕ) (w : FedFiles) → Bytes patch → feed patch slice ≡ accepted w → PatchFile patch
+unfolding feed
+fed-patch patch slice w b e =
+    let x = go-on-accepted (patch-file patch) (λ c. go-on (slice-file (c .patch .input) slice) (λ p. accepted (fed-files (c .patch .input) (c .patch .node) p))) w e in
+    patch-file-accepted patch b .0 (x .0, x .1)

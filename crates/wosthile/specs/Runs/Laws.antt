@@ -14,19 +14,19 @@ use Rattle.stream.specs.Faults.{number}
 use Rattle.stream.specs.Types.{Ty, size}
 use Rattle.stream.specs.Prefixes.{Prefix, IsPrefix, derivative, concat}
 use Rattle.stream.specs.Prefixes.Laws.{concat-is-prefix, derivative-concat}
-use Rattle.stream.specs.Reading.{Bytes, Result, accepted, refused, go-on, section-bytes}
+use Rattle.stream.specs.Reading.{Bytes, Result, accepted, refused, IsAccepted, go-on, section-bytes}
 use Rattle.stream.specs.Reading.Laws.{go-on-accepted}
 use Rattle.stream.specs.TypeFiles.{type-bytes, type-file-bytes}
 use Rattle.stream.specs.SliceFiles.{slice-file, slice-file-bytes}
 use Rattle.stream.specs.SliceFiles.Laws.{slice-file-sound}
 use Rattle.node.specs.Nodes.{Node, Small, Allowed}
-use Rattle.node.specs.Feeding.{sends, leaves}
+use Rattle.node.specs.Feeding.{Feeds, sends, leaves}
 use Rattle.node.specs.Nodes.Laws.{output-small}
-use Rattle.node.specs.Feeding.Laws.{Fed, fed as fed-laws, leaves-allowed}
+use Rattle.node.specs.Feeding.Laws.{Fed, fed as fed-laws, feeds-only, leaves-allowed}
 use Rattle.node.specs.Feeding.Lists.{Pieces, no-more, piece, concat-all, derivative-all, sends-all, leaves-all, sends-pieces, concat-all-is-prefix, derivative-concat-all, sends-concat-all, leaves-concat-all, leaves-all-allowed}
-use Rattle.node.specs.PatchFiles.{node-bytes, patch-file-bytes}
-use Rattle.wosthile.specs.Answers.{check, left, join, FedFiles, feed, room-both, fed, front, after}
-use Rattle.wosthile.specs.Answers.Laws.{check-answers, left-answers, join-answers, fed-files, feed-of-patch, feed-answers, number-positive, room-both-enough, room-both-accepted}
+use Rattle.node.specs.PatchFiles.{node-bytes, patch-file-bytes, PatchFile}
+use Rattle.wosthile.specs.Answers.{check, left, join, FedFiles, feed, with-room, fits-both, fed, front, after}
+use Rattle.wosthile.specs.Answers.Laws.{check-answers, patch-checked, left-answers, join-answers, fed-files, feed-of-patch, feed-answers, number-positive, enough-room, room-accepted, both-fit}
 use Rattle.wosthile.specs.Promises.{FeedPromise, FedCall}
 use Rattle.wosthile.specs.Runs.{Call, ByteSlices, Run, Feed, takes, goes-on, run, Joins, alone, joined, first-section, sends-and-leaves, AsOne}
 
@@ -39,7 +39,7 @@ KeepsFeed f = (patch slice output left : List ℕ)
     → (let c = f patch slice output left in FeedPromise patch slice output left (c .answer) (c .output) (c .left))
 
 pub kept : (f : Feed) → KeepsFeed f → (patch slice output left : List ℕ)
-    → f patch slice output left ≡ call-of (room-both (length output) (length left) (feed patch slice)) output left
+    → f patch slice output left ≡ call-of (with-room (fits-both (length output) (length left)) (feed patch slice)) output left
 kept f k patch slice output left =
     let h = k patch slice output left in
     λ i. record { answer = h .answers i; output = h .output-buffer i; left = h .left-buffer i }
@@ -87,7 +87,7 @@ module _ (f : Feed) (keeps : KeepsFeed f) where
   traced {s} {t} {n} (c ∷ calls) a b =
       rw (kept f keeps (patch-file-bytes s n) (c .slice) (c .output) (c .left), feed-of-patch (c .slice) a)
       (go (traced calls a (b .1)) (λ p h. traced calls (leaves-allowed a h) (b .1))
-      (room-both (length (c .output)) (length (c .left)) (go-on (slice-file s (c .slice)) (λ p. accepted (fed-files s n p)))) refl)
+      (with-room (fits-both (length (c .output)) (length (c .left))) (go-on (slice-file s (c .slice)) (λ p. accepted (fed-files s n p)))) refl)
     where
       after : Prefix → List ℕ
       after p = patch-file-bytes (derivative s p) (leaves s n p)
@@ -101,12 +101,12 @@ module _ (f : Feed) (keeps : KeepsFeed f) where
       go : Traced s n (run f (patch-file-bytes s n) calls)
           → ((p : Prefix) → IsPrefix s p → Traced (derivative s p) (leaves s n p) (run f (after p) calls))
           → (o : Result FedFiles)
-          → room-both (length (c .output)) (length (c .left)) (go-on (slice-file s (c .slice)) (λ p. accepted (fed-files s n p))) ≡ o
+          → with-room (fits-both (length (c .output)) (length (c .left))) (go-on (slice-file s (c .slice)) (λ p. accepted (fed-files s n p))) ≡ o
           → Traced s n (goes-on (patch-file-bytes s n) (c .slice) (call-of o (c .output) (c .left)) (λ p. run f p calls))
       go same later (refused e) h = rw (refused-goes-on (patch-file-bytes s n) (c .slice) (c .output) (c .left) e (λ p. run f p calls)) same
       go same later (accepted w) h =
-          let x = room-both-accepted _ _ (go-on (slice-file s (c .slice)) (λ p. accepted (fed-files s n p))) w h in
-          let y = go-on-accepted (slice-file s (c .slice)) (λ p. accepted (fed-files s n p)) w x in
+          let x = room-accepted (fits-both (length (c .output)) (length (c .left))) (go-on (slice-file s (c .slice)) (λ p. accepted (fed-files s n p))) w h in
+          let y = go-on-accepted (slice-file s (c .slice)) (λ p. accepted (fed-files s n p)) w (x .0) in
           let z = slice-file-sound s (c .slice) (y .0) (b .0) (y .1) in
           let e : fed-files s n (y .0) ≡ w = let d = y .2 in cc in
           rw (accepted-goes-on (patch-file-bytes s n) (c .slice) (c .output) (c .left) w (λ p. run f p calls))
@@ -134,7 +134,20 @@ module _ (f : Feed) (keeps : KeepsFeed f) where
   unfolding fed after
   feed-exactly patch slice w output left e h k =
       kept f keeps patch slice output left
-      ∙ ap (λ o. call-of o output left) (ap (room-both (length output) (length left)) e ∙ room-both-enough (length output) (length left) w h k)
+      ∙ ap (λ o. call-of o output left) (enough-room (fits-both (length output) (length left)) (feed patch slice) e (both-fit w h k))
+
+  -- Fed a prefix, a patch file sends and leaves what the rules say.
+  pub feed-by-rules : {n′ : Node} {p o : Prefix} (file : List ℕ) (patch : PatchFile file) (output left : List ℕ)
+      → IsPrefix (patch .input) p → Feeds (patch .input) (patch .node) p o n′
+      → length (slice-file-bytes o) ≤ length output → length (patch-file-bytes (derivative (patch .input) p) n′) ≤ length left
+      → f file (slice-file-bytes p) output left
+      ≡ sends-and-leaves (slice-file-bytes o) (patch-file-bytes (derivative (patch .input) p) n′) output left
+  feed-by-rules {p = p} file patch output left h g i j =
+      let e = feeds-only g in
+      feed-exactly file (slice-file-bytes p) _ output left
+      (rw (patch .bytes) at (feed-answers (patch .allowed) h)
+      ∙ (λ k. accepted (record { output = slice-file-bytes (sym e.sent k); patch = patch-file-bytes (derivative (patch .input) p) (sym e.node k) })))
+      i j
 
   as-one-by : {s t : Ty} {n : Node} (r : Run) (ps : List Prefix) → Allowed s n t → Pieces s ps
       → r .patch ≡ patch-file-bytes (derivative-all s ps) (leaves-all s n ps) → r .slices ≡ map slice-file-bytes ps
@@ -183,3 +196,41 @@ module _ (f : Feed) (keeps : KeepsFeed f) where
       fed-joined =
           feed-answers a prefix
           ∙ (λ i. accepted (record { output = slice-file-bytes (sends-concat-all ps (a .types) h k i); patch = patches i }))
+
+  -- From any patch file, with any calls
+
+  module _ (start : List ℕ) (calls : List Call) (patch : PatchFile start) (slices : ByteSlices calls) where
+    trace : Traced (patch .input) (patch .node) (run f start calls)
+    trace = rw (patch .bytes) at (traced f keeps calls (patch .allowed) slices)
+
+    run-none : (run f start calls) .slices ≡ [] → (run f start calls) .patch ≡ start
+    unfolding derivative-all leaves-all
+    run-none e = go (trace .pieces) (sym (trace .slices) ∙ e) (trace .patch)
+      where
+        go : (ps : List Prefix) → map slice-file-bytes ps ≡ []
+            → (run f start calls) .patch ≡ patch-file-bytes (derivative-all (patch .input) ps) (leaves-all (patch .input) (patch .node) ps)
+            → (run f start calls) .patch ≡ start
+        go [] d h = h ∙ patch .bytes
+        go (p ∷ ps) d h = let z : _≡_ {A = ℕ} 0 1 = cc in absurd (omega arith)
+
+    run-as-one : 1 ≤ length ((run f start calls) .slices) → AsOne f start (run f start calls)
+    run-as-one h =
+        let t = trace in
+        rw (patch .bytes) at (as-one-by (run f start calls) (t .pieces) (patch .allowed) (t .are-pieces) (t .patch) (t .slices) (t .outputs) h)
+
+    pub run-patch : PatchFile ((run f start calls) .patch)
+    run-patch =
+        let t = trace in
+        record {
+          input = derivative-all (patch .input) (t .pieces);
+          node = leaves-all (patch .input) (patch .node) (t .pieces);
+          output = derivative-all (patch .output) (sends-all (patch .input) (patch .node) (t .pieces));
+          allowed = leaves-all-allowed (t .pieces) (patch .allowed) (t .are-pieces);
+          bytes = sym (t .patch)
+        }
+
+    pub run-holds :
+        (1 ≤ length ((run f start calls) .slices) → AsOne f start (run f start calls))
+        × ((run f start calls) .slices ≡ [] → (run f start calls) .patch ≡ start)
+        × IsAccepted (check ((run f start calls) .patch))
+    run-holds = (run-as-one, run-none, patch-checked run-patch)
