@@ -9,16 +9,16 @@ use lib.ListN.{length}
 use Rattle.stream.specs.Types.{Ty}
 use Rattle.stream.specs.Prefixes.{Prefix, IsPrefix, complete, derivative, concat}
 use Rattle.stream.specs.Reading.{Bytes, accepted, IsAccepted}
-use Rattle.stream.specs.TypeFiles.{type-file-bytes}
+use Rattle.stream.specs.TypeFiles.{type-file-bytes, TypeFile}
 use Rattle.stream.specs.SliceFiles.{slice-file-bytes, SliceFile}
 use Rattle.node.specs.Nodes.{Node, Small, Allowed}
 use Rattle.node.specs.Feeding.{Feeds, sends, leaves}
 use Rattle.node.specs.Feeding.Laws.{feeds}
 use Rattle.node.specs.PatchFiles.{patch-file-bytes, PatchFile}
 use Rattle.wosthile.specs.Answers.{check, admit, left, join, feed, with-room, fits-one, fits-both, admitted, as-number, front, patch-numbers, admit-numbers, feed-numbers}
-use Rattle.wosthile.specs.Answers.Laws.{check-refusals, admit-refusals, left-refusals, join-refusals, feed-refusals, check-accepted, feed-accepted, check-length, left-length, join-length, feed-lengths, fed-patch}
+use Rattle.wosthile.specs.Answers.Laws.{check-refusals, admit-refusals, left-refusals, join-refusals, feed-refusals, check-accepted, admit-accepted, admit-answers, feed-accepted, check-length, left-length, join-length, feed-lengths, fed-patch}
 use Rattle.wosthile.specs.Promises.{Operations, Keeps, Decided, TooShort}
-use Rattle.wosthile.specs.Promises.Laws.{writes-decided, admits-decided, feeds-decided, writes-twenty, feeds-twenty, writes-bounded, feeds-bounded, writes-zero, feeds-zero}
+use Rattle.wosthile.specs.Promises.Laws.{writes-decided, admits-decided, feeds-decided, writes-twenty, feeds-twenty, writes-bounded, feeds-bounded, writes-zero, feeds-zero, admits-zero, admits-complete}
 use Rattle.wosthile.specs.Runs.{Call, ByteSlices, Run, run, AsOne, sends-and-leaves}
 use Rattle.wosthile.specs.Runs.Laws.{feed-by-rules, run-patch, run-holds}
 
@@ -106,6 +106,14 @@ module _ (ops : Operations) (keeps : Keeps ops) where
   demand-2-slice file slice output left patch b h k =
       Iff·trans (feeds-zero file slice output left _ _ _ (keeps .feed file slice output left) (λ w e. feed-lengths slice w patch b e) h k)
       (feed-accepted slice patch b)
+
+  pub demand-2-admit : (type slice : List ℕ) → Bytes type → Bytes slice
+      → ops .admit type slice .number ≡ 0 ↔ ((t : TypeFile type) × SliceFile (t .type) slice)
+  demand-2-admit type slice b c = Iff·trans (admits-zero (admit type slice) _ (keeps .admit type slice)) (admit-accepted type slice b c)
+
+  pub demand-2-complete : {t : Ty} {p : Prefix} → Small t → IsPrefix t p
+      → ops .admit (type-file-bytes t) (slice-file-bytes p) ≡ record { number = 0; complete = as-number (complete p) }
+  demand-2-complete w h = admits-complete (admit _ _) _ (keeps .admit _ _) (admit-answers w h)
 
   -- Given long enough buffers, a feed sends the output and leaves the patch that those rules define."
 

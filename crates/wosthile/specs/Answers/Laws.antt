@@ -92,6 +92,33 @@ check-accepted patch b =
         patch-file-accepted patch b .0 (x .0, x .1))
     , (λ f. patch-checked f))
 
+-- A call on a type file and a slice file that is accepted: the files, and what was made of them.
+record TypeAndSlice {A : Type 0} (type slice : List ℕ) (f : Ty → Prefix → Result A) (a : A) : Type 0 where
+  typed : TypeFile type
+  sliced : SliceFile (typed .type) slice
+  made : f (typed .type) (sliced .prefix) ≡ accepted a
+
+type-and-slice : {A : Type 0} (type slice : List ℕ) (f : Ty → Prefix → Result A) (a : A) → Bytes type → Bytes slice
+    → go-on (type-file type) (λ t. go-on (slice-file t slice) (λ p. f t p)) ≡ accepted a → TypeAndSlice type slice f a
+type-and-slice type slice f a b c e =
+    let x = go-on-accepted (type-file type) (λ t. go-on (slice-file t slice) (λ p. f t p)) a e in
+    let y = go-on-accepted (slice-file (x .0) slice) (λ p. f (x .0) p) a (x .2) in
+    let t = type-file-sound type (x .0) b (x .1) in
+    let p = slice-file-sound (x .0) slice (y .0) c (y .1) in
+    record {
+      typed = record { type = x .0; small = t .1; bytes = t .0 };
+      sliced = record { prefix = y .0; is-prefix = p .1; bytes = p .0 };
+      made = y .2
+    }
+
+pub admit-accepted : (type slice : List ℕ) → Bytes type → Bytes slice
+    → IsAccepted (admit type slice) ↔ ((t : TypeFile type) × SliceFile (t .type) slice)
+unfolding admit
+admit-accepted type slice b c =
+    ((λ a. let x = type-and-slice type slice (λ t p. accepted (complete p)) (a .0) b c (a .1) in (x .typed, x .sliced))
+    , (λ x. let t = x .0 in let p = x .1 in
+        (complete (p .prefix), rw (t .bytes, p .bytes) at (admit-answers (t .small) (p .is-prefix)))))
+
 pub feed-accepted : {patch : List ℕ} (slice : List ℕ) (f : PatchFile patch) → Bytes slice → IsAccepted (feed patch slice) ↔ SliceFile (f .input) slice
 feed-accepted slice f b = rw (← f .bytes) (go (f .input) (f .node) (f .output) (f .allowed))
   where
@@ -173,33 +200,14 @@ check-length patch file b e =
     let d : type-file-bytes (x .0 .output) ≡ file = let y = x .2 in cc in
     rw (← d) (type-file-length (x .0 .output) (output-small (a .types) (a .fits)))
 
--- A call on a type file and a slice file that is accepted: the trees, and what was made of them.
-record TypeAndSlice {A : Type 0} (f : Ty → Prefix → Result A) (a : A) : Type 0 where
-  t : Ty
-  p : Prefix
-  small : Small t
-  is-prefix : IsPrefix t p
-  made : f t p ≡ accepted a
-
-type-and-slice : {A : Type 0} (type slice : List ℕ) (f : Ty → Prefix → Result A) (a : A) → Bytes type → Bytes slice
-    → go-on (type-file type) (λ t. go-on (slice-file t slice) (λ p. f t p)) ≡ accepted a → TypeAndSlice f a
-type-and-slice type slice f a b c e =
-    let x = go-on-accepted (type-file type) (λ t. go-on (slice-file t slice) (λ p. f t p)) a e in
-    let y = go-on-accepted (slice-file (x .0) slice) (λ p. f (x .0) p) a (x .2) in
-    record {
-      t = x .0;
-      p = y .0;
-      small = type-file-sound type (x .0) b (x .1) .1;
-      is-prefix = slice-file-sound (x .0) slice (y .0) c (y .1) .1;
-      made = y .2
-    }
-
 pub left-length : (type slice file : List ℕ) → Bytes type → Bytes slice → left type slice ≡ accepted file → length file ≤ 257
 unfolding left
 left-length type slice file b c e =
     let x = type-and-slice type slice (λ t p. accepted (type-file-bytes (derivative t p))) file b c e in
-    let d : type-file-bytes (derivative (x .t) (x .p)) ≡ file = let z = x .made in cc in
-    rw (← d) (type-file-length (derivative (x .t) (x .p)) (le-trans (derivative-size (x .is-prefix)) (x .small)))
+    let t = x .typed .type in
+    let p = x .sliced .prefix in
+    let d : type-file-bytes (derivative t p) ≡ file = let z = x .made in cc in
+    rw (← d) (type-file-length (derivative t p) (le-trans (derivative-size (x .sliced .is-prefix)) (x .typed .small)))
 
 joined-length : {t : Ty} {p : Prefix} (second file : List ℕ) → Small t → IsPrefix t p → Bytes second
     → go-on (slice-file (derivative t p) second) (λ q. accepted (slice-file-bytes (concat p q))) ≡ accepted file → length file ≤ 513
@@ -213,7 +221,7 @@ pub join-length : (type first second file : List ℕ) → Bytes type → Bytes f
 unfolding join
 join-length type first second file b c o e =
     let x = type-and-slice type first (λ t p. go-on (slice-file (derivative t p) second) (λ q. accepted (slice-file-bytes (concat p q)))) file b c e in
-    joined-length second file (x .small) (x .is-prefix) o (x .made)
+    joined-length second file (x .typed .small) (x .sliced .is-prefix) o (x .made)
 
 pub record FedLengths (w : FedFiles) : Type 0 where
   pub output : length (w .output) ≤ 513

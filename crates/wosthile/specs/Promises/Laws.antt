@@ -18,7 +18,7 @@ use Rattle.stream.specs.Reading.Refusals.{Refusals}
 use Rattle.wosthile.specs.declared.Written.{Written}
 use Rattle.wosthile.specs.declared.Admitted.{Admitted}
 use Rattle.wosthile.specs.declared.Fed.{Fed}
-use Rattle.wosthile.specs.Answers.{with-room, number-of, value-of, after, contains, Listed, fits-one, fits-both, written, admitted, fed, FedFiles, feed}
+use Rattle.wosthile.specs.Answers.{with-room, number-of, value-of, as-number, after, contains, Listed, fits-one, fits-both, written, admitted, fed, FedFiles, feed}
 use Rattle.wosthile.specs.Answers.Laws.{number-positive, enough-room, room-accepted, room-refusals, both-fit, FedLengths}
 use Rattle.wosthile.specs.Promises.{Writes, FeedPromise, Decided, is-accepted, is-refused, TooShort}
 
@@ -50,7 +50,7 @@ unfolding after
 unaltered file o lent l e h d = h ∙ ap (λ r. after file r lent) d
 
 -- The number is 0 exactly for what is accepted.
-pub zero-accepted : {A : Type 0} (o : Result A) → number-of o ≡ 0 ↔ IsAccepted o
+zero-accepted : {A : Type 0} (o : Result A) → number-of o ≡ 0 ↔ IsAccepted o
 zero-accepted (accepted a) = ((λ h. (a, refl)), (λ h. refl))
 zero-accepted (refused e) =
     ((λ h. absurd (omega (arith, number-positive e)))
@@ -159,3 +159,12 @@ pub admits-decided : (o : Result Bool) (answer : Admitted) (ns : List ℕ) → R
     → Decided o ns (answer .number) [] []
 unfolding admitted
 admits-decided o answer ns r e = decided ns (answer .number) [] [] o r (ap (λ (a : Admitted). a .number) e) (λ x h. refl)
+
+pub admits-zero : (o : Result Bool) (answer : Admitted) → answer ≡ admitted o → answer .number ≡ 0 ↔ IsAccepted o
+unfolding admitted
+admits-zero o answer e = rw (ap (λ (a : Admitted). a .number) e) (zero-accepted o)
+
+pub admits-complete : {b : Bool} (o : Result Bool) (answer : Admitted) → answer ≡ admitted o → o ≡ accepted b
+    → answer ≡ record { number = 0; complete = as-number b }
+unfolding admitted
+admits-complete o answer e d = e ∙ ap admitted d
