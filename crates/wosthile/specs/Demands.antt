@@ -6,8 +6,8 @@ use mathlib.Core.Logic.{_↔_, Iff·trans}
 use mathlib.Core.List.{List, [], _∷_}
 use Prim.Native.Nat.{ℕ, _≤_}
 use lib.ListN.{length}
-use Rattle.stream.specs.Types.{Ty}
-use Rattle.stream.specs.Prefixes.{Prefix, IsPrefix, complete, derivative, concat}
+use Rattle.stream.specs.Types.{Ty, par}
+use Rattle.stream.specs.Prefixes.{Prefix, beside, IsPrefix, complete, empty-prefix, derivative}
 use Rattle.stream.specs.Reading.{Bytes, accepted, IsAccepted}
 use Rattle.stream.specs.TypeFiles.{type-file-bytes, TypeFile}
 use Rattle.stream.specs.SliceFiles.{slice-file-bytes, SliceFile}
@@ -16,11 +16,11 @@ use Rattle.node.specs.Feeding.{Feeds, sends, leaves}
 use Rattle.node.specs.Feeding.Laws.{feeds}
 use Rattle.node.specs.PatchFiles.{patch-file-bytes, PatchFile}
 use Rattle.wosthile.specs.Answers.{check, admit, left, join, feed, with-room, fits-one, fits-both, admitted, as-number, front, patch-numbers, admit-numbers, feed-numbers}
-use Rattle.wosthile.specs.Answers.Laws.{check-refusals, admit-refusals, left-refusals, join-refusals, feed-refusals, check-accepted, admit-accepted, admit-answers, feed-accepted, check-length, left-length, join-length, feed-lengths, fed-patch}
+use Rattle.wosthile.specs.Answers.Laws.{lanes-join, check-refusals, admit-refusals, left-refusals, join-refusals, feed-refusals, check-accepted, admit-accepted, admit-answers, feed-accepted, check-length, left-length, join-length, feed-lengths, fed-patch}
 use Rattle.wosthile.specs.Promises.{Operations, Keeps, Decided, TooShort}
 use Rattle.wosthile.specs.Promises.Laws.{writes-decided, admits-decided, feeds-decided, writes-twenty, feeds-twenty, writes-bounded, feeds-bounded, writes-zero, feeds-zero, admits-zero, admits-complete}
 use Rattle.wosthile.specs.Runs.{Call, ByteSlices, Run, run, AsOne, sends-and-leaves}
-use Rattle.wosthile.specs.Runs.Laws.{feed-by-rules, run-patch, run-holds}
+use Rattle.wosthile.specs.Runs.Laws.{feed-by-rules, run-patch, run-holds, same-stream}
 
 module _ (ops : Operations) (keeps : Keeps ops) where
 
@@ -161,3 +161,19 @@ module _ (ops : Operations) (keeps : Keeps ops) where
       → (let r = run (ops .feed) start calls in
         (1 ≤ length (r .slices) → AsOne (ops .feed) start r) × (r .slices ≡ [] → r .patch ≡ start) × IsAccepted (check (r .patch)))
   demand-3 start calls b a c = run-holds (ops .feed) (keeps .feed) start calls (check-accepted start b .0 a) c
+
+  -- So the cut of the stream does not change the show: two runs from one start whose accepted slices join to the same slice leave
+  -- the same patch, and their outputs join to the same output.
+  pub cut-free : {start : List ℕ} {r q : Run} (a : AsOne (ops .feed) start r) (b : AsOne (ops .feed) start q) → a .slice ≡ b .slice
+      → (r .patch ≡ q .patch) × (a .output ≡ b .output)
+  cut-free a b e = same-stream a b e
+
+-- Nor does the order in which two lanes side by side arrive (the source's Theorem 3.4, "Determinism"): the slice of one and then
+-- that of the other join to the same slice either way.
+pub order-free : {s t : Ty} {p q : Prefix} → Small (par s t) → IsPrefix s p → IsPrefix t q
+    → (let type = type-file-bytes (par s t) in
+      (join type (slice-file-bytes (beside p (empty-prefix t))) (slice-file-bytes (beside (empty-prefix (derivative s p)) q))
+        ≡ accepted (slice-file-bytes (beside p q)))
+      × (join type (slice-file-bytes (beside (empty-prefix s) q)) (slice-file-bytes (beside p (empty-prefix (derivative t q))))
+        ≡ accepted (slice-file-bytes (beside p q))))
+order-free w h k = lanes-join w h k

@@ -172,3 +172,24 @@ concat-assoc q r (of-first h) (of-first k) (of-crossed {q = x} l d m) = ap (λ b
 concat-assoc q r (of-first h) (of-crossed i d k) l = refl
 concat-assoc q r (of-crossed {b = b} h d i) k l = ap (crossed b) (concat-assoc q r i k l)
 concat-assoc q r (of-beside h i) (of-beside k l) (of-beside m o) = ap₂ beside (concat-assoc _ _ h k m) (concat-assoc _ _ i l o)
+
+-- Two lanes side by side: which of them comes first does not matter (the source's Theorem 3.4).
+
+module _ {s t : Ty} {p q : Prefix} (h : IsPrefix s p) (k : IsPrefix t q) where
+  pub left-lane-first : concat (beside p (empty-prefix t)) (beside (empty-prefix (derivative s p)) q) ≡ beside p q
+  unfolding concat
+  left-lane-first = ap₂ beside (concat-empty-right h) (concat-empty-left k)
+
+  pub right-lane-first : concat (beside (empty-prefix s) q) (beside p (empty-prefix (derivative t q))) ≡ beside p q
+  unfolding concat
+  right-lane-first = ap₂ beside (concat-empty-left h) (concat-empty-right k)
+
+  -- The second of each pair is a prefix of what the first leaves.
+
+  pub right-lane-after : IsPrefix (derivative (par s t) (beside p (empty-prefix t))) (beside (empty-prefix (derivative s p)) q)
+  unfolding derivative
+  right-lane-after = of-beside (empty-prefix-is-prefix (derivative s p)) (rw (← derivative-empty t) at k)
+
+  pub left-lane-after : IsPrefix (derivative (par s t) (beside (empty-prefix s) q)) (beside p (empty-prefix (derivative t q)))
+  unfolding derivative
+  left-lane-after = of-beside (rw (← derivative-empty s) at h) (empty-prefix-is-prefix (derivative t q))

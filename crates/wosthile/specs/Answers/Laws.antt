@@ -12,10 +12,10 @@ use borrow.Author.Tests.{le-leb, leb-true, leb-false}
 use Rattle.stream.specs.declared.Fault.{Fault}
 use Rattle.stream.specs.declared.Fault.the-variants.{CutShort, Unlisted, LeftOver, TypeTooLarge, TooManyNodes, NotNullable, WrongShape, SliceCutShort, SliceUnlisted, SliceLeftOver, SliceMisplaced, NoRoom}
 use Rattle.stream.specs.Faults.{number}
-use Rattle.stream.specs.Types.{Ty, size, type-limit}
+use Rattle.stream.specs.Types.{Ty, par}
 use Rattle.stream.specs.Types.Laws.{and-both}
-use Rattle.stream.specs.Prefixes.{Prefix, IsPrefix, complete, derivative, concat}
-use Rattle.stream.specs.Prefixes.Laws.{derivative-size, concat-is-prefix}
+use Rattle.stream.specs.Prefixes.{Prefix, beside, IsPrefix, of-beside, complete, empty-prefix, derivative, concat}
+use Rattle.stream.specs.Prefixes.Laws.{derivative-size, concat-is-prefix, empty-prefix-is-prefix, left-lane-first, right-lane-first, right-lane-after, left-lane-after}
 use Rattle.stream.specs.Reading.{Bytes, Result, accepted, refused, IsAccepted, go-on, require}
 use Rattle.stream.specs.Reading.Laws.{go-on-accepted, require-accepted}
 use Rattle.stream.specs.Reading.Refusals.{Refusals, go-on-refusals, require-refusals}
@@ -66,6 +66,17 @@ pub join-answers : {t : Ty} {p : Prefix} (q : Prefix) → Small t → IsPrefix t
 unfolding join
 join-answers {t} q w h k =
     rw (type-file-complete t w) (rw (slice-file-complete h w) (rw (slice-file-complete k (le-trans (derivative-size h) w))))
+
+-- Two lanes side by side join to the same slice, whichever comes first.
+pub lanes-join : {s t : Ty} {p q : Prefix} → Small (par s t) → IsPrefix s p → IsPrefix t q
+    → (let type = type-file-bytes (par s t) in
+      (join type (slice-file-bytes (beside p (empty-prefix t))) (slice-file-bytes (beside (empty-prefix (derivative s p)) q))
+        ≡ accepted (slice-file-bytes (beside p q)))
+      × (join type (slice-file-bytes (beside (empty-prefix s) q)) (slice-file-bytes (beside p (empty-prefix (derivative t q))))
+        ≡ accepted (slice-file-bytes (beside p q))))
+lanes-join {s} {t} w h k =
+    (join-answers _ w (of-beside h (empty-prefix-is-prefix t)) (right-lane-after h k) ∙ ap (λ x. accepted (slice-file-bytes x)) (left-lane-first h k)
+    , join-answers _ w (of-beside (empty-prefix-is-prefix s) k) (left-lane-after h k) ∙ ap (λ x. accepted (slice-file-bytes x)) (right-lane-first h k))
 
 -- Feed on an allowed patch is decided by the slice.
 abbrev pub fed-files : Ty → Node → Prefix → FedFiles

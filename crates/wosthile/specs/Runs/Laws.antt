@@ -6,7 +6,7 @@ use Prim.Native.Nat.{ℕ, suc, _+_, _*_, _/_, _%_, _≤_}
 use native.Mathlib.Omega.{arith}
 use native.Mathlib.Nat.{le-trans}
 use lib.Dec.{leb, eqb}
-use lib.ListN.{length, take, drop}
+use lib.ListN.{length, take, drop, length-append}
 use lib.Seq.{take-append-seam}
 use borrow.Author.Tests.{ne-eqb}
 use Rattle.stream.specs.declared.Fault.{Fault}
@@ -234,3 +234,26 @@ module _ (f : Feed) (keeps : KeepsFeed f) where
         × ((run f start calls) .slices ≡ [] → (run f start calls) .patch ≡ start)
         × IsAccepted (check ((run f start calls) .patch))
     run-holds = (run-as-one, run-none, patch-checked run-patch)
+
+-- Two runs of the same stream, however it is cut, leave the same patch and send the same joined output.
+
+same-front : (x y lent : List ℕ) → length x ≡ length y → front x lent ≡ front y lent → x ≡ y
+same-front x y lent n e =
+    sym (take-append-seam x (drop (length x) lent)) ∙ ap (take (length x)) e
+    ∙ rw n (take-append-seam y (drop (length y) lent))
+
+pub same-stream : {f : Feed} {start : List ℕ} {r q : Run} (a : AsOne f start r) (b : AsOne f start q) → a .slice ≡ b .slice
+    → (r .patch ≡ q .patch) × (a .output ≡ b .output)
+same-stream {f} {start} {r} {q} a b e =
+    (same-front (r .patch) (q .patch) _ (ap (λ (c : FedCall). c .answer .patch) both) (ap (λ (c : FedCall). c .left) both)
+    , same-front (a .output) (b .output) _ (ap (λ (c : FedCall). c .answer .output) both) (ap (λ (c : FedCall). c .output) both))
+  where
+    -- Both fed as one, with buffers that hold either answer.
+    both : sends-and-leaves (a .output) (r .patch) (a .output ++ b .output) (r .patch ++ q .patch)
+        ≡ sends-and-leaves (b .output) (q .patch) (a .output ++ b .output) (r .patch ++ q .patch)
+    both =
+        let m = length-append (a .output) (b .output) in
+        let n = length-append (r .patch) (q .patch) in
+        sym (a .fed-as-one (a .output ++ b .output) (r .patch ++ q .patch) (omega arith) (omega arith))
+        ∙ ap (λ s. f start s (a .output ++ b .output) (r .patch ++ q .patch)) e
+        ∙ b .fed-as-one (a .output ++ b .output) (r .patch ++ q .patch) (omega arith) (omega arith)
