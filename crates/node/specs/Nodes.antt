@@ -6,21 +6,21 @@ use Rattle.stream.specs.Levels.{level-limit}
 pub mod Laws
 
 pub data Node : Type 0 where
-  pass : Node -- 0
-  silent : Ty → Node -- 1, and a nullable type
-  emit-cue : Node -- 2, document 01's cue
-  emit-level : ℕ → Node -- 3, document 01's level, and its value
-  both : Node → Node → Node -- 4
-  left : Node -- 5
-  right : Node -- 6
-  first : Node -- 7
-  second : Node -- 8
-  then : Node → Node → Node -- 9
-  chain : Node → Node → Node -- 10, the source's cut
-  regroup-right : Node -- 11
-  regroup-left : Node -- 12
-  spread : Node -- 13
-  front : Node -- 14
+  pass : Node  -- 0
+  silent : Ty → Node  -- 1, and a nullable type
+  emit-cue : Node  -- 2, document 01's cue
+  emit-level : ℕ → Node  -- 3, document 01's level, and its value
+  both : Node → Node → Node  -- 4
+  left : Node  -- 5
+  right : Node  -- 6
+  first : Node  -- 7
+  second : Node  -- 8
+  then : Node → Node → Node  -- 9
+  chain : Node → Node → Node  -- 10, the source's cut
+  regroup-right : Node  -- 11
+  regroup-left : Node  -- 12
+  spread : Node  -- 13
+  front : Node  -- 14
 
 -- "Each node takes an input type to an output type": Types s n t says that n takes s to t.
 pub data Types : Ty → Node → Ty → Type 0 where

@@ -11,7 +11,7 @@ use Rattle.stream.specs.declared.Fault.the-variants.{CutShort, Unlisted,
 use Rattle.stream.specs.declared.types.TreeEnd.the-variants.{At, Failed}
 use Rattle.stream.specs.Types.{Ty, empty, cue, level, seq, par, type-limit}
 use Rattle.stream.specs.Reading.{Reading, read, fault, Root, forest}
-use Rattle.stream.specs.Reading.Laws.{every}
+use Rattle.stream.specs.Reading.Laws.{_&_, past, every}
 use Rattle.stream.specs.Reading.Walking.{rest-of, Owes, ahead-same, stopped-same, spent-same, done, MakesOne, leaf-makes, two-makes, tree-rest}
 use Rattle.stream.specs.TypeFiles.{type-kinds, type-root, read-type}
 use Rattle.stream.specs.TypeReads.{end-of}
@@ -25,7 +25,7 @@ unfolding type-root
 makes-one w [] = tt
 makes-one w (k ∷ s) =
     every (λ j f. MakesOne (f s)) (λ r. fault Unlisted) type-kinds
-    (leaf-makes w empty s, (leaf-makes w cue s, (leaf-makes w level s, (two-makes seq w w s, (two-makes par w w s, λ j h. tt))))) k
+    (leaf-makes w empty s & leaf-makes w cue s & leaf-makes w level s & two-makes seq w w s & two-makes par w w s & past (λ j h. tt)) k
 
 leaf-owes : (k : ℕ) (s : List ℕ) → k ≤ 2 → Owes tt 0 s (kind-root k s)
 leaf-owes zero s h = (_, refl, refl)

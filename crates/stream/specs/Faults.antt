@@ -4,15 +4,15 @@ use Rattle.stream.specs.declared.Fault.{Fault}
 use Rattle.stream.specs.declared.Fault.the-variants.{CutShort, Unlisted, LeftOver, TypeTooLarge, TooManyNodes, NotNullable, WrongShape, SliceCutShort, SliceUnlisted, SliceLeftOver, SliceMisplaced, NoRoom}
 
 abbrev pub number : Fault → ℕ
-number CutShort = 1 -- a section is longer than the bytes remain, or a tree needs a byte past its section
-number Unlisted = 2 -- a kind byte not listed
-number LeftOver = 3 -- bytes after a whole tree in its section, or after the last section
-number TypeTooLarge = 4 -- a type needs a 256th node
-number TooManyNodes = 5 -- a 64th node is needed
-number NotNullable = 6 -- silent's type is not nullable
-number WrongShape = 7 -- a node's input lacks the shape it takes
-number SliceCutShort = 11 -- a slice cut short
-number SliceUnlisted = 12 -- a slice's kind above 7
-number SliceLeftOver = 13 -- bytes left over after a slice
-number SliceMisplaced = 14 -- a slice's kind that does not belong there
-number NoRoom = 20 -- a lent buffer is too short for the answer
+number CutShort = 1  -- a section is longer than the bytes remain, or a tree needs a byte past its section
+number Unlisted = 2  -- a kind byte not listed
+number LeftOver = 3  -- bytes after a whole tree in its section, or after the last section
+number TypeTooLarge = 4  -- a type needs a 256th node
+number TooManyNodes = 5  -- a 64th node is needed
+number NotNullable = 6  -- silent's type is not nullable
+number WrongShape = 7  -- a node's input lacks the shape it takes
+number SliceCutShort = 11  -- a slice cut short
+number SliceUnlisted = 12  -- a slice's kind above 7
+number SliceLeftOver = 13  -- bytes left over after a slice
+number SliceMisplaced = 14  -- a slice's kind that does not belong there
+number NoRoom = 20  -- a lent buffer is too short for the answer

@@ -6,14 +6,14 @@ use Rattle.stream.specs.Types.{Ty, empty, cue, level, seq, par, first-pa
 pub mod Laws
 
 pub data Prefix : Type 0 where
-  nothing : Prefix -- 0, of the empty type
-  cue-awaited : Prefix -- 1, not yet
-  cue-come : Prefix -- 2, come
-  level-awaited : Prefix -- 3, not yet
-  level-come : ℕ → Prefix -- 4, come, and the value
-  in-first : Prefix → Prefix -- 5, a sequence whose first part is still coming
-  crossed : Prefix → Prefix → Prefix -- 6, the complete first part, then a prefix of the second
-  beside : Prefix → Prefix → Prefix -- 7, both sides
+  nothing : Prefix  -- 0, of the empty type
+  cue-awaited : Prefix  -- 1, not yet
+  cue-come : Prefix  -- 2, come
+  level-awaited : Prefix  -- 3, not yet
+  level-come : ℕ → Prefix  -- 4, come, and the value
+  in-first : Prefix → Prefix  -- 5, a sequence whose first part is still coming
+  crossed : Prefix → Prefix → Prefix  -- 6, the complete first part, then a prefix of the second
+  beside : Prefix → Prefix → Prefix  -- 7, both sides
 
 -- "Complete means: 0, 2, 4, a 6 whose second is complete, a 7 with both complete." (The source's maximal prefix.)
 pub data Complete : Prefix → Type 0 where

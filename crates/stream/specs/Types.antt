@@ -5,11 +5,11 @@ use lib.Dec.{eqb}
 pub mod Laws
 
 pub data Ty : Type 0 where
-  empty : Ty -- 0, the source's unit type 1
-  cue : Ty -- 1
-  level : Ty -- 2
-  seq : Ty → Ty → Ty -- 3, sequence: one part after the other (the source's s · t)
-  par : Ty → Ty → Ty -- 4, side by side (the source's s ∥ t)
+  empty : Ty  -- 0, the source's unit type 1
+  cue : Ty  -- 1
+  level : Ty  -- 2
+  seq : Ty → Ty → Ty  -- 3, sequence: one part after the other (the source's s · t)
+  par : Ty → Ty → Ty  -- 4, side by side (the source's s ∥ t)
 
 -- "A type is nullable if it is 0, or 4 with both parts nullable. Sequence is never nullable."
 pub data Nullable : Ty → Type 0 where

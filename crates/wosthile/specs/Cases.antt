@@ -69,22 +69,22 @@ refuses n = record { number = n; files = [] }
 
 abbrev answers : List Answer
 answers =
-    sent (7 ∷ 3 ∷ 2 ∷ []) (4 ∷ 0 ∷ 2 ∷ []) (4 ∷ 6 ∷ 5 ∷ []) -- 1
-    ∷ sent (6 ∷ 2 ∷ 1 ∷ []) (1 ∷ []) (10 ∷ 0 ∷ 0 ∷ []) -- 2
-    ∷ sent (2 ∷ []) (0 ∷ []) (10 ∷ 0 ∷ 0 ∷ []) -- 2, then slice 2
-    ∷ sent (6 ∷ 2 ∷ 2 ∷ []) (0 ∷ []) (10 ∷ 0 ∷ 0 ∷ []) -- 3
-    ∷ sent (2 ∷ []) (3 ∷ 0 ∷ 1 ∷ []) (7 ∷ []) -- 4
-    ∷ sent (2 ∷ []) (1 ∷ []) (1 ∷ 0 ∷ []) -- 4, from the same start
-    ∷ sent (7 ∷ 5 ∷ 2 ∷ 5 ∷ 2 ∷ []) (3 ∷ 0 ∷ 4 ∷ 1 ∷ 1 ∷ []) (13 ∷ []) -- 5
-    ∷ sent (7 ∷ 6 ∷ 2 ∷ 2 ∷ 6 ∷ 2 ∷ 1 ∷ []) (4 ∷ 0 ∷ 1 ∷ []) (0 ∷ []) -- 5, from the same start
-    ∷ sent (6 ∷ 2 ∷ 5 ∷ 1 ∷ []) (3 ∷ 1 ∷ 1 ∷ []) (0 ∷ []) -- 6
-    ∷ refuses 14 -- 7
-    ∷ wrote (6 ∷ 2 ∷ 1 ∷ []) -- 7, joining
-    ∷ sent (0 ∷ []) (0 ∷ []) (0 ∷ []) -- 8
-    ∷ sent (2 ∷ []) (1 ∷ []) (1 ∷ 0 ∷ []) -- 8, node 2
-    ∷ refuses 7 -- 9
-    ∷ refuses 6 -- 9, silent 3 0 0
-    ∷ wrote (4 ∷ 0 ∷ 0 ∷ []) -- 9, silent 4 0 0
+    sent (7 ∷ 3 ∷ 2 ∷ []) (4 ∷ 0 ∷ 2 ∷ []) (4 ∷ 6 ∷ 5 ∷ [])  -- 1
+    ∷ sent (6 ∷ 2 ∷ 1 ∷ []) (1 ∷ []) (10 ∷ 0 ∷ 0 ∷ [])  -- 2
+    ∷ sent (2 ∷ []) (0 ∷ []) (10 ∷ 0 ∷ 0 ∷ [])  -- 2, then slice 2
+    ∷ sent (6 ∷ 2 ∷ 2 ∷ []) (0 ∷ []) (10 ∷ 0 ∷ 0 ∷ [])  -- 3
+    ∷ sent (2 ∷ []) (3 ∷ 0 ∷ 1 ∷ []) (7 ∷ [])  -- 4
+    ∷ sent (2 ∷ []) (1 ∷ []) (1 ∷ 0 ∷ [])  -- 4, from the same start
+    ∷ sent (7 ∷ 5 ∷ 2 ∷ 5 ∷ 2 ∷ []) (3 ∷ 0 ∷ 4 ∷ 1 ∷ 1 ∷ []) (13 ∷ [])  -- 5
+    ∷ sent (7 ∷ 6 ∷ 2 ∷ 2 ∷ 6 ∷ 2 ∷ 1 ∷ []) (4 ∷ 0 ∷ 1 ∷ []) (0 ∷ [])  -- 5, from the same start
+    ∷ sent (6 ∷ 2 ∷ 5 ∷ 1 ∷ []) (3 ∷ 1 ∷ 1 ∷ []) (0 ∷ [])  -- 6
+    ∷ refuses 14  -- 7
+    ∷ wrote (6 ∷ 2 ∷ 1 ∷ [])  -- 7, joining
+    ∷ sent (0 ∷ []) (0 ∷ []) (0 ∷ [])  -- 8
+    ∷ sent (2 ∷ []) (1 ∷ []) (1 ∷ 0 ∷ [])  -- 8, node 2
+    ∷ refuses 7  -- 9
+    ∷ refuses 6  -- 9, silent 3 0 0
+    ∷ wrote (4 ∷ 0 ∷ 0 ∷ [])  -- 9, silent 4 0 0
     ∷ []
 
 pub cases : map answer questions ≡ answers

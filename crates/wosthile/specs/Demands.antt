@@ -23,13 +23,12 @@ use Rattle.wosthile.specs.Runs.{Call, ByteSlices, Run, run, AsOne, sends
 use Rattle.wosthile.specs.Runs.Laws.{feed-by-rules, run-patch, run-holds, same-stream}
 
 module _ (ops : Operations) (keeps : Keeps ops) where
-
   -- Demand 1. "A patch, type or slice handed in, whatever its bytes and length, is accepted or is refused with the number that
   -- document 01 gives for its first fault .. and a refused one alters no byte of a lent buffer."
 
   pub demand-1-check : (patch lent : List ℕ)
       → (let c = ops .check patch lent in
-        Decided (with-room (fits-one (length lent)) (check patch)) (20 ∷ patch-numbers) (c .answer .number) (lent ∷ []) (c .lent ∷ []))
+      Decided (with-room (fits-one (length lent)) (check patch)) (20 ∷ patch-numbers) (c .answer .number) (lent ∷ []) (c .lent ∷ []))
   demand-1-check patch lent = writes-decided (check patch) lent _ _ (keeps .check patch lent) patch-numbers (check-refusals patch)
 
   pub demand-1-admit : (type slice : List ℕ) → Decided (admit type slice) admit-numbers (ops .admit type slice .number) [] []
@@ -37,20 +36,20 @@ module _ (ops : Operations) (keeps : Keeps ops) where
 
   pub demand-1-left : (type slice lent : List ℕ)
       → (let c = ops .left type slice lent in
-        Decided (with-room (fits-one (length lent)) (left type slice)) (20 ∷ admit-numbers) (c .answer .number) (lent ∷ []) (c .lent ∷ []))
+      Decided (with-room (fits-one (length lent)) (left type slice)) (20 ∷ admit-numbers) (c .answer .number) (lent ∷ []) (c .lent ∷ []))
   demand-1-left type slice lent =
       writes-decided (left type slice) lent _ _ (keeps .left type slice lent) admit-numbers (left-refusals type slice)
 
   pub demand-1-join : (type first second lent : List ℕ)
       → (let c = ops .join type first second lent in
-        Decided (with-room (fits-one (length lent)) (join type first second)) (20 ∷ admit-numbers) (c .answer .number) (lent ∷ []) (c .lent ∷ []))
+      Decided (with-room (fits-one (length lent)) (join type first second)) (20 ∷ admit-numbers) (c .answer .number) (lent ∷ []) (c .lent ∷ []))
   demand-1-join type first second lent =
       writes-decided (join type first second) lent _ _ (keeps .join type first second lent) admit-numbers (join-refusals type first second)
 
   pub demand-1-feed : (patch slice output left : List ℕ)
       → (let c = ops .feed patch slice output left in
-        Decided (with-room (fits-both (length output) (length left)) (feed patch slice)) (20 ∷ feed-numbers) (c .answer .number)
-        (output ∷ left ∷ []) (c .output ∷ c .left ∷ []))
+      Decided (with-room (fits-both (length output) (length left)) (feed patch slice)) (20 ∷ feed-numbers) (c .answer .number)
+      (output ∷ left ∷ []) (c .output ∷ c .left ∷ []))
   demand-1-feed patch slice output left =
       feeds-decided patch slice output left _ _ _ (keeps .feed patch slice output left) feed-numbers (feed-refusals patch slice)
 
@@ -143,10 +142,10 @@ module _ (ops : Operations) (keeps : Keeps ops) where
   pub demand-2-left-feed : {n′ : Node} {p o : Prefix} (start : List ℕ) (calls : List Call) (patch : PatchFile start) (b : ByteSlices calls)
       (output left : List ℕ)
       → (let q = demand-2-left start calls patch b in
-        IsPrefix (q .input) p → Feeds (q .input) (q .node) p o n′
-        → length (slice-file-bytes o) ≤ length output → length (patch-file-bytes (derivative (q .input) p) n′) ≤ length left
-        → ops .feed (run (ops .feed) start calls .patch) (slice-file-bytes p) output left
-        ≡ sends-and-leaves (slice-file-bytes o) (patch-file-bytes (derivative (q .input) p) n′) output left)
+      IsPrefix (q .input) p → Feeds (q .input) (q .node) p o n′
+      → length (slice-file-bytes o) ≤ length output → length (patch-file-bytes (derivative (q .input) p) n′) ≤ length left
+      → ops .feed (run (ops .feed) start calls .patch) (slice-file-bytes p) output left
+      ≡ sends-and-leaves (slice-file-bytes o) (patch-file-bytes (derivative (q .input) p) n′) output left)
   demand-2-left-feed start calls patch b output left = demand-2-feed _ output left (demand-2-left start calls patch b)
 
   -- Demand 3. "Take any accepted patch and any list of feeds from it, refused feeds included, whatever slices and buffers they are
@@ -159,7 +158,7 @@ module _ (ops : Operations) (keeps : Keeps ops) where
 
   pub demand-3 : (start : List ℕ) (calls : List Call) → Bytes start → IsAccepted (check start) → ByteSlices calls
       → (let r = run (ops .feed) start calls in
-        (1 ≤ length (r .slices) → AsOne (ops .feed) start r) × (r .slices ≡ [] → r .patch ≡ start) × IsAccepted (check (r .patch)))
+      (1 ≤ length (r .slices) → AsOne (ops .feed) start r) × (r .slices ≡ [] → r .patch ≡ start) × IsAccepted (check (r .patch)))
   demand-3 start calls b a c = run-holds (ops .feed) (keeps .feed) start calls (check-accepted start b .0 a) c
 
   -- So the cut of the stream does not change the show: two runs from one start whose accepted slices join to the same slice leave
@@ -172,8 +171,8 @@ module _ (ops : Operations) (keeps : Keeps ops) where
 -- that of the other join to the same slice either way.
 pub order-free : {s t : Ty} {p q : Prefix} → Small (par s t) → IsPrefix s p → IsPrefix t q
     → (let type = type-file-bytes (par s t) in
-      (join type (slice-file-bytes (beside p (empty-prefix t))) (slice-file-bytes (beside (empty-prefix (derivative s p)) q))
-        ≡ accepted (slice-file-bytes (beside p q)))
-      × (join type (slice-file-bytes (beside (empty-prefix s) q)) (slice-file-bytes (beside p (empty-prefix (derivative t q))))
-        ≡ accepted (slice-file-bytes (beside p q))))
+    (join type (slice-file-bytes (beside p (empty-prefix t))) (slice-file-bytes (beside (empty-prefix (derivative s p)) q))
+    ≡ accepted (slice-file-bytes (beside p q)))
+    × (join type (slice-file-bytes (beside (empty-prefix s) q)) (slice-file-bytes (beside p (empty-prefix (derivative t q))))
+    ≡ accepted (slice-file-bytes (beside p q))))
 order-free w h k = lanes-join w h k

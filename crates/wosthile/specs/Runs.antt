@@ -36,7 +36,7 @@ takes slice call r =
     record {
       patch = r .patch;
       slices = slice ∷ r .slices;
-      outputs = take (call .answer .output) (call .output) ∷ r .outputs
+      outputs = take (call .answer .output) (call .output) ∷ r .outputs;
     }
 
 -- "Each call is handed the very bytes of the patch file that the last accepted call before it wrote, or of the starting file
@@ -69,7 +69,7 @@ sends-and-leaves output patch output-lent left-lent =
     record {
       answer = record { number = 0; output = length output; patch = length patch };
       output = front output output-lent;
-      left = front patch left-lent
+      left = front patch left-lent;
     }
 
 -- "The accepted slices joined in order, fed as one to the patch at the start with long enough buffers, are accepted too, send

@@ -91,7 +91,7 @@ typing-sound s (both n m) t v e =
     let a = typing-sound s n (x .0) (v .0) (x .1) in
     let b = typing-sound s m (y .0) (v .1) (y .1) in
     given t (y .2) (λ h k. rw (← h)
-      (record { types = types-both a.types b.types; fits = (a.fits, b.fits, rw (output-type-is a.types, output-type-is b.types) k) }))
+    (record { types = types-both a.types b.types; fits = (a.fits, b.fits, rw (output-type-is a.types, output-type-is b.types) k) }))
 typing-sound s left t v e =
     let r = require-accepted (has-kind 4 s) WrongShape (gives (first-part s)) t e in
     given t (r .1) (λ h k. rw (← h) (record { types = rw (made-of 4 s (r .0)) types-left; fits = k }))
@@ -106,48 +106,48 @@ typing-sound s second t v e =
     given t (r .1) (λ h k. rw (← h) (record { types = rw (made-of 3 s (r .0)) types-second; fits = k }))
 typing-sound s (then n m) t v e =
     let r = require-accepted (has-kind 3 s) WrongShape
-          (go-on (typing (first-part s) n) (λ u. go-on (typing (second-part s) m) (λ w. gives (seq u w)))) t e in
+    (go-on (typing (first-part s) n) (λ u. go-on (typing (second-part s) m) (λ w. gives (seq u w)))) t e in
     let x = go-on-accepted (typing (first-part s) n) (λ u. go-on (typing (second-part s) m) (λ w. gives (seq u w))) t (r .1) in
     let y = go-on-accepted (typing (second-part s) m) (λ w. gives (seq (x .0) w)) t (x .2) in
     let a = typing-sound (first-part s) n (x .0) (v .0) (x .1) in
     let b = typing-sound (second-part s) m (y .0) (v .1) (y .1) in
     given t (y .2) (λ h k. rw (← h)
-      (record {
-        types = then-types s (r .0) a.types b.types;
-        fits = (a.fits, b.fits, rw (output-type-is a.types, output-type-is b.types) k)
-      }))
+    (record {
+      types = then-types s (r .0) a.types b.types;
+      fits = (a.fits, b.fits, rw (output-type-is a.types, output-type-is b.types) k);
+    }))
 typing-sound s (chain n m) t v e =
     let x = go-on-accepted (typing s n) (λ u. go-on (typing u m) (λ r. gives r)) t e in
     let y = go-on-accepted (typing (x .0) m) (λ r. gives r) t (x .2) in
     let a = typing-sound s n (x .0) (v .0) (x .1) in
     let b = typing-sound (x .0) m (y .0) (v .1) (y .1) in
     given t (y .2) (λ h k. rw (← h)
-      (record { types = types-chain a.types b.types; fits = rw (output-type-is a.types) (a.fits, b.fits, rw (output-type-is b.types) k) }))
+    (record { types = types-chain a.types b.types; fits = rw (output-type-is a.types) (a.fits, b.fits, rw (output-type-is b.types) k) }))
 typing-sound s regroup-right t v e =
     let c = has-kind 3 s && has-kind 3 (first-part s) in
     let r = require-accepted c WrongShape (gives (seq (first-part (first-part s)) (seq (second-part (first-part s)) (second-part s)))) t e in
     given t (r .1) (λ h k. rw (← h)
-      (record {
-        types = rw (made-of 3 s (and-left (has-kind 3 s) _ (r .0)), made-of 3 (first-part s) (and-right (has-kind 3 s) _ (r .0))) types-regroup-right;
-        fits = k
-      }))
+    (record {
+      types = rw (made-of 3 s (and-left (has-kind 3 s) _ (r .0)), made-of 3 (first-part s) (and-right (has-kind 3 s) _ (r .0))) types-regroup-right;
+      fits = k;
+    }))
 typing-sound s regroup-left t v e =
     let c = has-kind 3 s && has-kind 3 (second-part s) in
     let r = require-accepted c WrongShape (gives (seq (seq (first-part s) (first-part (second-part s))) (second-part (second-part s)))) t e in
     given t (r .1) (λ h k. rw (← h)
-      (record {
-        types = rw (made-of 3 s (and-left (has-kind 3 s) _ (r .0)), made-of 3 (second-part s) (and-right (has-kind 3 s) _ (r .0))) types-regroup-left;
-        fits = k
-      }))
+    (record {
+      types = rw (made-of 3 s (and-left (has-kind 3 s) _ (r .0)), made-of 3 (second-part s) (and-right (has-kind 3 s) _ (r .0))) types-regroup-left;
+      fits = k;
+    }))
 typing-sound s spread t v e =
     let c = has-kind 3 s && has-kind 4 (second-part s) in
     let r = require-accepted c WrongShape
-          (gives (par (seq (first-part s) (first-part (second-part s))) (seq (first-part s) (second-part (second-part s))))) t e in
+    (gives (par (seq (first-part s) (first-part (second-part s))) (seq (first-part s) (second-part (second-part s))))) t e in
     given t (r .1) (λ h k. rw (← h)
-      (record {
-        types = rw (made-of 3 s (and-left (has-kind 3 s) _ (r .0)), made-of 4 (second-part s) (and-right (has-kind 3 s) _ (r .0))) types-spread;
-        fits = k
-      }))
+    (record {
+      types = rw (made-of 3 s (and-left (has-kind 3 s) _ (r .0)), made-of 4 (second-part s) (and-right (has-kind 3 s) _ (r .0))) types-spread;
+      fits = k;
+    }))
 typing-sound s front t v e = given t e (λ h k. rw (← h) (record { types = types-front; fits = k }))
 
 -- What is typed and fits is accepted

@@ -37,14 +37,14 @@ table =
     ∷ row (seq (seq cue cue) cue) regroup-right (in-first (in-first cue-come)) (in-first cue-come) regroup-right
     ∷ row (seq (seq cue cue) cue) regroup-right (in-first (crossed cue-come cue-awaited)) (crossed cue-come (in-first cue-awaited)) pass
     ∷ row (seq (seq cue level) cue) regroup-right (crossed (crossed cue-come (level-come 1)) cue-awaited)
-      (crossed cue-come (crossed (level-come 1) cue-awaited)) pass
+    (crossed cue-come (crossed (level-come 1) cue-awaited)) pass
     ∷ row (seq cue (seq cue cue)) regroup-left (in-first cue-come) (in-first (in-first cue-come)) regroup-left
     ∷ row (seq cue (seq cue cue)) regroup-left (crossed cue-come (in-first cue-awaited)) (in-first (crossed cue-come cue-awaited)) pass
     ∷ row (seq cue (seq level cue)) regroup-left (crossed cue-come (crossed (level-come 1) cue-awaited))
-      (crossed (crossed cue-come (level-come 1)) cue-awaited) pass
+    (crossed (crossed cue-come (level-come 1)) cue-awaited) pass
     ∷ row (seq cue (par cue cue)) spread (in-first cue-come) (beside (in-first cue-come) (in-first cue-come)) spread
     ∷ row (seq cue (par cue level)) spread (crossed cue-come (beside cue-come level-awaited))
-      (beside (crossed cue-come cue-come) (crossed cue-come level-awaited)) pass
+    (beside (crossed cue-come cue-come) (crossed cue-come level-awaited)) pass
     ∷ row cue front cue-awaited (crossed nothing cue-awaited) pass
     ∷ []
 

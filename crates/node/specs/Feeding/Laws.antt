@@ -48,7 +48,7 @@ fed (types-chain d e) h =
     record {
       sent = rw (output-type-is d) b.sent;
       whole = λ c. rw (output-type-is d) (b.whole (a.whole c));
-      types = rw (output-type-is d) (types-chain a.types b.types)
+      types = rw (output-type-is d) (types-chain a.types b.types);
     }
 fed types-regroup-right (of-first (of-first h)) = record { sent = of-first h; whole = λ c. elim c [ ]; types = types-regroup-right }
 fed types-regroup-right (of-first (of-crossed h b k)) =
@@ -62,14 +62,14 @@ fed types-regroup-left (of-crossed h b (of-crossed k d l)) =
     record {
       sent = of-crossed (of-crossed h b k) (whole-crossed d) l;
       whole = λ c. whole-crossed (crossed-second (crossed-second c));
-      types = types-pass
+      types = types-pass;
     }
 fed types-spread (of-first h) = record { sent = of-beside (of-first h) (of-first h); whole = λ c. elim c [ ]; types = types-spread }
 fed types-spread (of-crossed h b (of-beside k l)) =
     record {
       sent = of-beside (of-crossed h b k) (of-crossed h b l);
       whole = λ c. whole-beside (whole-crossed (beside-first (crossed-second c))) (whole-crossed (beside-second (crossed-second c)));
-      types = types-pass
+      types = types-pass;
     }
 fed types-front h = record { sent = of-crossed of-empty whole-nothing h; whole = λ c. whole-crossed c; types = types-pass }
 
@@ -149,7 +149,7 @@ feeds-only feeds-front = same
 -- Feeding a joined prefix is feeding its two parts.
 pub feed-concat : {s t : Ty} {n : Node} {p : Prefix} (q : Prefix) → Types s n t → IsPrefix s p → IsPrefix (derivative s p) q
     → Same (sends s n (concat p q)) (concat (sends s n p) (sends (derivative s p) (leaves s n p) q))
-      (leaves s n (concat p q)) (leaves (derivative s p) (leaves s n p) q)
+    (leaves s n (concat p q)) (leaves (derivative s p) (leaves s n p) q)
 unfolding sends leaves derivative concat output-type
 feed-concat q types-pass h k = same
 feed-concat q (types-silent {n = t} z) h k = record { sent = sym (concat-empty-left (empty-prefix-is-prefix t)); node = refl }
@@ -248,10 +248,11 @@ leaves-fits (types-then d e) (of-first h) f =
     (leaves-fits d h f.0, f.1, le-trans (output-type-size (types-then d e) (of-first h)) f.2)
 leaves-fits (types-then d e) (of-crossed h c k) f = leaves-fits e k f.1
 leaves-fits (types-chain d e) h f =
-    let x = fed d h in
-    (leaves-fits d h f.0
-    , rw (output-type-is x.types) (rw (output-type-is d) (leaves-fits e x.sent (rw (output-type-is d) at f.1)))
-    , le-trans (output-type-size (types-chain d e) h) f.2)
+    let x = fed d h in (
+      leaves-fits d h f.0,
+      rw (output-type-is x.types) (rw (output-type-is d) (leaves-fits e x.sent (rw (output-type-is d) at f.1))),
+      le-trans (output-type-size (types-chain d e) h) f.2,
+    )
 leaves-fits types-regroup-right (of-first (of-first h)) f = omega (arith, derivative-size h)
 leaves-fits types-regroup-right (of-first (of-crossed h c k)) f = omega (arith, derivative-size k)
 leaves-fits types-regroup-right (of-crossed h c k) f = omega (arith, derivative-size k)
@@ -269,5 +270,5 @@ leaves-allowed a h =
       types = (fed (a .types) h) .types;
       input-small = le-trans (derivative-size h) (a .input-small);
       few = le-trans (leaves-count (a .types) h) (a .few);
-      fits = leaves-fits (a .types) h (a .fits)
+      fits = leaves-fits (a .types) h (a .fits);
     }

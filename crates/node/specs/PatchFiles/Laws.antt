@@ -11,7 +11,7 @@ use Rattle.stream.specs.Types.{Ty, size, type-limit}
 use Rattle.stream.specs.Levels.{value-bytes, read-value}
 use Rattle.stream.specs.Levels.Laws.{value-length, value-reads, value-sound, value-faults}
 use Rattle.stream.specs.Reading.{Bytes, Reading, read, fault, Result, accepted, refused, IsAccepted, read-on, go-on, whole, section-bytes, section, Root, tree, leaf, two-parts}
-use Rattle.stream.specs.Reading.Laws.{Reads, reads-leaf, reads-two, tree-reads, RootIs, leaf-is, two-is, tree-sound, section-reads, section-sound, whole-sound, every, bytes-tail, read-on-read, go-on-accepted}
+use Rattle.stream.specs.Reading.Laws.{Reads, reads-leaf, reads-two, tree-reads, RootIs, leaf-is, two-is, tree-sound, section-reads, section-sound, whole-sound, _&_, past, every, bytes-tail, read-on-read, go-on-accepted}
 use Rattle.stream.specs.Reading.Refusals.{Faults, Refusals, read-on-faults, go-on-refusals, section-faults, tree-faults, whole-refusals}
 use Rattle.stream.specs.TypeFiles.{type-bytes, read-type, type-section}
 use Rattle.stream.specs.TypeFiles.Laws.{type-length, read-type-reads, read-type-sound, type-section-reads, type-section-sound, read-type-faults, type-section-faults}
@@ -123,21 +123,21 @@ unfolding node-bytes count
 kinds-sound w s b =
     every (λ k f. Root-is w (k ∷ s) (f s)) (λ r. fault Unlisted) node-kinds
     (plain pass tt refl refl
-    , (carried-is w s b
-    , (plain emit-cue tt refl refl
-    , (value-is w s b
-    , (forked both 4 (λ n m i j. (i, j)) (λ n m. refl) (λ n m x. refl)
-    , (plain left tt refl refl
-    , (plain right tt refl refl
-    , (plain first tt refl refl
-    , (plain second tt refl refl
-    , (forked then 9 (λ n m i j. (i, j)) (λ n m. refl) (λ n m x. refl)
-    , (forked chain 10 (λ n m i j. (i, j)) (λ n m. refl) (λ n m x. refl)
-    , (plain regroup-right tt refl refl
-    , (plain regroup-left tt refl refl
-    , (plain spread tt refl refl
-    , (plain front tt refl refl
-    , (λ k h. tt))))))))))))))))
+    & carried-is w s b
+    & plain emit-cue tt refl refl
+    & value-is w s b
+    & forked both 4 (λ n m i j. (i, j)) (λ n m. refl) (λ n m x. refl)
+    & plain left tt refl refl
+    & plain right tt refl refl
+    & plain first tt refl refl
+    & plain second tt refl refl
+    & forked then 9 (λ n m i j. (i, j)) (λ n m. refl) (λ n m x. refl)
+    & forked chain 10 (λ n m i j. (i, j)) (λ n m. refl) (λ n m x. refl)
+    & plain regroup-right tt refl refl
+    & plain regroup-left tt refl refl
+    & plain spread tt refl refl
+    & plain front tt refl refl
+    & past (λ k h. tt))
   where
     plain : {k : ℕ} (n : Node) → Carries n → count n ≡ 1 → node-bytes n s ≡ k ∷ s → Root-is w (k ∷ s) (leaf n s)
     plain n f c e = leaf-is TooManyNodes node-root IsNode node-bytes count n _ s b f c e
@@ -204,21 +204,25 @@ patch-file-sound s c b e =
     go p t h e a = rw (← h) (record { bytes = e; allowed = a })
 
 pub patch-file-accepted : (s : List ℕ) → Bytes s → IsAccepted (patch-file s) ↔ PatchFile s
-patch-file-accepted s b =
-    ((λ a.
-        let f = patch-file-sound s (a .0) b (a .1) in
-        let c = a .0 in
-        record { input = c .patch .input; node = c .patch .node; output = c .output; allowed = f .allowed; bytes = f .bytes })
-    , (λ f. (_, rw (f .bytes) at (patch-file-complete (f .allowed)))))
+patch-file-accepted s b = (
+  (λ a.
+      let f = patch-file-sound s (a .0) b (a .1) in
+      let c = a .0 in
+      record { input = c .patch .input; node = c .patch .node; output = c .output; allowed = f .allowed; bytes = f .bytes }),
+  (λ f. (_, rw (f .bytes) at (patch-file-complete (f .allowed)))),
+)
 
 -- The refusals of a patch file are 1 to 7.
 module _ (P : Fault → Type 0) (cut : P CutShort) (unlisted : P Unlisted) (over : P LeftOver) (large : P TypeTooLarge) (many : P TooManyNodes) where
   kinds-faults : (s : List ℕ) (k : ℕ) → Faults P (getD node-kinds k (λ r. fault Unlisted) s)
   kinds-faults s =
       every (λ k f. Faults P (f s)) (λ r. fault Unlisted) node-kinds
-      (tt, (read-on-faults P (read-type s) _ (read-type-faults P cut unlisted large s) (λ n r. tt), (tt
-      , (read-on-faults P (read-value CutShort s) _ (value-faults P CutShort cut s) (λ v r. tt)
-      , (tt, (tt, (tt, (tt, (tt, (tt, (tt, (tt, (tt, (tt, (tt, (λ k h. unlisted))))))))))))))))
+      (tt
+      & read-on-faults P (read-type s) _ (read-type-faults P cut unlisted large s) (λ n r. tt)
+      & tt
+      & read-on-faults P (read-value CutShort s) _ (value-faults P CutShort cut s) (λ v r. tt)
+      & tt & tt & tt & tt & tt & tt & tt & tt & tt & tt & tt
+      & past (λ k h. unlisted))
 
   root-faults : (w : Unit {0}) (s : List ℕ) → Faults P (node-root w s)
   unfolding node-root

@@ -12,6 +12,7 @@ use borrow.Author.Tests.{le-leb, leb-true}
 use Rattle.stream.specs.declared.Fault.{Fault}
 use Rattle.stream.specs.Reading.{Bytes, Reading, read, fault, Result, accepted, refused, read-on, go-on, require, whole, before, section-bytes, counted, section, Root, forest, only, tree, leaf, one-part, two-parts, on-one, on-two}
 
+infixr 5 _&_
 -- Bytes
 
 pub bytes-tail : (b : ℕ) (s : List ℕ) → Bytes (b ∷ s) → Bytes s
@@ -94,7 +95,7 @@ module _ {W A : Type 0} (over : Fault) (root : W → List ℕ → Reading (Root 
           let e : suc (n + m) + budget ≡ suc (n + (m + budget)) = omega arith in
           rw e (step (n + (m + budget)) w owed (write s) (first (second s)) _ (h s)
           ∙ ap (λ g. read-on g (λ ts r. read (on-two f ts) r))
-            (j .reads (m + budget) (v ∷ owed) (second s) ∙ ap (prepend a) (k .reads budget owed s))
+          (j .reads (m + budget) (v ∷ owed) (second s) ∙ ap (prepend a) (k .reads budget owed s))
           ∙ two-taken f a b (forest over root budget owed s))
 
   -- Reading what was written: within the budget, the tree comes back and the bytes after it are left.
@@ -104,7 +105,7 @@ module _ {W A : Type 0} (over : Fault) (root : W → List ℕ → Reading (Root 
   tree-reads {w} {a} {n} {write} budget s k h =
       let e : n + (budget - n) ≡ budget = omega arith in
       let g : forest over root budget (w ∷ []) (write s) ≡ read (a ∷ []) s
-          = rw e at (k .reads (budget - n) [] s ∙ ap (prepend a) (none-owed (budget - n) s)) in
+      = rw e at (k .reads (budget - n) [] s ∙ ap (prepend a) (none-owed (budget - n) s)) in
       rw g
 
 -- What was read is what was written. `Is w a` says that a is a tree for the entry w, `write` gives its bytes, `nodes` their number of roots.
@@ -197,7 +198,7 @@ module _ {W A : Type 0} (over : Fault) (root : W → List ℕ → Reading (Root 
       where
         go : (g : Reading (Root W A)) → RootIs w s g → ((ws : List W) (r : List ℕ) → Bytes r → Sound budget ws r (forest over root budget ws r))
             → Sound (suc budget) (w ∷ owed) s
-              (read-on g (λ n r. read-on (forest over root budget (n .parts ++ owed) r) (λ trees rest. read (n .build trees) rest)))
+            (read-on g (λ n r. read-on (forest over root budget (n .parts ++ owed) r) (λ trees rest. read (n .build trees) rest)))
         go (read n r) h k = rooted budget w owed s n r h (forest over root budget (n .parts ++ owed) r) (k (n .parts ++ owed) r (h .rest))
         go (fault e) h k = tt
 
@@ -254,7 +255,7 @@ module _ {A : Type 0} (cut-short left-over : Fault) (contents : List ℕ → Rea
     where
       go : (t : Bool) → leb n (length s) ≡ t
           → elim t as (λ u. Reading A)
-            [ true ↦ before (drop n s) (whole left-over (contents (take n s))) | false ↦ fault cut-short ] ≡ read a r
+          [ true ↦ before (drop n s) (whole left-over (contents (take n s))) | false ↦ fault cut-short ] ≡ read a r
           → (n ≤ length s) × (contents (take n s) ≡ read a []) × (drop n s ≡ r)
       go false d e = let z : _≡_ {A = ℕ} 0 1 = cc in absurd (omega arith)
       go true d e =
@@ -276,7 +277,7 @@ module _ {A : Type 0} (cut-short left-over : Fault) (contents : List ℕ → Rea
         inside = w .1;
         bytes = rw (n, x, y, ← w .2, take-append-drop (h * 256 + l) s);
         body-bytes = bytes-take (h * 256 + l) s c;
-        rest = rw (← w .2) (bytes-drop (h * 256 + l) s c)
+        rest = rw (← w .2) (bytes-drop (h * 256 + l) s c);
       }
 
 -- What is read, or accepted, after something else was
@@ -301,16 +302,16 @@ whole-sound o (read b []) a e = cc
 whole-sound o (read b (c ∷ y)) a e = let z : _≡_ {A = ℕ} 0 1 = cc in absurd (omega arith)
 whole-sound o (fault f) a e = let z : _≡_ {A = ℕ} 0 1 = cc in absurd (omega arith)
 
--- Tables: a rule at every entry, and past the end.
+-- Tables: a rule at every entry, counted from i, and past the end.
 
-abbrev pub All : {K : Type 0} → (ℕ → K → Type 0) → K → ℕ → List K → Type 0
-All P d i [] = (b : ℕ) → i ≤ b → P b d
-All P d i (k ∷ ks) = P i k × All P d (suc i) ks
+pub data All {K : Type 0} (P : ℕ → K → Type 0) (d : K) : ℕ → List K → Type 0 where
+  past : {i : ℕ} → ((b : ℕ) → i ≤ b → P b d) → All P d i []
+  _&_ : {i : ℕ} {k : K} {ks : List K} → P i k → All P d (suc i) ks → All P d i (k ∷ ks)
 
-all-at : {K : Type 0} (P : ℕ → K → Type 0) (d : K) (ks : List K) (i : ℕ) → All P d i ks → (b : ℕ) → P (i + b) (getD ks b d)
-all-at P d [] i h b = h (i + b) (omega arith)
-all-at P d (k ∷ ks) i h zero = rw add-zero (h .0)
-all-at P d (k ∷ ks) i h (suc b) = rw (add-suc, ← suc-add) (all-at P d ks (suc i) (h .1) b)
+all-at : {K : Type 0} {P : ℕ → K → Type 0} {d : K} {ks : List K} {i : ℕ} → All P d i ks → (b : ℕ) → P (i + b) (getD ks b d)
+all-at {i = i} (past h) b = h (i + b) (omega arith)
+all-at (h & hs) zero = rw add-zero h
+all-at (h & hs) (suc b) = rw (add-suc, ← suc-add) (all-at hs b)
 
 pub every : {K : Type 0} (P : ℕ → K → Type 0) (d : K) (ks : List K) → All P d 0 ks → (b : ℕ) → P b (getD ks b d)
-every P d ks h b = let z : 0 + b ≡ b = omega arith in rw z at (all-at P d ks 0 h b)
+every P d ks h b = let z : 0 + b ≡ b = omega arith in rw z at (all-at h b)

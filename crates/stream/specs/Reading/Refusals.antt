@@ -46,7 +46,7 @@ module _ (P : Fault → Type 0) where
       where
         go : (t : Bool)
             → Faults {A = A} (elim t as (λ u. Reading A)
-              [ true ↦ before (drop n s) (whole left-over (contents (take n s))) | false ↦ fault cut-short ])
+            [ true ↦ before (drop n s) (whole left-over (contents (take n s))) | false ↦ fault cut-short ])
         go true = before-faults (drop n s) (whole left-over (contents (take n s))) (whole-refusals left-over (contents (take n s)) o (k (take n s)))
         go false = c
 

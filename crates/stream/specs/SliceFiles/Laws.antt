@@ -16,7 +16,7 @@ use Rattle.stream.specs.Levels.Laws.{value-width, value-length, value-re
 use Rattle.stream.specs.Prefixes.{Prefix, nothing, cue-awaited, cue-come, level-awaited, level-come, in-first, crossed, beside, Complete, whole-nothing, whole-cue, whole-level, whole-crossed, whole-beside, IsPrefix, of-empty, of-cue-awaited, of-cue-come, of-level-awaited, of-level-come, of-first, of-crossed, of-beside}
 use Rattle.stream.specs.Prefixes.Laws.{crossed-second, beside-first, beside-second}
 use Rattle.stream.specs.Reading.{Bytes, Reading, read, fault, Result, accepted, IsAccepted, read-on, whole, section-bytes, section, Root, forest, tree, leaf, one-part, two-parts}
-use Rattle.stream.specs.Reading.Laws.{Reads, reads-leaf, reads-one, reads-two, tree-reads, RootIs, leaf-is, one-is, two-is, tree-sound, section-reads, section-sound, whole-sound, every, bytes-tail}
+use Rattle.stream.specs.Reading.Laws.{Reads, reads-leaf, reads-one, reads-two, tree-reads, RootIs, leaf-is, one-is, two-is, tree-sound, section-reads, section-sound, whole-sound, _&_, past, every, bytes-tail}
 use Rattle.stream.specs.Reading.Refusals.{Faults, Refusals, read-on-faults, section-faults, tree-faults, whole-refusals}
 use Rattle.stream.specs.SliceFiles.{prefix-bytes, slice-file-bytes, SliceFile, Owed, owed, belongs, prefix-kinds, prefix-root, read-prefix, slice-file}
 
@@ -128,32 +128,38 @@ kinds-sound : (t : Ty) (c : Bool) (s : List ℕ) → Bytes s → (k : ℕ)
 unfolding prefix-bytes nodes
 kinds-sound t c s b =
     every (λ k f. Root-is (owed t c) (k ∷ s) (f t c s)) (λ u d r. fault SliceUnlisted) prefix-kinds
-    (belongs-is (owed t c) _ s (has-kind 0 t) _
-      (λ e. leaf-is SliceCutShort prefix-root Fills prefix-bytes nodes nothing _ s b
-        (record { is = rw (made-of 0 t e) of-empty; whole = λ d. whole-nothing }) refl refl)
-    , (belongs-is (owed t c) _ s (has-kind 1 t && not c) _
-      (λ e. leaf-is SliceCutShort prefix-root Fills prefix-bytes nodes cue-awaited _ s b
-        (record { is = rw (made-of 1 t (and-left (has-kind 1 t) (not c) e)) of-cue-awaited; whole = λ d. free (has-kind 1 t) c e d }) refl refl)
-    , (belongs-is (owed t c) _ s (has-kind 1 t) _
-      (λ e. leaf-is SliceCutShort prefix-root Fills prefix-bytes nodes cue-come _ s b
-        (record { is = rw (made-of 1 t e) of-cue-come; whole = λ d. whole-cue }) refl refl)
-    , (belongs-is (owed t c) _ s (has-kind 2 t && not c) _
-      (λ e. leaf-is SliceCutShort prefix-root Fills prefix-bytes nodes level-awaited _ s b
-        (record { is = rw (made-of 2 t (and-left (has-kind 2 t) (not c) e)) of-level-awaited; whole = λ d. free (has-kind 2 t) c e d }) refl refl)
-    , (belongs-is (owed t c) _ s (has-kind 2 t) _ (λ e. value-is t c s b e)
-    , (belongs-is (owed t c) _ s (has-kind 3 t && not c) _
-      (λ e. one-is SliceCutShort prefix-root Fills prefix-bytes nodes in-first 5 s b
-        (λ p i. record { is = rw (made-of 3 t (and-left (has-kind 3 t) (not c) e)) (of-first (i .is)); whole = λ d. free (has-kind 3 t) c e d })
-        (λ p. refl) (λ p x. refl))
-    , (belongs-is (owed t c) _ s (has-kind 3 t) _
-      (λ e. two-is SliceCutShort prefix-root Fills prefix-bytes nodes crossed 6 s b
-        (λ p q i j. record { is = rw (made-of 3 t e) (of-crossed (i .is) (i .whole refl) (j .is)); whole = λ d. whole-crossed (j .whole d) })
-        (λ p q. refl) (λ p q x. refl))
-    , (belongs-is (owed t c) _ s (has-kind 4 t) _
-      (λ e. two-is SliceCutShort prefix-root Fills prefix-bytes nodes beside 7 s b
-        (λ p q i j. record { is = rw (made-of 4 t e) (of-beside (i .is) (j .is)); whole = λ d. whole-beside (i .whole d) (j .whole d) })
-        (λ p q. refl) (λ p q x. refl))
-    , (λ k h. tt)))))))))
+    (plain (has-kind 0 t) nothing (λ e. rw (made-of 0 t e) of-empty) (λ e d. whole-nothing) refl refl
+    & plain (has-kind 1 t && not c) cue-awaited (λ e. rw (made-of 1 t (and-left (has-kind 1 t) (not c) e)) of-cue-awaited) (free (has-kind 1 t) c) refl refl
+    & plain (has-kind 1 t) cue-come (λ e. rw (made-of 1 t e) of-cue-come) (λ e d. whole-cue) refl refl
+    & plain (has-kind 2 t && not c) level-awaited (λ e. rw (made-of 2 t (and-left (has-kind 2 t) (not c) e)) of-level-awaited) (free (has-kind 2 t) c) refl refl
+    & belongs-is (owed t c) _ s (has-kind 2 t) _ (λ e. value-is t c s b e)
+    & belongs-is (owed t c) _ s (has-kind 3 t && not c) _
+    (λ e. one-is SliceCutShort prefix-root Fills prefix-bytes nodes in-first 5 s b (λ p i. first-fills p e i) (λ p. refl) (λ p x. refl))
+    & belongs-is (owed t c) _ s (has-kind 3 t) _
+    (λ e. two-is SliceCutShort prefix-root Fills prefix-bytes nodes crossed 6 s b (λ p q i j. crossed-fills p q e i j) (λ p q. refl) (λ p q x. refl))
+    & belongs-is (owed t c) _ s (has-kind 4 t) _
+    (λ e. two-is SliceCutShort prefix-root Fills prefix-bytes nodes beside 7 s b (λ p q i j. beside-fills p q e i j) (λ p q. refl) (λ p q x. refl))
+    & past (λ k h. tt))
+  where
+    plain : {k : ℕ} (b : Bool) (p : Prefix) → (b ≡ true → IsPrefix t p) → (b ≡ true → c ≡ true → Complete p) → nodes p ≡ 1
+        → prefix-bytes p s ≡ k ∷ s → Root-is (owed t c) (k ∷ s) (belongs b (leaf p) s)
+    plain b′ p h w n e =
+        belongs-is (owed t c) _ s b′ (leaf p)
+        (λ d. leaf-is SliceCutShort prefix-root Fills prefix-bytes nodes p _ s b (record { is = h d; whole = λ x. w d x }) n e)
+
+    first-fills : (p : Prefix) → has-kind 3 t && not c ≡ true → Fills (owed (first-part t) false) p → Fills (owed t c) (in-first p)
+    first-fills p e i =
+        record { is = rw (made-of 3 t (and-left (has-kind 3 t) (not c) e)) (of-first (i .is)); whole = λ d. free (has-kind 3 t) c e d }
+
+    crossed-fills : (p q : Prefix) → has-kind 3 t ≡ true → Fills (owed (first-part t) true) p → Fills (owed (second-part t) c) q
+        → Fills (owed t c) (crossed p q)
+    crossed-fills p q e i j =
+        record { is = rw (made-of 3 t e) (of-crossed (i .is) (i .whole refl) (j .is)); whole = λ d. whole-crossed (j .whole d) }
+
+    beside-fills : (p q : Prefix) → has-kind 4 t ≡ true → Fills (owed (first-part t) c) p → Fills (owed (second-part t) c) q
+        → Fills (owed t c) (beside p q)
+    beside-fills p q e i j =
+        record { is = rw (made-of 4 t e) (of-beside (i .is) (j .is)); whole = λ d. whole-beside (i .whole d) (j .whole d) }
 
 root-sound : (o : Owed) (s : List ℕ) → Bytes s → Root-is o s (prefix-root o s)
 unfolding prefix-root
@@ -163,15 +169,16 @@ root-sound o (k ∷ s) b = kinds-sound (o .type) (o .must-complete) s (bytes-tai
 pub slice-file-sound : (t : Ty) (s : List ℕ) (p : Prefix) → Bytes s → slice-file t s ≡ accepted p → (slice-file-bytes p ≡ s) × IsPrefix t p
 unfolding slice-file slice-file-bytes read-prefix
 slice-file-sound t s p b e =
-    let f = section-sound SliceCutShort SliceLeftOver (read-prefix t) s p [] b
-          (whole-sound SliceLeftOver (section SliceCutShort SliceLeftOver (read-prefix t) s) p e) in
+    let w = whole-sound SliceLeftOver (section SliceCutShort SliceLeftOver (read-prefix t) s) p e in
+    let f = section-sound SliceCutShort SliceLeftOver (read-prefix t) s p [] b w in
     let g = tree-sound SliceCutShort prefix-root Fills prefix-bytes nodes root-sound type-limit (owed t false) (f .body) p [] (f .body-bytes) (f .inside) in
     (rw (g .bytes) (f .bytes), g .is .is)
 
 pub slice-file-accepted : (t : Ty) (s : List ℕ) → size t ≤ type-limit → Bytes s → IsAccepted (slice-file t s) ↔ SliceFile t s
-slice-file-accepted t s w b =
-    ((λ a. let f = slice-file-sound t s (a .0) b (a .1) in record { prefix = a .0; is-prefix = f .1; bytes = f .0 })
-    , (λ f. (f .prefix, rw (← f .bytes) (slice-file-complete (f .is-prefix) w))))
+slice-file-accepted t s w b = (
+  (λ a. let f = slice-file-sound t s (a .0) b (a .1) in record { prefix = a .0; is-prefix = f .1; bytes = f .0 }),
+  (λ f. (f .prefix, rw (← f .bytes) (slice-file-complete (f .is-prefix) w))),
+)
 
 -- The limit of 255 is never met: each node read takes at least one from the sizes of the types owed.
 
@@ -202,14 +209,16 @@ kinds-lighter : (t : Ty) (c : Bool) (s : List ℕ) (k : ℕ) → Lighter t (getD
 unfolding weight
 kinds-lighter t c s =
     every (λ k f. Lighter t (f t c s)) (λ u d r. fault SliceUnlisted) prefix-kinds
-    (leafy (has-kind 0 t) nothing , (leafy (has-kind 1 t && not c) cue-awaited , (leafy (has-kind 1 t) cue-come
-    , (leafy (has-kind 2 t && not c) level-awaited
-    , (belongs-lighter t s (has-kind 2 t) _ (λ e. value-lighter t (read-value SliceCutShort s))
-    , (belongs-lighter t s (has-kind 3 t && not c) _
-        (λ e. omega (arith, parts-size 3 t (omega arith) (and-left (has-kind 3 t) (not c) e), size-positive (second-part t)))
-    , (belongs-lighter t s (has-kind 3 t) _ (λ e. omega (arith, parts-size 3 t (omega arith) e))
-    , (belongs-lighter t s (has-kind 4 t) _ (λ e. omega (arith, parts-size 4 t (omega arith) e))
-    , (λ k h. tt)))))))))
+    (leafy (has-kind 0 t) nothing
+    & leafy (has-kind 1 t && not c) cue-awaited
+    & leafy (has-kind 1 t) cue-come
+    & leafy (has-kind 2 t && not c) level-awaited
+    & belongs-lighter t s (has-kind 2 t) _ (λ e. value-lighter t (read-value SliceCutShort s))
+    & belongs-lighter t s (has-kind 3 t && not c) _
+    (λ e. omega (arith, parts-size 3 t (omega arith) (and-left (has-kind 3 t) (not c) e), size-positive (second-part t)))
+    & belongs-lighter t s (has-kind 3 t) _ (λ e. omega (arith, parts-size 3 t (omega arith) e))
+    & belongs-lighter t s (has-kind 4 t) _ (λ e. omega (arith, parts-size 4 t (omega arith) e))
+    & past (λ k h. tt))
   where
     leafy : (b : Bool) (p : Prefix) → Lighter t (belongs b (leaf p) s)
     leafy b p = belongs-lighter t s b (leaf p) (λ e. omega (arith, size-positive t))
@@ -251,14 +260,14 @@ module _ (P : Fault → Type 0) (cut : P SliceCutShort) (unlisted : P SliceUnlis
   kinds-faults t c s =
       every (λ k f. Faults P (f t c s)) (λ u d r. fault SliceUnlisted) prefix-kinds
       (belongs-faults (has-kind 0 t) _ s tt
-      , (belongs-faults (has-kind 1 t && not c) _ s tt
-      , (belongs-faults (has-kind 1 t) _ s tt
-      , (belongs-faults (has-kind 2 t && not c) _ s tt
-      , (belongs-faults (has-kind 2 t) _ s (read-on-faults P (read-value SliceCutShort s) _ (value-faults P SliceCutShort cut s) (λ v r. tt))
-      , (belongs-faults (has-kind 3 t && not c) _ s tt
-      , (belongs-faults (has-kind 3 t) _ s tt
-      , (belongs-faults (has-kind 4 t) _ s tt
-      , (λ k h. unlisted)))))))))
+      & belongs-faults (has-kind 1 t && not c) _ s tt
+      & belongs-faults (has-kind 1 t) _ s tt
+      & belongs-faults (has-kind 2 t && not c) _ s tt
+      & belongs-faults (has-kind 2 t) _ s (read-on-faults P (read-value SliceCutShort s) _ (value-faults P SliceCutShort cut s) (λ v r. tt))
+      & belongs-faults (has-kind 3 t && not c) _ s tt
+      & belongs-faults (has-kind 3 t) _ s tt
+      & belongs-faults (has-kind 4 t) _ s tt
+      & past (λ k h. unlisted))
 
   root-faults : (o : Owed) (s : List ℕ) → Faults P (prefix-root o s)
   unfolding prefix-root

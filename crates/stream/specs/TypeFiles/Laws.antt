@@ -10,7 +10,7 @@ use Rattle.stream.specs.declared.Fault.{Fault}
 use Rattle.stream.specs.declared.Fault.the-variants.{CutShort, Unlisted, LeftOver, TypeTooLarge}
 use Rattle.stream.specs.Types.{Ty, empty, cue, level, seq, par, size, type-limit}
 use Rattle.stream.specs.Reading.{Bytes, Reading, read, fault, Result, accepted, IsAccepted, whole, section-bytes, section, Root, tree, leaf, two-parts}
-use Rattle.stream.specs.Reading.Laws.{Reads, reads-leaf, reads-two, tree-reads, RootIs, leaf-is, two-is, FoundTree, tree-sound, FoundSection, section-reads, section-sound, whole-sound, every, bytes-tail}
+use Rattle.stream.specs.Reading.Laws.{Reads, reads-leaf, reads-two, tree-reads, RootIs, leaf-is, two-is, FoundTree, tree-sound, FoundSection, section-reads, section-sound, whole-sound, _&_, past, every, bytes-tail}
 use Rattle.stream.specs.Reading.Refusals.{Faults, Refusals, section-faults, tree-faults, whole-refusals}
 use Rattle.stream.specs.TypeFiles.{type-bytes, type-file-bytes, TypeFile, type-kinds, type-root, read-type, type-section, type-file}
 
@@ -64,11 +64,11 @@ root-sound w [] b = tt
 root-sound w (k ∷ s) b =
     every (λ j f. RootIs TypeTooLarge type-root IsType type-bytes size w (j ∷ s) (f s)) (λ r. fault Unlisted) type-kinds
     (leaf-is TypeTooLarge type-root IsType type-bytes size empty _ s c tt refl refl
-    , (leaf-is TypeTooLarge type-root IsType type-bytes size cue _ s c tt refl refl
-    , (leaf-is TypeTooLarge type-root IsType type-bytes size level _ s c tt refl refl
-    , (two-is TypeTooLarge type-root IsType type-bytes size seq 3 s c (λ t u i j. tt) (λ t u. refl) (λ t u x. refl)
-    , (two-is TypeTooLarge type-root IsType type-bytes size par 4 s c (λ t u i j. tt) (λ t u. refl) (λ t u x. refl)
-    , (λ j h. tt)))))) k
+    & leaf-is TypeTooLarge type-root IsType type-bytes size cue _ s c tt refl refl
+    & leaf-is TypeTooLarge type-root IsType type-bytes size level _ s c tt refl refl
+    & two-is TypeTooLarge type-root IsType type-bytes size seq 3 s c (λ t u i j. tt) (λ t u. refl) (λ t u x. refl)
+    & two-is TypeTooLarge type-root IsType type-bytes size par 4 s c (λ t u i j. tt) (λ t u. refl) (λ t u x. refl)
+    & past (λ j h. tt)) k
   where
     c : Bytes s
     c = bytes-tail k s b
@@ -103,9 +103,10 @@ type-file-sound s t b e =
     (f .bytes, f .within)
 
 pub type-file-accepted : (s : List ℕ) → Bytes s → IsAccepted (type-file s) ↔ TypeFile s
-type-file-accepted s b =
-    ((λ a. let f = type-file-sound s (a .0) b (a .1) in record { type = a .0; small = f .1; bytes = f .0 })
-    , (λ f. (f .type, rw (← f .bytes) (type-file-complete (f .type) (f .small)))))
+type-file-accepted s b = (
+  (λ a. let f = type-file-sound s (a .0) b (a .1) in record { type = a .0; small = f .1; bytes = f .0 }),
+  (λ f. (f .type, rw (← f .bytes) (type-file-complete (f .type) (f .small)))),
+)
 
 -- The refusals of a type file are 1 to 4.
 module _ (P : Fault → Type 0) (cut : P CutShort) (unlisted : P Unlisted) (large : P TypeTooLarge) where
@@ -113,7 +114,7 @@ module _ (P : Fault → Type 0) (cut : P CutShort) (unlisted : P Unlisted) (larg
   unfolding type-root
   root-faults w [] = cut
   root-faults w (k ∷ s) =
-      every (λ j f. Faults P (f s)) (λ r. fault Unlisted) type-kinds (tt, (tt, (tt, (tt, (tt, (λ j h. unlisted)))))) k
+      every (λ j f. Faults P (f s)) (λ r. fault Unlisted) type-kinds (tt & tt & tt & tt & tt & past (λ j h. unlisted)) k
 
   pub read-type-faults : (s : List ℕ) → Faults P (read-type s)
   unfolding read-type

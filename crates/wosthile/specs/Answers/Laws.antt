@@ -70,13 +70,14 @@ join-answers {t} q w h k =
 -- Two lanes side by side join to the same slice, whichever comes first.
 pub lanes-join : {s t : Ty} {p q : Prefix} → Small (par s t) → IsPrefix s p → IsPrefix t q
     → (let type = type-file-bytes (par s t) in
-      (join type (slice-file-bytes (beside p (empty-prefix t))) (slice-file-bytes (beside (empty-prefix (derivative s p)) q))
-        ≡ accepted (slice-file-bytes (beside p q)))
-      × (join type (slice-file-bytes (beside (empty-prefix s) q)) (slice-file-bytes (beside p (empty-prefix (derivative t q))))
-        ≡ accepted (slice-file-bytes (beside p q))))
-lanes-join {s} {t} w h k =
-    (join-answers _ w (of-beside h (empty-prefix-is-prefix t)) (right-lane-after h k) ∙ ap (λ x. accepted (slice-file-bytes x)) (left-lane-first h k)
-    , join-answers _ w (of-beside (empty-prefix-is-prefix s) k) (left-lane-after h k) ∙ ap (λ x. accepted (slice-file-bytes x)) (right-lane-first h k))
+    (join type (slice-file-bytes (beside p (empty-prefix t))) (slice-file-bytes (beside (empty-prefix (derivative s p)) q))
+    ≡ accepted (slice-file-bytes (beside p q)))
+    × (join type (slice-file-bytes (beside (empty-prefix s) q)) (slice-file-bytes (beside p (empty-prefix (derivative t q))))
+    ≡ accepted (slice-file-bytes (beside p q))))
+lanes-join {s} {t} w h k = (
+  join-answers _ w (of-beside h (empty-prefix-is-prefix t)) (right-lane-after h k) ∙ ap (λ x. accepted (slice-file-bytes x)) (left-lane-first h k),
+  join-answers _ w (of-beside (empty-prefix-is-prefix s) k) (left-lane-after h k) ∙ ap (λ x. accepted (slice-file-bytes x)) (right-lane-first h k),
+)
 
 -- Feed on an allowed patch is decided by the slice.
 abbrev pub fed-files : Ty → Node → Prefix → FedFiles
@@ -98,10 +99,11 @@ patch-checked f = (_, rw (f .bytes) at (check-answers (f .allowed)))
 
 pub check-accepted : (patch : List ℕ) → Bytes patch → IsAccepted (check patch) ↔ PatchFile patch
 unfolding check
-check-accepted patch b =
-    ((λ a. let x = go-on-accepted (patch-file patch) (λ c. accepted (type-file-bytes (c .output))) (a .0) (a .1) in
-        patch-file-accepted patch b .0 (x .0, x .1))
-    , (λ f. patch-checked f))
+check-accepted patch b = (
+  (λ a. let x = go-on-accepted (patch-file patch) (λ c. accepted (type-file-bytes (c .output))) (a .0) (a .1) in
+      patch-file-accepted patch b .0 (x .0, x .1)),
+  (λ f. patch-checked f),
+)
 
 -- A call on a type file and a slice file that is accepted: the files, and what was made of them.
 record TypeAndSlice {A : Type 0} (type slice : List ℕ) (f : Ty → Prefix → Result A) (a : A) : Type 0 where
@@ -119,25 +121,27 @@ type-and-slice type slice f a b c e =
     record {
       typed = record { type = x .0; small = t .1; bytes = t .0 };
       sliced = record { prefix = y .0; is-prefix = p .1; bytes = p .0 };
-      made = y .2
+      made = y .2;
     }
 
 pub admit-accepted : (type slice : List ℕ) → Bytes type → Bytes slice
     → IsAccepted (admit type slice) ↔ ((t : TypeFile type) × SliceFile (t .type) slice)
 unfolding admit
-admit-accepted type slice b c =
-    ((λ a. let x = type-and-slice type slice (λ t p. accepted (complete p)) (a .0) b c (a .1) in (x .typed, x .sliced))
-    , (λ x. let t = x .0 in let p = x .1 in
-        (complete (p .prefix), rw (t .bytes, p .bytes) at (admit-answers (t .small) (p .is-prefix)))))
+admit-accepted type slice b c = (
+  (λ a. let x = type-and-slice type slice (λ t p. accepted (complete p)) (a .0) b c (a .1) in (x .typed, x .sliced)),
+  (λ x. let t = x .0 in let p = x .1 in
+      (complete (p .prefix), rw (t .bytes, p .bytes) at (admit-answers (t .small) (p .is-prefix)))),
+)
 
 pub feed-accepted : {patch : List ℕ} (slice : List ℕ) (f : PatchFile patch) → Bytes slice → IsAccepted (feed patch slice) ↔ SliceFile (f .input) slice
 feed-accepted slice f b = rw (← f .bytes) (go (f .input) (f .node) (f .output) (f .allowed))
   where
     go : (s : Ty) (n : Node) (t : Ty) → Allowed s n t → IsAccepted (feed (patch-file-bytes s n) slice) ↔ SliceFile s slice
-    go s n t a =
-        ((λ w. let x = go-on-accepted (slice-file s slice) (λ p. accepted (fed-files s n p)) (w .0) (sym (feed-of-patch slice a) ∙ w .1) in
-            slice-file-accepted s slice (a .input-small) b .0 (x .0, x .1))
-        , (λ g. (_, rw (g .bytes) at (feed-answers a (g .is-prefix)))))
+    go s n t a = (
+      (λ w. let x = go-on-accepted (slice-file s slice) (λ p. accepted (fed-files s n p)) (w .0) (sym (feed-of-patch slice a) ∙ w .1) in
+          slice-file-accepted s slice (a .input-small) b .0 (x .0, x .1)),
+      (λ g. (_, rw (g .bytes) at (feed-answers a (g .is-prefix)))),
+    )
 
 -- Room
 
@@ -249,7 +253,7 @@ feed-lengths slice w f b e = go (f .input) (f .node) (f .output) (f .allowed) (r
         rw (← d)
         (record {
           output = slice-file-length ((fed (a .types) h) .sent) (output-small (a .types) (a .fits));
-          patch = patch-file-length (leaves-allowed a h)
+          patch = patch-file-length (leaves-allowed a h);
         })
 
 -- An accepted feed was of a patch file.

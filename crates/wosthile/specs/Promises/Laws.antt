@@ -52,9 +52,10 @@ unaltered file o lent l e h d = h ∙ ap (λ r. after file r lent) d
 -- The number is 0 exactly for what is accepted.
 zero-accepted : {A : Type 0} (o : Result A) → number-of o ≡ 0 ↔ IsAccepted o
 zero-accepted (accepted a) = ((λ h. (a, refl)), (λ h. refl))
-zero-accepted (refused e) =
-    ((λ h. absurd (omega (arith, number-positive e)))
-    , (λ h. let z : _≡_ {A = ℕ} 0 1 = let d = h .1 in cc in absurd (omega arith)))
+zero-accepted (refused e) = (
+  (λ h. absurd (omega (arith, number-positive e))),
+  (λ h. let z : _≡_ {A = ℕ} 0 1 = let d = h .1 in cc in absurd (omega arith)),
+)
 
 -- 20 exactly if a buffer is too short.
 
@@ -86,9 +87,10 @@ module _ {A : Type 0} (fits : A → Bool) (r : Result A) where
 
   -- With room for every answer, a call is accepted exactly if it would be with room set aside.
   pub zero-with-room : ((a : A) → r ≡ accepted a → fits a ≡ true) → number-of (with-room fits r) ≡ 0 ↔ IsAccepted r
-  zero-with-room h =
-      ((λ e. let a = zero-accepted (with-room fits r) .0 e in (a .0, room-accepted fits r (a .0) (a .1) .0))
-      , (λ a. zero-accepted (with-room fits r) .1 (a .0, enough-room fits r (a .1) (h (a .0) (a .1)))))
+  zero-with-room h = (
+    (λ e. let a = zero-accepted (with-room fits r) .0 e in (a .0, room-accepted fits r (a .0) (a .1) .0)),
+    (λ a. zero-accepted (with-room fits r) .1 (a .0, enough-room fits r (a .1) (h (a .0) (a .1)))),
+  )
 
 -- The operations with one lent buffer
 
@@ -127,14 +129,14 @@ module _ (patch slice output left : List ℕ) (answer : Fed) (output-after left-
 
   pub feeds-decided : (ns : List ℕ) → Refusals (Listed ns) (feed patch slice)
       → Decided (with-room (fits-both (length output) (length left)) (feed patch slice)) (20 ∷ ns) (answer .number)
-        (output ∷ left ∷ []) (output-after ∷ left-after ∷ [])
+      (output ∷ left ∷ []) (output-after ∷ left-after ∷ [])
   feeds-decided ns r =
       let fits = fits-both (length output) (length left) in
       decided (20 ∷ ns) (answer .number) (output ∷ left ∷ []) (output-after ∷ left-after ∷ []) (with-room fits (feed patch slice))
       (room-refusals fits (Listed (20 ∷ ns)) (feed patch slice) refl (listed-more 20 ns (feed patch slice) r)) fed-told
       (λ e h.
-        ap₂ (λ x y. x ∷ y ∷ []) (unaltered (λ w. w .output) (with-room fits (feed patch slice)) output output-after e (promise .output-buffer) h)
-        (unaltered (λ w. w .patch) (with-room fits (feed patch slice)) left left-after e (promise .left-buffer) h))
+      ap₂ (λ x y. x ∷ y ∷ []) (unaltered (λ w. w .output) (with-room fits (feed patch slice)) output output-after e (promise .output-buffer) h)
+      (unaltered (λ w. w .patch) (with-room fits (feed patch slice)) left left-after e (promise .left-buffer) h))
 
   pub feeds-twenty : (ns : List ℕ) → contains ns 20 ≡ false → Refusals (Listed ns) (feed patch slice)
       → answer .number ≡ 20 ↔ TooShort (fits-both (length output) (length left)) (feed patch slice)
@@ -143,11 +145,12 @@ module _ (patch slice output left : List ℕ) (answer : Fed) (output-after left-
   module _ (within : (w : FedFiles) → feed patch slice ≡ accepted w → FedLengths w) where
     pub feeds-bounded : (answer .output ≤ 513) × (answer .patch ≤ 8482)
     unfolding fed
-    feeds-bounded =
-        (rw (ap (λ (a : Fed). a .output) (promise .answers))
-          (bounded (fits-both (length output) (length left)) (feed patch slice) (λ w. length (w .output)) 513 (λ w e. (within w e) .output))
-        , rw (ap (λ (a : Fed). a .patch) (promise .answers))
-          (bounded (fits-both (length output) (length left)) (feed patch slice) (λ w. length (w .patch)) 8482 (λ w e. (within w e) .patch)))
+    feeds-bounded = (
+      rw (ap (λ (a : Fed). a .output) (promise .answers))
+          (bounded (fits-both (length output) (length left)) (feed patch slice) (λ w. length (w .output)) 513 (λ w e. (within w e) .output)),
+      rw (ap (λ (a : Fed). a .patch) (promise .answers))
+          (bounded (fits-both (length output) (length left)) (feed patch slice) (λ w. length (w .patch)) 8482 (λ w e. (within w e) .patch)),
+    )
 
     pub feeds-zero : 513 ≤ length output → 8482 ≤ length left → answer .number ≡ 0 ↔ IsAccepted (feed patch slice)
     feeds-zero h k =

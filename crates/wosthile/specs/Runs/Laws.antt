@@ -77,7 +77,7 @@ one-more {p = p} r h t =
       are-pieces = piece h (t .are-pieces);
       patch = t .patch;
       slices = ap₂ _∷_ refl (t .slices);
-      outputs = ap₂ _∷_ refl (t .outputs)
+      outputs = ap₂ _∷_ refl (t .outputs);
     }
 
 module _ (f : Feed) (keeps : KeepsFeed f) where
@@ -95,7 +95,7 @@ module _ (f : Feed) (keeps : KeepsFeed f) where
       next : (p : Prefix) (w : FedFiles) → fed-files s n p ≡ w → slice-file-bytes p ≡ c .slice → IsPrefix s p
           → Traced (derivative s p) (leaves s n p) (run f (after p) calls)
           → Traced s n (let r = run f (w .patch) calls in
-            record { patch = r .patch; slices = c .slice ∷ r .slices; outputs = w .output ∷ r .outputs })
+          record { patch = r .patch; slices = c .slice ∷ r .slices; outputs = w .output ∷ r .outputs })
       next p w e d h k = rw (← e, ← d) (one-more (run f (after p) calls) h k)
 
       go : Traced s n (run f (patch-file-bytes s n) calls)
@@ -167,7 +167,7 @@ module _ (f : Feed) (keeps : KeepsFeed f) where
             (left-answers (a .input-small) prefix ∙ ap (λ u. accepted (type-file-bytes u)) (derivative-concat-all ps h k));
         output-left = left-answers small (concat-all-is-prefix (sends-all (derivative s p) (leaves s n p) ps) (x .sent) outputs)
             ∙ ap (λ u. accepted (type-file-bytes u)) (derivative-concat-all (sends-all (derivative s p) (leaves s n p) ps) (x .sent) outputs)
-            ∙ sym (ap check e ∙ check-answers (leaves-all-allowed (p ∷ ps) a (piece h k)))
+            ∙ sym (ap check e ∙ check-answers (leaves-all-allowed (p ∷ ps) a (piece h k)));
       }
     where
       x : Fed s n t p
@@ -189,7 +189,7 @@ module _ (f : Feed) (keeps : KeepsFeed f) where
       joined-files =
           record {
             output = slice-file-bytes (concat-all (sends s n p) (sends-all (derivative s p) (leaves s n p) ps));
-            patch = r .patch
+            patch = r .patch;
           }
 
       fed-joined : feed (patch-file-bytes s n) (slice-file-bytes (concat-all p ps)) ≡ accepted joined-files
@@ -226,7 +226,7 @@ module _ (f : Feed) (keeps : KeepsFeed f) where
           node = leaves-all (patch .input) (patch .node) (t .pieces);
           output = derivative-all (patch .output) (sends-all (patch .input) (patch .node) (t .pieces));
           allowed = leaves-all-allowed (t .pieces) (patch .allowed) (t .are-pieces);
-          bytes = sym (t .patch)
+          bytes = sym (t .patch);
         }
 
     pub run-holds :
@@ -244,9 +244,10 @@ same-front x y lent n e =
 
 pub same-stream : {f : Feed} {start : List ℕ} {r q : Run} (a : AsOne f start r) (b : AsOne f start q) → a .slice ≡ b .slice
     → (r .patch ≡ q .patch) × (a .output ≡ b .output)
-same-stream {f} {start} {r} {q} a b e =
-    (same-front (r .patch) (q .patch) _ (ap (λ (c : FedCall). c .answer .patch) both) (ap (λ (c : FedCall). c .left) both)
-    , same-front (a .output) (b .output) _ (ap (λ (c : FedCall). c .answer .output) both) (ap (λ (c : FedCall). c .output) both))
+same-stream {f} {start} {r} {q} a b e = (
+  same-front (r .patch) (q .patch) _ (ap (λ (c : FedCall). c .answer .patch) both) (ap (λ (c : FedCall). c .left) both),
+  same-front (a .output) (b .output) _ (ap (λ (c : FedCall). c .answer .output) both) (ap (λ (c : FedCall). c .output) both),
+)
   where
     -- Both fed as one, with buffers that hold either answer.
     both : sends-and-leaves (a .output) (r .patch) (a .output ++ b .output) (r .patch ++ q .patch)
