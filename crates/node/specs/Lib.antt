@@ -2,3 +2,4 @@ pub mod Nodes
 pub mod Feeding
 pub mod Checking
 pub mod PatchFiles
+pub mod Computing

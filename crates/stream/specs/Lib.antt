@@ -6,3 +6,4 @@ pub mod Reading
 pub mod TypeFiles
 pub mod SliceFiles
 pub mod TypeReads
+pub mod Computing

@@ -18,6 +18,7 @@ use Rattle.wosthile.specs.declared.Written.{Written}
 use Rattle.wosthile.specs.declared.Admitted.{Admitted}
 use Rattle.wosthile.specs.declared.Fed.{Fed}
 pub mod Laws
+pub mod Examples
 
 -- "Check a patch; writes its output type file."
 unfoldable pub check : List ℕ → Result (List ℕ)

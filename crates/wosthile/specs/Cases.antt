@@ -2,17 +2,9 @@
 use mathlib.Core.Path.{_≡_, refl}
 use mathlib.Core.List.{List, [], _∷_, _++_, map}
 use Prim.Native.Nat.{ℕ}
-use Rattle.stream.specs.Types.{nullable, size, type-limit}
-use Rattle.stream.specs.Levels.{value-bytes, read-value}
-use Rattle.stream.specs.Prefixes.{complete, empty-prefix, derivative, concat}
-use Rattle.stream.specs.Reading.{Result, accepted, refused, section-bytes, counted, section, forest, tree}
+use Rattle.stream.specs.Reading.{Result, accepted, refused}
 use Rattle.stream.specs.Reading.Examples.{section-of}
-use Rattle.stream.specs.TypeFiles.{type-bytes, type-file-bytes, type-root, read-type, type-section, type-file}
-use Rattle.stream.specs.SliceFiles.{prefix-bytes, slice-file-bytes, prefix-root, read-prefix, slice-file}
-use Rattle.node.specs.Nodes.{output-type, node-limit}
-use Rattle.node.specs.Feeding.{sends, leaves}
-use Rattle.node.specs.Checking.{gives, typing}
-use Rattle.node.specs.PatchFiles.{node-bytes, patch-file-bytes, node-root, read-node, node-section, patch-sections, first-pass, second-pass, patch-file}
+use Rattle.node.specs.Computing.{node-definitions}
 use Rattle.node.specs.PatchFiles.Examples.{sections}
 use Rattle.wosthile.specs.Answers.{check, admit, join, feed, FedFiles, number-of}
 
@@ -88,5 +80,5 @@ answers =
     ∷ []
 
 pub cases : map answer questions ≡ answers
-unfolding check admit join feed nullable size type-limit complete empty-prefix derivative concat value-bytes read-value section-bytes counted section forest tree type-bytes type-file-bytes type-root read-type type-section type-file prefix-bytes slice-file-bytes prefix-root read-prefix slice-file output-type node-limit sends leaves gives typing node-bytes patch-file-bytes node-root read-node node-section patch-sections first-pass second-pass patch-file
+unfolding node-definitions check admit join feed
 cases = refl

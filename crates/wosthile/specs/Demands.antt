@@ -18,7 +18,7 @@ use Rattle.node.specs.PatchFiles.{patch-file-bytes, PatchFile}
 use Rattle.wosthile.specs.Answers.{check, admit, left, join, feed, with-room, fits-one, fits-both, admitted, as-number, front, patch-numbers, admit-numbers, feed-numbers}
 use Rattle.wosthile.specs.Answers.Laws.{lanes-join, check-refusals, admit-refusals, left-refusals, join-refusals, feed-refusals, check-accepted, admit-accepted, admit-answers, feed-accepted, check-length, left-length, join-length, feed-lengths, fed-patch}
 use Rattle.wosthile.specs.Promises.{Operations, Keeps, Decided, TooShort}
-use Rattle.wosthile.specs.Promises.Laws.{writes-decided, admits-decided, feeds-decided, writes-twenty, feeds-twenty, writes-bounded, feeds-bounded, writes-zero, feeds-zero, admits-zero, admits-complete}
+use Rattle.wosthile.specs.Promises.Laws.{writes-decided, admits-decided, feeds-decided, writes-twenty, feeds-twenty, writes-bounded, feeds-bounded, writes-never-twenty, feeds-never-twenty, writes-zero, feeds-zero, admits-zero, admits-complete}
 use Rattle.wosthile.specs.Runs.{Call, ByteSlices, Run, run, AsOne, sends-and-leaves}
 use Rattle.wosthile.specs.Runs.Laws.{feed-by-rules, run-patch, run-holds, same-stream}
 
@@ -90,6 +90,31 @@ module _ (ops : Operations) (keeps : Keeps ops) where
       → (let a = ops .feed patch slice output left .answer in (a .output ≤ 513) × (a .patch ≤ 8482))
   bound-feed patch slice output left b c =
       feeds-bounded patch slice output left _ _ _ (keeps .feed patch slice output left) (λ w e. feed-lengths slice w (fed-patch patch slice w b e) c e)
+
+  -- So with buffers of these lengths 20 never comes.
+
+  pub never-twenty-check : (patch lent : List ℕ) → Bytes patch → 257 ≤ length lent → ops .check patch lent .answer .number ≡ 20 → ⊥
+  never-twenty-check patch lent b h =
+      writes-never-twenty (check patch) lent _ _ (keeps .check patch lent) 257 (λ file e. check-length patch file b e)
+      patch-numbers refl (check-refusals patch) h
+
+  pub never-twenty-left : (type slice lent : List ℕ) → Bytes type → Bytes slice → 257 ≤ length lent
+      → ops .left type slice lent .answer .number ≡ 20 → ⊥
+  never-twenty-left type slice lent b c h =
+      writes-never-twenty (left type slice) lent _ _ (keeps .left type slice lent) 257 (λ file e. left-length type slice file b c e)
+      admit-numbers refl (left-refusals type slice) h
+
+  pub never-twenty-join : (type first second lent : List ℕ) → Bytes type → Bytes first → Bytes second → 513 ≤ length lent
+      → ops .join type first second lent .answer .number ≡ 20 → ⊥
+  never-twenty-join type first second lent b c d h =
+      writes-never-twenty (join type first second) lent _ _ (keeps .join type first second lent) 513
+      (λ file e. join-length type first second file b c d e) admit-numbers refl (join-refusals type first second) h
+
+  pub never-twenty-feed : (patch slice output left : List ℕ) → Bytes patch → Bytes slice → 513 ≤ length output → 8482 ≤ length left
+      → ops .feed patch slice output left .answer .number ≡ 20 → ⊥
+  never-twenty-feed patch slice output left b c h k =
+      feeds-never-twenty patch slice output left _ _ _ (keeps .feed patch slice output left)
+      (λ w e. feed-lengths slice w (fed-patch patch slice w b e) c e) feed-numbers refl (feed-refusals patch slice) h k
 
   -- Demand 2. "A patch is accepted exactly when the kernel rules of stream types, as document 01 takes them for one input, and
   -- its limits allow it;

@@ -41,14 +41,14 @@ takes slice call r =
 
 -- "Each call is handed the very bytes of the patch file that the last accepted call before it wrote, or of the starting file
 -- while none has been accepted. A call refused for any reason .. changes nothing for the next."
-abbrev pub goes-on : List ℕ → List ℕ → FedCall → (List ℕ → Run) → Run
-goes-on patch slice call rest =
+abbrev pub after-call : List ℕ → List ℕ → FedCall → (List ℕ → Run) → Run
+after-call patch slice call rest =
     elim (eqb (call .answer .number) 0)
     [ true ↦ takes slice call (rest (take (call .answer .patch) (call .left))) | false ↦ rest patch ]
 
 unfoldable pub run : Feed → List ℕ → List Call → Run
 run feed patch [] = record { patch = patch; slices = []; outputs = [] }
-run feed patch (c ∷ calls) = goes-on patch (c .slice) (feed patch (c .slice) (c .output) (c .left)) (λ p. run feed p calls)
+run feed patch (c ∷ calls) = after-call patch (c .slice) (feed patch (c .slice) (c .output) (c .left)) (λ p. run feed p calls)
 
 -- "Slices are joined in the order of their calls, from the left: the first with the second, that with the third, and so on;
 -- one alone is its own join." The files are prefixes of the type in the file `type`, and Join joins two of them.

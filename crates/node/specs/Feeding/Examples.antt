@@ -3,9 +3,10 @@ use mathlib.Core.Path.{_≡_, refl}
 use mathlib.Core.List.{List, [], _∷_}
 use Prim.Native.Nat.{ℕ}
 use Rattle.stream.specs.Types.{Ty, empty, cue, level, seq, par}
-use Rattle.stream.specs.Prefixes.{Prefix, nothing, cue-awaited, cue-come, level-awaited, level-come, in-first, crossed, beside, empty-prefix, derivative}
-use Rattle.node.specs.Nodes.{Node, pass, silent, emit-cue, emit-level, both, left, right, first, second, then, chain, regroup-right, regroup-left, spread, front, output-type}
+use Rattle.stream.specs.Prefixes.{Prefix, nothing, cue-awaited, cue-come, level-awaited, level-come, in-first, crossed, beside}
+use Rattle.node.specs.Nodes.{Node, pass, silent, emit-cue, emit-level, both, left, right, first, second, then, chain, regroup-right, regroup-left, spread, front}
 use Rattle.node.specs.Feeding.{sends, leaves}
+use Rattle.node.specs.Computing.{node-definitions}
 
 -- A row: the input type, the node and the prefix fed; then the prefix sent and the node left.
 pub record Row : Type 0 where
@@ -59,9 +60,9 @@ each f [] = []
 each f (r ∷ rs) = f r ∷ each f rs
 
 pub sends-examples : each sent-by table ≡ each (λ r. r .sent) table
-unfolding sends output-type empty-prefix
+unfolding node-definitions
 sends-examples = refl
 
 pub leaves-examples : each left-by table ≡ each (λ r. r .left-behind) table
-unfolding leaves sends output-type empty-prefix derivative
+unfolding node-definitions
 leaves-examples = refl

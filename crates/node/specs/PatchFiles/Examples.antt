@@ -2,14 +2,11 @@
 use mathlib.Core.Path.{_≡_, refl}
 use mathlib.Core.List.{List, [], _∷_, _++_}
 use Prim.Native.Nat.{ℕ}
-use Rattle.stream.specs.Types.{Ty, empty, cue, level, seq, par, nullable, size, type-limit}
-use Rattle.stream.specs.Levels.{read-value}
-use Rattle.stream.specs.Reading.{Result, accepted, refused, section-bytes, counted, section, forest, tree}
+use Rattle.stream.specs.Types.{Ty, empty, cue, level, seq, par}
+use Rattle.stream.specs.Reading.{Result, accepted, refused}
 use Rattle.stream.specs.Reading.Examples.{verdict, section-of, copies, numbers, verdicts}
-use Rattle.stream.specs.TypeFiles.{type-root, read-type, type-section}
-use Rattle.node.specs.Nodes.{node-limit}
-use Rattle.node.specs.Checking.{gives, typing}
-use Rattle.node.specs.PatchFiles.{Checked, node-root, read-node, node-section, patch-sections, first-pass, second-pass, patch-file}
+use Rattle.node.specs.PatchFiles.{Checked, patch-file}
+use Rattle.node.specs.Computing.{node-definitions}
 
 -- The sections of a patch file.
 abbrev pub sections : List ℕ → List ℕ → List ℕ
@@ -68,7 +65,7 @@ table =
     ∷ []
 
 pub patch-file-examples : verdicts (λ file. verdict (patch-file file)) table ≡ numbers table
-unfolding section-bytes counted section forest tree type-limit type-root read-type type-section read-value node-limit node-root read-node node-section patch-sections first-pass nullable size gives typing second-pass patch-file
+unfolding node-definitions
 patch-file-examples = refl
 
 -- The output types of the nodes.
@@ -98,5 +95,5 @@ given =
     ∷ []
 
 pub output-type-examples : Equal (outputs given)
-unfolding section-bytes counted section forest tree type-limit type-root read-type type-section read-value node-limit node-root read-node node-section patch-sections first-pass nullable size gives typing second-pass patch-file
+unfolding node-definitions
 output-type-examples = (refl, (refl, (refl, (refl, (refl, (refl, (refl, (refl, tt))))))))

@@ -3,12 +3,11 @@ use mathlib.Core.Path.{_≡_, refl}
 use mathlib.Core.Bool.{Bool, true, false}
 use mathlib.Core.List.{List, [], _∷_, _++_, map}
 use Prim.Native.Nat.{ℕ}
-use Rattle.stream.specs.Types.{Ty, empty, cue, level, seq, par, type-limit}
-use Rattle.stream.specs.Levels.{read-value, value-bytes}
+use Rattle.stream.specs.Types.{Ty, empty, cue, level, seq, par}
 use Rattle.stream.specs.Prefixes.{Prefix, nothing, cue-awaited, cue-come, level-awaited, level-come, in-first, crossed, beside, complete, derivative, concat}
-use Rattle.stream.specs.Reading.{Result, accepted, refused, go-on, section-bytes, counted, section, forest, tree}
 use Rattle.stream.specs.Reading.Examples.{verdict, section-of, copies, numbers, verdicts}
-use Rattle.stream.specs.SliceFiles.{prefix-bytes, prefix-root, read-prefix, slice-file}
+use Rattle.stream.specs.SliceFiles.{slice-file}
+use Rattle.stream.specs.Computing.{stream-definitions}
 
 abbrev table : List ((Ty × List ℕ) × ℕ)
 table =
@@ -45,7 +44,7 @@ table =
     ∷ []
 
 pub slice-file-examples : verdicts (λ x. verdict (slice-file (x .0) (x .1))) table ≡ numbers table
-unfolding section-bytes counted section forest tree type-limit read-value prefix-root read-prefix slice-file
+unfolding stream-definitions
 slice-file-examples = refl
 
 -- What prefixes are and do: whether one is complete, what it leaves, and joins.
@@ -53,7 +52,7 @@ slice-file-examples = refl
 pub complete-examples :
     map complete (level-come 0 ∷ level-awaited ∷ in-first cue-come ∷ crossed cue-come cue-awaited ∷ crossed cue-come cue-come ∷ [])
     ≡ true ∷ false ∷ false ∷ false ∷ true ∷ []
-unfolding complete
+unfolding stream-definitions
 complete-examples = refl
 
 pub derivative-examples :
@@ -61,7 +60,7 @@ pub derivative-examples :
     × (derivative (seq cue level) (crossed cue-come level-awaited) ≡ level)
     × (derivative (par cue level) (beside cue-come level-awaited) ≡ par empty level)
     × (derivative level (level-come 0) ≡ empty)
-unfolding derivative
+unfolding stream-definitions
 derivative-examples = (refl, refl, refl, refl)
 
 -- 5 p joined with 6 b r keeps p.
@@ -70,5 +69,5 @@ pub concat-examples :
     × (concat (in-first cue-awaited) (in-first cue-come) ≡ in-first cue-come)
     × (concat (crossed cue-come cue-awaited) cue-come ≡ crossed cue-come cue-come)
     × (concat (level-come 0) nothing ≡ level-come 0)
-unfolding concat
+unfolding stream-definitions
 concat-examples = (refl, refl, refl, refl)

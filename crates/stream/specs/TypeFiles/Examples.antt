@@ -2,10 +2,9 @@
 use mathlib.Core.Path.{_≡_, refl}
 use mathlib.Core.List.{List, [], _∷_, _++_}
 use Prim.Native.Nat.{ℕ}
-use Rattle.stream.specs.Types.{type-limit}
-use Rattle.stream.specs.Reading.{section-bytes, counted, section, forest, tree}
 use Rattle.stream.specs.Reading.Examples.{verdict, section-of, copies, numbers, verdicts}
-use Rattle.stream.specs.TypeFiles.{type-root, read-type, type-section, type-file}
+use Rattle.stream.specs.TypeFiles.{type-file}
+use Rattle.stream.specs.Computing.{stream-definitions}
 
 abbrev table : List (List ℕ × ℕ)
 table =
@@ -33,5 +32,5 @@ table =
     ∷ []
 
 pub type-file-examples : verdicts (λ file. verdict (type-file file)) table ≡ numbers table
-unfolding section-bytes counted section forest tree type-limit type-root read-type type-section type-file
+unfolding stream-definitions
 type-file-examples = refl

@@ -24,27 +24,27 @@ use Rattle.wosthile.specs.Promises.{Writes, FeedPromise, Decided, is-acc
 
 -- Faults with a listed number
 
-pub listed-more : (n : ℕ) (ns : List ℕ) {A : Type 0} (r : Result A) → Refusals (Listed ns) r → Refusals (Listed (n ∷ ns)) r
+listed-more : (n : ℕ) (ns : List ℕ) {A : Type 0} (r : Result A) → Refusals (Listed ns) r → Refusals (Listed (n ∷ ns)) r
 listed-more n ns (accepted a) h = tt
 listed-more n ns (refused e) h = rw (h, or-true (eqb n (number e)))
 
-abbrev pub NotRoom : Fault → Type 0
+abbrev NotRoom : Fault → Type 0
 NotRoom e = number e ≡ 20 → ⊥
 
 -- Where 20 is not among the numbers, no refusal is 20.
-pub not-room : (ns : List ℕ) {A : Type 0} (r : Result A) → contains ns 20 ≡ false → Refusals (Listed ns) r → Refusals NotRoom r
+not-room : (ns : List ℕ) {A : Type 0} (r : Result A) → contains ns 20 ≡ false → Refusals (Listed ns) r → Refusals NotRoom r
 not-room ns (accepted a) n h = tt
 not-room ns (refused e) n h = λ d. true≢false (sym h ∙ ap (contains ns) d ∙ n)
 
 -- A call is decided, by its outcome with room taken in.
 module _ {A : Type 0} (listed : List ℕ) (answered : ℕ) (lent lent-after : List (List ℕ)) where
-  pub decided : (o : Result A) → Refusals (Listed listed) o → answered ≡ number-of o
+  decided : (o : Result A) → Refusals (Listed listed) o → answered ≡ number-of o
       → ((e : Fault) → o ≡ refused e → lent-after ≡ lent) → Decided o listed answered lent lent-after
   decided (accepted a) r n u = is-accepted a refl n
   decided (refused e) r n u = is-refused e refl n r (u e refl)
 
 -- A refused call leaves its buffer as it was.
-pub unaltered : {A : Type 0} (file : A → List ℕ) (o : Result A) (lent lent-after : List ℕ) (e : Fault)
+unaltered : {A : Type 0} (file : A → List ℕ) (o : Result A) (lent lent-after : List ℕ) (e : Fault)
     → lent-after ≡ after file o lent → o ≡ refused e → lent-after ≡ lent
 unfolding after
 unaltered file o lent l e h d = h ∙ ap (λ r. after file r lent) d
@@ -59,7 +59,7 @@ zero-accepted (refused e) = (
 
 -- 20 exactly if a buffer is too short.
 
-pub twenty : {A : Type 0} (fits : A → Bool) (r : Result A) → Refusals NotRoom r → number-of (with-room fits r) ≡ 20 ↔ TooShort fits r
+twenty : {A : Type 0} (fits : A → Bool) (r : Result A) → Refusals NotRoom r → number-of (with-room fits r) ≡ 20 ↔ TooShort fits r
 unfolding with-room
 twenty fits (refused e) n = ((λ h. absurd (n h)), (λ t. let z : _≡_ {A = ℕ} 0 1 = let d = t .due in cc in absurd (omega arith)))
 twenty {A} fits (accepted a) n = ((λ h. there (fits a) refl h), back)
@@ -75,18 +75,18 @@ twenty {A} fits (accepted a) n = ((λ h. there (fits a) refl h), back)
 
 -- A bound on every answer holds of the length that the caller is told, and where all answers fit, 20 does not come.
 module _ {A : Type 0} (fits : A → Bool) (r : Result A) where
-  pub bounded : (f : A → ℕ) (n : ℕ) → ((a : A) → r ≡ accepted a → f a ≤ n) → value-of f (with-room fits r) ≤ n
+  bounded : (f : A → ℕ) (n : ℕ) → ((a : A) → r ≡ accepted a → f a ≤ n) → value-of f (with-room fits r) ≤ n
   bounded f n h = go (with-room fits r) refl
     where
       go : (o : Result A) → with-room fits r ≡ o → value-of f o ≤ n
       go (accepted a) e = h a (room-accepted fits r a e .0)
       go (refused e) d = omega arith
 
-  pub never-twenty : Refusals NotRoom r → ((a : A) → r ≡ accepted a → fits a ≡ true) → number-of (with-room fits r) ≡ 20 → ⊥
+  never-twenty : Refusals NotRoom r → ((a : A) → r ≡ accepted a → fits a ≡ true) → number-of (with-room fits r) ≡ 20 → ⊥
   never-twenty n h e = let t = twenty fits r n .0 e in true≢false (sym (h (t .answer) (t .due)) ∙ t .too-short)
 
   -- With room for every answer, a call is accepted exactly if it would be with room set aside.
-  pub zero-with-room : ((a : A) → r ≡ accepted a → fits a ≡ true) → number-of (with-room fits r) ≡ 0 ↔ IsAccepted r
+  zero-with-room : ((a : A) → r ≡ accepted a → fits a ≡ true) → number-of (with-room fits r) ≡ 0 ↔ IsAccepted r
   zero-with-room h = (
     (λ e. let a = zero-accepted (with-room fits r) .0 e in (a .0, room-accepted fits r (a .0) (a .1) .0)),
     (λ a. zero-accepted (with-room fits r) .1 (a .0, enough-room fits r (a .1) (h (a .0) (a .1)))),
@@ -116,8 +116,15 @@ module _ (outcome : Result (List ℕ)) (lent : List ℕ) (answer : Written) (len
     writes-bounded =
         rw (ap (λ (a : Written). a .written) (promise .answers)) (bounded (fits-one (length lent)) outcome length most within)
 
+    all-fit : most ≤ length lent → (file : List ℕ) → outcome ≡ accepted file → fits-one (length lent) file ≡ true
+    all-fit h file e = le-leb (length file) (length lent) (le-trans (within file e) h)
+
+    pub writes-never-twenty : (ns : List ℕ) → contains ns 20 ≡ false → Refusals (Listed ns) outcome → most ≤ length lent → answer .number ≡ 20 → ⊥
+    writes-never-twenty ns n r h e =
+        never-twenty (fits-one (length lent)) outcome (not-room ns outcome n r) (all-fit h) (sym told ∙ e)
+
     pub writes-zero : most ≤ length lent → answer .number ≡ 0 ↔ IsAccepted outcome
-    writes-zero h = rw told (zero-with-room (fits-one (length lent)) outcome (λ file e. le-leb (length file) (length lent) (le-trans (within file e) h)))
+    writes-zero h = rw told (zero-with-room (fits-one (length lent)) outcome (all-fit h))
 
 -- Feed
 
@@ -152,10 +159,17 @@ module _ (patch slice output left : List ℕ) (answer : Fed) (output-after left-
           (bounded (fits-both (length output) (length left)) (feed patch slice) (λ w. length (w .patch)) 8482 (λ w e. (within w e) .patch)),
     )
 
+    both-fits : 513 ≤ length output → 8482 ≤ length left → (w : FedFiles) → feed patch slice ≡ accepted w
+        → fits-both (length output) (length left) w ≡ true
+    both-fits h k w e = both-fit w (le-trans ((within w e) .output) h) (le-trans ((within w e) .patch) k)
+
+    pub feeds-never-twenty : (ns : List ℕ) → contains ns 20 ≡ false → Refusals (Listed ns) (feed patch slice)
+        → 513 ≤ length output → 8482 ≤ length left → answer .number ≡ 20 → ⊥
+    feeds-never-twenty ns n r h k e =
+        never-twenty (fits-both (length output) (length left)) (feed patch slice) (not-room ns (feed patch slice) n r) (both-fits h k) (sym fed-told ∙ e)
+
     pub feeds-zero : 513 ≤ length output → 8482 ≤ length left → answer .number ≡ 0 ↔ IsAccepted (feed patch slice)
-    feeds-zero h k =
-        rw fed-told (zero-with-room (fits-both (length output) (length left)) (feed patch slice)
-        (λ w e. both-fit w (le-trans ((within w e) .output) h) (le-trans ((within w e) .patch) k)))
+    feeds-zero h k = rw fed-told (zero-with-room (fits-both (length output) (length left)) (feed patch slice) (both-fits h k))
 
 -- Admit
 pub admits-decided : (o : Result Bool) (answer : Admitted) (ns : List ℕ) → Refusals (Listed ns) o → answer ≡ admitted o

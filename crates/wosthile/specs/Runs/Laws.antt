@@ -28,7 +28,7 @@ use Rattle.node.specs.PatchFiles.{node-bytes, patch-file-bytes, PatchFile}
 use Rattle.wosthile.specs.Answers.{check, left, join, FedFiles, feed, with-room, fits-both, fed, front, after}
 use Rattle.wosthile.specs.Answers.Laws.{check-answers, patch-checked, left-answers, join-answers, fed-files, feed-of-patch, feed-answers, number-positive, enough-room, room-accepted, both-fit}
 use Rattle.wosthile.specs.Promises.{FeedPromise, FedCall}
-use Rattle.wosthile.specs.Runs.{Call, ByteSlices, Run, Feed, takes, goes-on, run, Joins, alone, joined, first-section, sends-and-leaves, AsOne}
+use Rattle.wosthile.specs.Runs.{Call, ByteSlices, Run, Feed, takes, after-call, run, Joins, alone, joined, first-section, sends-and-leaves, AsOne}
 
 -- The call that an outcome is.
 abbrev call-of : Result FedFiles → List ℕ → List ℕ → FedCall
@@ -46,18 +46,18 @@ kept f k patch slice output left =
 
 -- A refused call changes nothing; an accepted one adds its files.
 
-refused-goes-on : (patch slice output left : List ℕ) (e : Fault) (rest : List ℕ → Run)
-    → goes-on patch slice (call-of (refused e) output left) rest ≡ rest patch
+refused-call : (patch slice output left : List ℕ) (e : Fault) (rest : List ℕ → Run)
+    → after-call patch slice (call-of (refused e) output left) rest ≡ rest patch
 unfolding fed
-refused-goes-on patch slice output left e rest =
+refused-call patch slice output left e rest =
     let n : eqb (number e) 0 ≡ false = ne-eqb (number e) 0 (λ z. omega (arith, number-positive e)) in
     ap (λ (b : Bool). elim b as (λ x. Run) [ true ↦ takes slice (call-of (refused e) output left) (rest (take 0 left)) | false ↦ rest patch ]) n
 
-accepted-goes-on : (patch slice output left : List ℕ) (w : FedFiles) (rest : List ℕ → Run)
-    → goes-on patch slice (call-of (accepted w) output left) rest
+accepted-call : (patch slice output left : List ℕ) (w : FedFiles) (rest : List ℕ → Run)
+    → after-call patch slice (call-of (accepted w) output left) rest
     ≡ (let r = rest (w .patch) in record { patch = r .patch; slices = slice ∷ r .slices; outputs = w .output ∷ r .outputs })
 unfolding fed after
-accepted-goes-on patch slice output left w rest =
+accepted-call patch slice output left w rest =
     rw (take-append-seam (w .patch) (drop (length (w .patch)) left), take-append-seam (w .output) (drop (length (w .output)) output))
 
 -- Where a run has come to, by trees.
@@ -102,14 +102,14 @@ module _ (f : Feed) (keeps : KeepsFeed f) where
           → ((p : Prefix) → IsPrefix s p → Traced (derivative s p) (leaves s n p) (run f (after p) calls))
           → (o : Result FedFiles)
           → with-room (fits-both (length (c .output)) (length (c .left))) (go-on (slice-file s (c .slice)) (λ p. accepted (fed-files s n p))) ≡ o
-          → Traced s n (goes-on (patch-file-bytes s n) (c .slice) (call-of o (c .output) (c .left)) (λ p. run f p calls))
-      go same later (refused e) h = rw (refused-goes-on (patch-file-bytes s n) (c .slice) (c .output) (c .left) e (λ p. run f p calls)) same
+          → Traced s n (after-call (patch-file-bytes s n) (c .slice) (call-of o (c .output) (c .left)) (λ p. run f p calls))
+      go same later (refused e) h = rw (refused-call (patch-file-bytes s n) (c .slice) (c .output) (c .left) e (λ p. run f p calls)) same
       go same later (accepted w) h =
           let x = room-accepted (fits-both (length (c .output)) (length (c .left))) (go-on (slice-file s (c .slice)) (λ p. accepted (fed-files s n p))) w h in
           let y = go-on-accepted (slice-file s (c .slice)) (λ p. accepted (fed-files s n p)) w (x .0) in
           let z = slice-file-sound s (c .slice) (y .0) (b .0) (y .1) in
           let e : fed-files s n (y .0) ≡ w = let d = y .2 in cc in
-          rw (accepted-goes-on (patch-file-bytes s n) (c .slice) (c .output) (c .left) w (λ p. run f p calls))
+          rw (accepted-call (patch-file-bytes s n) (c .slice) (c .output) (c .left) w (λ p. run f p calls))
           (next (y .0) w e (z .0) (z .1) (later (y .0) (z .1)))
 
 -- The files of pieces join to the file of their concatenation.

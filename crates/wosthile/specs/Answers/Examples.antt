@@ -1,0 +1,54 @@
+-- Calls that tell the readings of document 01 apart (docs/DECISIONS.md): the order of the files in one call, the lengths that
+-- 20 compares, what stands in a buffer afterwards, and Admit's answer.
+use mathlib.Core.Path.{_≡_, refl}
+use mathlib.Core.Bool.{Bool, true, false, _&&_}
+use mathlib.Core.List.{List, [], _∷_, _++_, map}
+use Prim.Native.Nat.{ℕ}
+use Rattle.stream.specs.Reading.{Result}
+use Rattle.stream.specs.Reading.Examples.{section-of}
+use Rattle.node.specs.Computing.{node-definitions}
+use Rattle.node.specs.PatchFiles.Examples.{sections}
+use Rattle.wosthile.specs.declared.Admitted.{Admitted}
+use Rattle.wosthile.specs.Answers.{check, admit, left, join, feed, FedFiles, with-room, fits-one, fits-both, number-of, admitted, after}
+
+-- A patch that passes a cue, and a slice in which it has come.
+abbrev passing : List ℕ
+passing = sections (1 ∷ []) (0 ∷ [])
+
+abbrev come : List ℕ
+come = section-of (2 ∷ [])
+
+abbrev checked-in : ℕ → Result (List ℕ)
+checked-in lent = with-room (fits-one lent) (check passing)
+
+abbrev fed-in : ℕ → ℕ → Result FedFiles
+fed-in output left = with-room (fits-both output left) (feed passing come)
+
+-- Each file is judged wholly before the next; a buffer has to hold the whole file, its count included; both have to.
+pub number-examples :
+    number-of (admit (section-of (1 ∷ 1 ∷ [])) (section-of (200 ∷ [])))
+    ∷ number-of (join (section-of (1 ∷ [])) (section-of (1 ∷ 1 ∷ [])) (section-of (200 ∷ [])))
+    ∷ number-of (join (section-of (1 ∷ [])) come (section-of (2 ∷ [])))
+    ∷ number-of (feed (sections (1 ∷ []) (5 ∷ [])) (section-of (200 ∷ [])))
+    ∷ number-of (left (section-of (1 ∷ [])) (section-of (15 ∷ [])))
+    ∷ map (λ n. number-of (checked-in n)) (4 ∷ 3 ∷ 2 ∷ 0 ∷ [])
+    ++ number-of (fed-in 3 6) ∷ number-of (fed-in 3 5) ∷ number-of (fed-in 2 6) ∷ number-of (fed-in 2 5) ∷ []
+    ≡ 3 ∷ 13 ∷ 14 ∷ 7 ∷ 12 ∷ 0 ∷ 0 ∷ 20 ∷ 20 ∷ 0 ∷ 20 ∷ 20 ∷ 20 ∷ []
+unfolding node-definitions check admit left join feed with-room
+number-examples = refl
+
+-- The bytes behind an answer stay, and a refused call leaves all of them.
+pub buffer-examples :
+    after (λ file. file) (checked-in 5) (9 ∷ 9 ∷ 9 ∷ 8 ∷ 7 ∷ []) ∷ after (λ file. file) (checked-in 2) (9 ∷ 8 ∷ []) ∷ []
+    ≡ (0 ∷ 1 ∷ 1 ∷ 8 ∷ 7 ∷ []) ∷ (9 ∷ 8 ∷ []) ∷ []
+unfolding node-definitions check after with-room
+buffer-examples = refl
+
+-- 1 for complete, 0 for not, and 0 on a refusal.
+pub admit-examples :
+    map (λ slice. admitted (admit (section-of (3 ∷ 1 ∷ 2 ∷ [])) (section-of slice)))
+    ((6 ∷ 2 ∷ 4 ∷ 0 ∷ 0 ∷ []) ∷ (6 ∷ 2 ∷ 3 ∷ []) ∷ (5 ∷ 2 ∷ []) ∷ (6 ∷ 1 ∷ 3 ∷ []) ∷ [])
+    ≡ record { number = 0; complete = 1 } ∷ record { number = 0; complete = 0 } ∷ record { number = 0; complete = 0 }
+    ∷ record { number = 14; complete = 0 } ∷ []
+unfolding node-definitions admit admitted
+admit-examples = refl
