@@ -9,7 +9,7 @@ use Rattle.stream.specs.declared.Fault.the-variants.{SliceCutShort, Slic
 use Rattle.stream.specs.Types.{Ty, first-part, second-part, has-kind, type-limit}
 use Rattle.stream.specs.Levels.{value-bytes, read-value}
 use Rattle.stream.specs.Prefixes.{Prefix, nothing, cue-awaited, cue-come, level-awaited, level-come, in-first, crossed, beside, IsPrefix}
-use Rattle.stream.specs.Reading.{Reading, read, fault, Result, read-on, whole, section-bytes, section, Root, tree, leaf, one-part, two-parts}
+use Rattle.stream.specs.Reading.{Reading, fault, Result, read-on, whole, section-bytes, section, Root, tree, leaf, one-part, two-parts}
 pub mod Laws
 pub mod Examples
 

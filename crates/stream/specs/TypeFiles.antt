@@ -5,7 +5,7 @@ use Prim.Native.Nat.{ℕ, _≤_}
 use lib.ListN.{getD}
 use Rattle.stream.specs.declared.Fault.the-variants.{CutShort, Unlisted, LeftOver, TypeTooLarge}
 use Rattle.stream.specs.Types.{Ty, empty, cue, level, seq, par, size, type-limit}
-use Rattle.stream.specs.Reading.{Reading, read, fault, Result, whole, section-bytes, section, Root, tree, leaf, two-parts}
+use Rattle.stream.specs.Reading.{Reading, fault, Result, whole, section-bytes, section, Root, tree, leaf, two-parts}
 pub mod Laws
 pub mod Examples
 

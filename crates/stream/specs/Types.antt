@@ -1,6 +1,6 @@
 -- Stream types, as trees (document 01, Files, "Types").
 use mathlib.Core.Bool.{Bool, true, false, _&&_}
-use Prim.Native.Nat.{ℕ, zero, suc, _+_}
+use Prim.Native.Nat.{ℕ, suc, _+_}
 use lib.Dec.{eqb}
 pub mod Laws
 

@@ -1,6 +1,6 @@
 -- The starred cases of document 01, 1 to 9, as one table of calls on bytes and one of answers.
 use mathlib.Core.Path.{_≡_, refl}
-use mathlib.Core.List.{List, [], _∷_, _++_, map}
+use mathlib.Core.List.{List, [], _∷_, map}
 use Prim.Native.Nat.{ℕ}
 use Rattle.stream.specs.Reading.{Result, accepted, refused}
 use Rattle.stream.specs.Reading.Examples.{section-of}

@@ -1,7 +1,7 @@
 -- The user's demands, in the user's order, as theorems about any five operations that keep the promises of Promises.antt.
 -- What the statements speak of: answers and numbers (Answers.antt), runs (Runs.antt), files (TypeFiles, SliceFiles,
 -- PatchFiles), rules (IsPrefix in Prefixes, Types and Allowed in Nodes, Feeds in Feeding).
-use mathlib.Core.Path.{_≡_, refl, sym, ap, _∙_}
+use mathlib.Core.Path.{_≡_, refl}
 use mathlib.Core.Logic.{_↔_, Iff·trans}
 use mathlib.Core.List.{List, [], _∷_}
 use Prim.Native.Nat.{ℕ, _≤_}
@@ -15,7 +15,7 @@ use Rattle.node.specs.Nodes.{Node, Small, Allowed}
 use Rattle.node.specs.Feeding.{Feeds, sends, leaves}
 use Rattle.node.specs.Feeding.Laws.{feeds}
 use Rattle.node.specs.PatchFiles.{patch-file-bytes, PatchFile}
-use Rattle.wosthile.specs.Answers.{check, admit, left, join, feed, with-room, fits-one, fits-both, admitted, as-number, front, patch-numbers, admit-numbers, feed-numbers}
+use Rattle.wosthile.specs.Answers.{check, admit, left, join, feed, with-room, fits-one, fits-both, as-number, patch-numbers, admit-numbers, feed-numbers}
 use Rattle.wosthile.specs.Answers.Laws.{lanes-join, check-refusals, admit-refusals, left-refusals, join-refusals, feed-refusals, check-accepted, admit-accepted, admit-answers, feed-accepted, check-length, left-length, join-length, feed-lengths, fed-patch}
 use Rattle.wosthile.specs.Promises.{Operations, Keeps, Decided, TooShort}
 use Rattle.wosthile.specs.Promises.Laws.{writes-decided, admits-decided, feeds-decided, writes-twenty, feeds-twenty, writes-bounded, feeds-bounded, writes-never-twenty, feeds-never-twenty, writes-zero, feeds-zero, admits-zero, admits-complete}

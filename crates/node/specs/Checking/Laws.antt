@@ -1,8 +1,7 @@
 -- The second pass accepts exactly what the typing rules and the limit allow.
-use mathlib.Core.Path.{_≡_, refl, sym, ap, _∙_}
-use mathlib.Core.Bool.{Bool, true, false, _&&_}
-use Prim.Native.Nat.{ℕ, _≤_, _<_}
-use native.Mathlib.Omega.{arith}
+use mathlib.Core.Path.{_≡_}
+use mathlib.Core.Bool.{Bool, true, _&&_}
+use Prim.Native.Nat.{_<_}
 use lib.Dec.{leb}
 use borrow.Author.Tests.{leb-true, le-leb}
 use Rattle.stream.specs.declared.Fault.{Fault}
@@ -10,7 +9,7 @@ use Rattle.stream.specs.declared.Fault.the-variants.{TypeTooLarge, NotNullable,
 use Rattle.stream.specs.Types.{Ty, empty, cue, level, seq, par, nullable, size, type-limit, first-part, second-part, has-kind}
 use Rattle.stream.specs.Types.Laws.{and-left, and-right, nullable-sound, nullable-complete, made-of}
 use Rattle.stream.specs.Levels.{level-limit}
-use Rattle.stream.specs.Reading.{Result, accepted, refused, require, go-on}
+use Rattle.stream.specs.Reading.{Result, accepted, require, go-on}
 use Rattle.stream.specs.Reading.Refusals.{Refusals, go-on-refusals, require-refusals}
 use Rattle.stream.specs.Reading.Laws.{go-on-accepted, require-accepted}
 use Rattle.node.specs.Nodes.{Node, pass, silent, emit-cue, emit-level, both, left, right, first, second, then, chain, regroup-right, regroup-left, spread, front, Types, types-pass, types-silent, types-cue, types-level, types-both, types-left, types-right, types-first, types-second, types-then, types-chain, types-regroup-right, types-regroup-left, types-spread, types-front, output-type, Small, Fits}

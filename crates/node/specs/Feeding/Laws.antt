@@ -1,12 +1,12 @@
 -- A fed node keeps its typing and its limits, the functions are the rules, and feeding a joined prefix is feeding its parts.
-use mathlib.Core.Path.{_≡_, refl, sym, ap, ap₂, _∙_}
-use Prim.Native.Nat.{ℕ, suc, _+_, _≤_}
+use mathlib.Core.Path.{_≡_, refl, sym, ap, ap₂}
+use Prim.Native.Nat.{_≤_}
 use native.Mathlib.Omega.{arith}
 use native.Mathlib.Nat.{le-trans}
-use Rattle.stream.specs.Types.{Ty, empty, cue, level, seq, par, size, type-limit, Nullable, null-empty, null-par}
-use Rattle.stream.specs.Prefixes.{Prefix, nothing, cue-come, level-come, in-first, crossed, beside, Complete, whole-nothing, whole-cue, whole-level, whole-crossed, whole-beside, IsPrefix, of-empty, of-cue-come, of-level-come, of-first, of-crossed, of-beside, empty-prefix, derivative, concat}
+use Rattle.stream.specs.Types.{Ty, size, null-empty}
+use Rattle.stream.specs.Prefixes.{Prefix, in-first, crossed, beside, Complete, whole-nothing, whole-cue, whole-level, whole-crossed, whole-beside, IsPrefix, of-empty, of-cue-come, of-level-come, of-first, of-crossed, of-beside, derivative, concat}
 use Rattle.stream.specs.Prefixes.Laws.{crossed-second, beside-first, beside-second, empty-prefix-is-prefix, empty-prefix-complete, derivative-empty, complete→nullable, derivative-size, derivative-concat, concat-empty-left, concat-empty-right}
-use Rattle.node.specs.Nodes.{Node, pass, silent, emit-cue, emit-level, both, left, right, first, second, then, chain, regroup-right, regroup-left, spread, front, Types, types-pass, types-silent, types-cue, types-level, types-both, types-left, types-right, types-first, types-second, types-then, types-chain, types-regroup-right, types-regroup-left, types-spread, types-front, output-type, count, node-limit, Small, Fits, Allowed}
+use Rattle.node.specs.Nodes.{Node, silent, both, then, chain, Types, types-pass, types-silent, types-cue, types-level, types-both, types-left, types-right, types-first, types-second, types-then, types-chain, types-regroup-right, types-regroup-left, types-spread, types-front, output-type, count, Fits, Allowed}
 use Rattle.node.specs.Nodes.Laws.{output-type-is}
 use Rattle.node.specs.Feeding.{Feeds, feeds-pass, feeds-silent, feeds-cue, feeds-level, feeds-both, feeds-left, feeds-right, feeds-first-5, feeds-first-6, feeds-second-5, feeds-second-6, feeds-then-5, feeds-then-6, feeds-chain, feeds-right-55, feeds-right-56, feeds-right-66, feeds-left-5, feeds-left-65, feeds-left-66, feeds-spread-5, feeds-spread-6, feeds-front, sends, leaves}
 

@@ -1,21 +1,21 @@
 -- A patch file is accepted exactly if it is the file of a patch that the rules and the limits allow.
-use mathlib.Core.Path.{_≡_, refl, sym, ap, _∙_}
+use mathlib.Core.Path.{_≡_, refl, ap}
 use mathlib.Core.Logic.{_↔_}
-use mathlib.Core.List.{List, [], _∷_, _++_, append-nil}
-use Prim.Native.Nat.{ℕ, suc, _+_, _*_, _≤_, _<_}
+use mathlib.Core.List.{List, [], _∷_, append-nil}
+use Prim.Native.Nat.{ℕ, suc, _+_, _*_, _≤_}
 use native.Mathlib.Omega.{arith}
 use lib.ListN.{length, getD, length-append}
 use Rattle.stream.specs.declared.Fault.{Fault}
 use Rattle.stream.specs.declared.Fault.the-variants.{CutShort, Unlisted, LeftOver, TypeTooLarge, TooManyNodes, NotNullable, WrongShape}
-use Rattle.stream.specs.Types.{Ty, size, type-limit}
-use Rattle.stream.specs.Levels.{value-bytes, read-value}
+use Rattle.stream.specs.Types.{Ty, type-limit}
+use Rattle.stream.specs.Levels.{read-value}
 use Rattle.stream.specs.Levels.Laws.{value-length, value-reads, value-sound, value-faults}
-use Rattle.stream.specs.Reading.{Bytes, Reading, read, fault, Result, accepted, refused, IsAccepted, read-on, go-on, whole, section-bytes, section, Root, tree, leaf, two-parts}
+use Rattle.stream.specs.Reading.{Bytes, Reading, read, fault, accepted, IsAccepted, read-on, section-bytes, Root, leaf, two-parts}
 use Rattle.stream.specs.Reading.Laws.{Reads, reads-leaf, reads-two, tree-reads, RootIs, leaf-is, two-is, tree-sound, section-reads, section-sound, whole-sound, _&_, past, every, bytes-tail, read-on-read, go-on-accepted}
 use Rattle.stream.specs.Reading.Refusals.{Faults, Refusals, read-on-faults, go-on-refusals, section-faults, tree-faults, whole-refusals}
 use Rattle.stream.specs.TypeFiles.{type-bytes, read-type, type-section}
 use Rattle.stream.specs.TypeFiles.Laws.{type-length, read-type-reads, read-type-sound, type-section-reads, type-section-sound, read-type-faults, type-section-faults}
-use Rattle.node.specs.Nodes.{Node, pass, silent, emit-cue, emit-level, both, left, right, first, second, then, chain, regroup-right, regroup-left, spread, front, Types, count, node-limit, Small, Fits, Allowed}
+use Rattle.node.specs.Nodes.{Node, pass, silent, emit-cue, emit-level, both, left, right, first, second, then, chain, regroup-right, regroup-left, spread, front, count, node-limit, Small, Allowed}
 use Rattle.node.specs.Checking.{typing}
 use Rattle.node.specs.Checking.Laws.{Carries, types-carries, typing-sound, typing-complete, typing-refusals}
 use Rattle.node.specs.PatchFiles.{node-bytes, patch-file-bytes, PatchFile, node-kinds, node-root, read-node, node-section, Patch, Checked, patch-sections, first-pass, second-pass, patch-file}

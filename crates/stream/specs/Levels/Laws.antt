@@ -1,11 +1,11 @@
 -- A value is read as it was written.
-use mathlib.Core.Path.{_≡_, refl, ap, ap₂}
+use mathlib.Core.Path.{_≡_, refl, ap₂}
 use mathlib.Core.List.{List, [], _∷_}
 use Prim.Native.Nat.{ℕ, suc, _+_, _*_, _/_, _%_, _<_}
 use native.Mathlib.Omega.{arith}
-use lib.ListN.{length, getD}
+use lib.ListN.{length}
 use Rattle.stream.specs.declared.Fault.{Fault}
-use Rattle.stream.specs.Reading.{Bytes, Reading, read, fault}
+use Rattle.stream.specs.Reading.{Bytes, read}
 use Rattle.stream.specs.Reading.Refusals.{Faults}
 use Rattle.stream.specs.Levels.{level-limit, value-bytes, read-value}
 

@@ -1,11 +1,11 @@
 -- Slice files that tell the readings of document 01 apart (docs/DECISIONS.md), each with its type and its number.
 use mathlib.Core.Path.{_≡_, refl}
-use mathlib.Core.Bool.{Bool, true, false}
-use mathlib.Core.List.{List, [], _∷_, _++_, map}
+use mathlib.Core.Bool.{true, false}
+use mathlib.Core.List.{List, [], _∷_, map}
 use Prim.Native.Nat.{ℕ}
 use Rattle.stream.specs.Types.{Ty, empty, cue, level, seq, par}
-use Rattle.stream.specs.Prefixes.{Prefix, nothing, cue-awaited, cue-come, level-awaited, level-come, in-first, crossed, beside, complete, derivative, concat}
-use Rattle.stream.specs.Reading.Examples.{verdict, section-of, copies, numbers, verdicts}
+use Rattle.stream.specs.Prefixes.{nothing, cue-awaited, cue-come, level-awaited, level-come, in-first, crossed, beside, complete, derivative, concat}
+use Rattle.stream.specs.Reading.Examples.{verdict, section-of, numbers, verdicts}
 use Rattle.stream.specs.SliceFiles.{slice-file}
 use Rattle.stream.specs.Computing.{stream-definitions}
 

@@ -9,13 +9,13 @@ use lib.ListN.{length, getD}
 use borrow.Author.Tests.{not-true}
 use Rattle.stream.specs.declared.Fault.{Fault}
 use Rattle.stream.specs.declared.Fault.the-variants.{SliceCutShort, SliceUnlisted, SliceLeftOver, SliceMisplaced}
-use Rattle.stream.specs.Types.{Ty, empty, cue, level, seq, par, size, type-limit, first-part, second-part, has-kind}
+use Rattle.stream.specs.Types.{Ty, size, type-limit, first-part, second-part, has-kind}
 use Rattle.stream.specs.Types.Laws.{and-left, and-right, made-of, parts-size, size-positive}
-use Rattle.stream.specs.Levels.{value-bytes, read-value}
+use Rattle.stream.specs.Levels.{read-value}
 use Rattle.stream.specs.Levels.Laws.{value-width, value-length, value-reads, value-sound, value-faults}
 use Rattle.stream.specs.Prefixes.{Prefix, nothing, cue-awaited, cue-come, level-awaited, level-come, in-first, crossed, beside, Complete, whole-nothing, whole-cue, whole-level, whole-crossed, whole-beside, IsPrefix, of-empty, of-cue-awaited, of-cue-come, of-level-awaited, of-level-come, of-first, of-crossed, of-beside}
 use Rattle.stream.specs.Prefixes.Laws.{crossed-second, beside-first, beside-second}
-use Rattle.stream.specs.Reading.{Bytes, Reading, read, fault, Result, accepted, IsAccepted, read-on, whole, section-bytes, section, Root, forest, tree, leaf, one-part, two-parts}
+use Rattle.stream.specs.Reading.{Bytes, Reading, read, fault, accepted, IsAccepted, read-on, whole, section-bytes, section, Root, forest, leaf}
 use Rattle.stream.specs.Reading.Laws.{Reads, reads-leaf, reads-one, reads-two, tree-reads, RootIs, leaf-is, one-is, two-is, tree-sound, section-reads, section-sound, whole-sound, _&_, past, every, bytes-tail}
 use Rattle.stream.specs.Reading.Refusals.{Faults, Refusals, read-on-faults, section-faults, tree-faults, whole-refusals}
 use Rattle.stream.specs.SliceFiles.{prefix-bytes, slice-file-bytes, SliceFile, Owed, owed, belongs, prefix-kinds, prefix-root, read-prefix, slice-file}

@@ -1,6 +1,6 @@
 -- Type files that tell the readings of document 01 apart (docs/DECISIONS.md), with their numbers.
 use mathlib.Core.Path.{_≡_, refl}
-use mathlib.Core.List.{List, [], _∷_, _++_}
+use mathlib.Core.List.{List, [], _∷_}
 use Prim.Native.Nat.{ℕ}
 use Rattle.stream.specs.Reading.Examples.{verdict, section-of, copies, numbers, verdicts}
 use Rattle.stream.specs.TypeFiles.{type-file}

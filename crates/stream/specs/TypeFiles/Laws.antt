@@ -1,16 +1,15 @@
 -- A type file is accepted exactly if it is the file of a type within the limit.
-use mathlib.Core.Path.{_≡_, refl, sym, ap, _∙_}
+use mathlib.Core.Path.{_≡_, refl}
 use mathlib.Core.Logic.{_↔_}
-use mathlib.Core.List.{List, [], _∷_, _++_, append-nil}
-use Prim.Native.Nat.{ℕ, suc, _+_, _≤_, _<_}
+use mathlib.Core.List.{List, [], _∷_, append-nil}
+use Prim.Native.Nat.{ℕ, _+_, _≤_, _<_}
 use native.Mathlib.Omega.{arith}
-use native.Mathlib.Nat.{add-zero}
-use lib.ListN.{length, getD}
+use lib.ListN.{length}
 use Rattle.stream.specs.declared.Fault.{Fault}
 use Rattle.stream.specs.declared.Fault.the-variants.{CutShort, Unlisted, LeftOver, TypeTooLarge}
 use Rattle.stream.specs.Types.{Ty, empty, cue, level, seq, par, size, type-limit}
-use Rattle.stream.specs.Reading.{Bytes, Reading, read, fault, Result, accepted, IsAccepted, whole, section-bytes, section, Root, tree, leaf, two-parts}
-use Rattle.stream.specs.Reading.Laws.{Reads, reads-leaf, reads-two, tree-reads, RootIs, leaf-is, two-is, FoundTree, tree-sound, FoundSection, section-reads, section-sound, whole-sound, _&_, past, every, bytes-tail}
+use Rattle.stream.specs.Reading.{Bytes, read, fault, accepted, IsAccepted, section-bytes}
+use Rattle.stream.specs.Reading.Laws.{Reads, reads-leaf, reads-two, tree-reads, RootIs, leaf-is, two-is, tree-sound, section-reads, section-sound, whole-sound, _&_, past, every, bytes-tail}
 use Rattle.stream.specs.Reading.Refusals.{Faults, Refusals, section-faults, tree-faults, whole-refusals}
 use Rattle.stream.specs.TypeFiles.{type-bytes, type-file-bytes, TypeFile, type-kinds, type-root, read-type, type-section, type-file}
 

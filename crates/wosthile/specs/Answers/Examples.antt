@@ -1,14 +1,12 @@
 -- Calls that tell the readings of document 01 apart (docs/DECISIONS.md): the order of the files in one call, the lengths that
 -- 20 compares, what stands in a buffer afterwards, and Admit's answer.
 use mathlib.Core.Path.{_≡_, refl}
-use mathlib.Core.Bool.{Bool, true, false, _&&_}
 use mathlib.Core.List.{List, [], _∷_, _++_, map}
 use Prim.Native.Nat.{ℕ}
 use Rattle.stream.specs.Reading.{Result}
 use Rattle.stream.specs.Reading.Examples.{section-of}
 use Rattle.node.specs.Computing.{node-definitions}
 use Rattle.node.specs.PatchFiles.Examples.{sections}
-use Rattle.wosthile.specs.declared.Admitted.{Admitted}
 use Rattle.wosthile.specs.Answers.{check, admit, left, join, feed, FedFiles, with-room, fits-one, fits-both, number-of, admitted, after}
 
 -- A patch that passes a cue, and a slice in which it has come.

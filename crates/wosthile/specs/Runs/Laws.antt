@@ -1,20 +1,19 @@
 -- A run over a function that keeps Feed's promise is a list of feeds of trees, and so it is as one feed.
 use mathlib.Core.Path.{_≡_, refl, sym, ap, ap₂, _∙_}
-use mathlib.Core.Bool.{Bool, true, false, _&&_}
+use mathlib.Core.Bool.{Bool, true, false}
 use mathlib.Core.List.{List, [], _∷_, _++_, map, append-nil}
-use Prim.Native.Nat.{ℕ, suc, _+_, _*_, _/_, _%_, _≤_}
+use Prim.Native.Nat.{ℕ, _+_, _*_, _/_, _%_, _≤_}
 use native.Mathlib.Omega.{arith}
-use native.Mathlib.Nat.{le-trans}
-use lib.Dec.{leb, eqb}
+use lib.Dec.{eqb}
 use lib.ListN.{length, take, drop, length-append}
 use lib.Seq.{take-append-seam}
 use borrow.Author.Tests.{ne-eqb}
 use Rattle.stream.specs.declared.Fault.{Fault}
 use Rattle.stream.specs.Faults.{number}
-use Rattle.stream.specs.Types.{Ty, size}
-use Rattle.stream.specs.Prefixes.{Prefix, IsPrefix, derivative, concat}
+use Rattle.stream.specs.Types.{Ty}
+use Rattle.stream.specs.Prefixes.{Prefix, IsPrefix, derivative}
 use Rattle.stream.specs.Prefixes.Laws.{concat-is-prefix, derivative-concat}
-use Rattle.stream.specs.Reading.{Bytes, Result, accepted, refused, IsAccepted, go-on, section-bytes}
+use Rattle.stream.specs.Reading.{Result, accepted, refused, IsAccepted, go-on, section-bytes}
 use Rattle.stream.specs.Reading.Laws.{go-on-accepted}
 use Rattle.stream.specs.TypeFiles.{type-bytes, type-file-bytes}
 use Rattle.stream.specs.SliceFiles.{slice-file, slice-file-bytes}
@@ -25,7 +24,7 @@ use Rattle.node.specs.Nodes.Laws.{output-small}
 use Rattle.node.specs.Feeding.Laws.{Fed, fed as fed-laws, feeds-only, leaves-allowed}
 use Rattle.node.specs.Feeding.Lists.{Pieces, no-more, piece, concat-all, derivative-all, sends-all, leaves-all, sends-pieces, concat-all-is-prefix, derivative-concat-all, sends-concat-all, leaves-concat-all, leaves-all-allowed}
 use Rattle.node.specs.PatchFiles.{node-bytes, patch-file-bytes, PatchFile}
-use Rattle.wosthile.specs.Answers.{check, left, join, FedFiles, feed, with-room, fits-both, fed, front, after}
+use Rattle.wosthile.specs.Answers.{check, left, FedFiles, feed, with-room, fits-both, fed, front, after}
 use Rattle.wosthile.specs.Answers.Laws.{check-answers, patch-checked, left-answers, join-answers, fed-files, feed-of-patch, feed-answers, number-positive, enough-room, room-accepted, both-fit}
 use Rattle.wosthile.specs.Promises.{FeedPromise, FedCall}
 use Rattle.wosthile.specs.Runs.{Call, ByteSlices, Run, Feed, takes, after-call, run, Joins, alone, joined, first-section, sends-and-leaves, AsOne}
