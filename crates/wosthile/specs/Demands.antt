@@ -1,13 +1,13 @@
 -- The user's demands, in the user's order, as theorems about any five operations that keep the promises of Promises.antt.
 -- What the statements speak of: answers and numbers (Answers.antt), runs (Runs.antt), files (TypeFiles, SliceFiles,
 -- PatchFiles), rules (IsPrefix in Prefixes, Types and Allowed in Nodes, Feeds in Feeding).
-use mathlib.Core.Path.{_≡_, refl}
+use mathlib.Core.Path.{_≡_}
 use mathlib.Core.Logic.{_↔_, Iff·trans}
 use mathlib.Core.List.{List, [], _∷_}
 use Prim.Native.Nat.{ℕ, _≤_}
 use lib.ListN.{length}
 use Rattle.stream.specs.Types.{Ty, par}
-use Rattle.stream.specs.Prefixes.{Prefix, beside, IsPrefix, complete, empty-prefix, derivative}
+use Rattle.stream.specs.Prefixes.{Prefix, beside, IsPrefix, Complete, empty-prefix, derivative}
 use Rattle.stream.specs.Reading.{Bytes, accepted, IsAccepted}
 use Rattle.stream.specs.TypeFiles.{type-file-bytes, TypeFile}
 use Rattle.stream.specs.SliceFiles.{slice-file-bytes, SliceFile}
@@ -15,8 +15,8 @@ use Rattle.node.specs.Nodes.{Node, Small, Allowed}
 use Rattle.node.specs.Feeding.{Feeds, sends, leaves}
 use Rattle.node.specs.Feeding.Laws.{feeds}
 use Rattle.node.specs.PatchFiles.{patch-file-bytes, PatchFile}
-use Rattle.wosthile.specs.Answers.{check, admit, left, join, feed, with-room, fits-one, fits-both, as-number, patch-numbers, admit-numbers, feed-numbers}
-use Rattle.wosthile.specs.Answers.Laws.{lanes-join, check-refusals, admit-refusals, left-refusals, join-refusals, feed-refusals, check-accepted, admit-accepted, admit-answers, feed-accepted, check-length, left-length, join-length, feed-lengths, fed-patch}
+use Rattle.wosthile.specs.Answers.{check, admit, left, join, feed, with-room, fits-one, fits-both, patch-numbers, admit-numbers, feed-numbers}
+use Rattle.wosthile.specs.Answers.Laws.{lanes-join, check-refuses, admit-refuses, left-refuses, join-refuses, feed-refuses, check-accepted, admit-accepted, admit-answers, feed-accepted, check-at-most, left-at-most, join-at-most, feed-at-most, fed-at-most}
 use Rattle.wosthile.specs.Promises.{Operations, Keeps, Decided, TooShort}
 use Rattle.wosthile.specs.Promises.Laws.{writes-decided, admits-decided, feeds-decided, writes-twenty, feeds-twenty, writes-bounded, feeds-bounded, writes-never-twenty, feeds-never-twenty, writes-zero, feeds-zero, admits-zero, admits-complete}
 use Rattle.wosthile.specs.Runs.{Call, ByteSlices, Run, run, AsOne, sends-and-leaves}
@@ -29,115 +29,64 @@ module _ (ops : Operations) (keeps : Keeps ops) where
   pub demand-1-check : (patch lent : List ℕ)
       → (let c = ops .check patch lent in
       Decided (with-room (fits-one (length lent)) (check patch)) (20 ∷ patch-numbers) (c .answer .number) (lent ∷ []) (c .lent ∷ []))
-  demand-1-check patch lent = writes-decided (check patch) lent _ _ (keeps .check patch lent) patch-numbers (check-refusals patch)
+  demand-1-check patch lent = writes-decided (keeps .check patch lent) (check-refuses patch)
 
   pub demand-1-admit : (type slice : List ℕ) → Decided (admit type slice) admit-numbers (ops .admit type slice .number) [] []
-  demand-1-admit type slice = admits-decided (admit type slice) _ admit-numbers (admit-refusals type slice) (keeps .admit type slice)
+  demand-1-admit type slice = admits-decided (keeps .admit type slice) (admit-refuses type slice)
 
   pub demand-1-left : (type slice lent : List ℕ)
       → (let c = ops .left type slice lent in
       Decided (with-room (fits-one (length lent)) (left type slice)) (20 ∷ admit-numbers) (c .answer .number) (lent ∷ []) (c .lent ∷ []))
-  demand-1-left type slice lent =
-      writes-decided (left type slice) lent _ _ (keeps .left type slice lent) admit-numbers (left-refusals type slice)
+  demand-1-left type slice lent = writes-decided (keeps .left type slice lent) (left-refuses type slice)
 
   pub demand-1-join : (type first second lent : List ℕ)
       → (let c = ops .join type first second lent in
       Decided (with-room (fits-one (length lent)) (join type first second)) (20 ∷ admit-numbers) (c .answer .number) (lent ∷ []) (c .lent ∷ []))
-  demand-1-join type first second lent =
-      writes-decided (join type first second) lent _ _ (keeps .join type first second lent) admit-numbers (join-refusals type first second)
+  demand-1-join type first second lent = writes-decided (keeps .join type first second lent) (join-refuses type first second)
 
   pub demand-1-feed : (patch slice output left : List ℕ)
       → (let c = ops .feed patch slice output left in
       Decided (with-room (fits-both (length output) (length left)) (feed patch slice)) (20 ∷ feed-numbers) (c .answer .number)
       (output ∷ left ∷ []) (c .output ∷ c .left ∷ []))
-  demand-1-feed patch slice output left =
-      feeds-decided patch slice output left _ _ _ (keeps .feed patch slice output left) feed-numbers (feed-refusals patch slice)
+  demand-1-feed patch slice output left = feeds-decided (keeps .feed patch slice output left) (feed-refuses patch slice)
 
   -- 20 comes exactly if a buffer is too short for an answer that is due.
 
   pub twenty-check : (patch lent : List ℕ) → ops .check patch lent .answer .number ≡ 20 ↔ TooShort (fits-one (length lent)) (check patch)
-  twenty-check patch lent = writes-twenty (check patch) lent _ _ (keeps .check patch lent) patch-numbers refl (check-refusals patch)
+  twenty-check patch lent = writes-twenty (keeps .check patch lent) (check-refuses patch)
 
   pub twenty-left : (type slice lent : List ℕ)
       → ops .left type slice lent .answer .number ≡ 20 ↔ TooShort (fits-one (length lent)) (left type slice)
-  twenty-left type slice lent = writes-twenty (left type slice) lent _ _ (keeps .left type slice lent) admit-numbers refl (left-refusals type slice)
+  twenty-left type slice lent = writes-twenty (keeps .left type slice lent) (left-refuses type slice)
 
   pub twenty-join : (type first second lent : List ℕ)
       → ops .join type first second lent .answer .number ≡ 20 ↔ TooShort (fits-one (length lent)) (join type first second)
-  twenty-join type first second lent =
-      writes-twenty (join type first second) lent _ _ (keeps .join type first second lent) admit-numbers refl (join-refusals type first second)
+  twenty-join type first second lent = writes-twenty (keeps .join type first second lent) (join-refuses type first second)
 
   pub twenty-feed : (patch slice output left : List ℕ)
       → ops .feed patch slice output left .answer .number ≡ 20 ↔ TooShort (fits-both (length output) (length left)) (feed patch slice)
-  twenty-feed patch slice output left =
-      feeds-twenty patch slice output left _ _ _ (keeps .feed patch slice output left) feed-numbers refl (feed-refusals patch slice)
-
-  -- "So a slice file has at most 513 bytes", a type file 257 and a patch file 8,482: no answer is longer.
-
-  pub bound-check : (patch lent : List ℕ) → Bytes patch → ops .check patch lent .answer .written ≤ 257
-  bound-check patch lent b = writes-bounded (check patch) lent _ _ (keeps .check patch lent) 257 (λ file e. check-length patch file b e)
-
-  pub bound-left : (type slice lent : List ℕ) → Bytes type → Bytes slice → ops .left type slice lent .answer .written ≤ 257
-  bound-left type slice lent b c =
-      writes-bounded (left type slice) lent _ _ (keeps .left type slice lent) 257 (λ file e. left-length type slice file b c e)
-
-  pub bound-join : (type first second lent : List ℕ) → Bytes type → Bytes first → Bytes second
-      → ops .join type first second lent .answer .written ≤ 513
-  bound-join type first second lent b c d =
-      writes-bounded (join type first second) lent _ _ (keeps .join type first second lent) 513 (λ file e. join-length type first second file b c d e)
-
-  pub bound-feed : (patch slice output left : List ℕ) → Bytes patch → Bytes slice
-      → (let a = ops .feed patch slice output left .answer in (a .output ≤ 513) × (a .patch ≤ 8482))
-  bound-feed patch slice output left b c =
-      feeds-bounded patch slice output left _ _ _ (keeps .feed patch slice output left) (λ w e. feed-lengths slice w (fed-patch patch slice w b e) c e)
-
-  -- So with buffers of these lengths 20 never comes.
-
-  pub never-twenty-check : (patch lent : List ℕ) → Bytes patch → 257 ≤ length lent → ops .check patch lent .answer .number ≡ 20 → ⊥
-  never-twenty-check patch lent b h =
-      writes-never-twenty (check patch) lent _ _ (keeps .check patch lent) 257 (λ file e. check-length patch file b e)
-      patch-numbers refl (check-refusals patch) h
-
-  pub never-twenty-left : (type slice lent : List ℕ) → Bytes type → Bytes slice → 257 ≤ length lent
-      → ops .left type slice lent .answer .number ≡ 20 → ⊥
-  never-twenty-left type slice lent b c h =
-      writes-never-twenty (left type slice) lent _ _ (keeps .left type slice lent) 257 (λ file e. left-length type slice file b c e)
-      admit-numbers refl (left-refusals type slice) h
-
-  pub never-twenty-join : (type first second lent : List ℕ) → Bytes type → Bytes first → Bytes second → 513 ≤ length lent
-      → ops .join type first second lent .answer .number ≡ 20 → ⊥
-  never-twenty-join type first second lent b c d h =
-      writes-never-twenty (join type first second) lent _ _ (keeps .join type first second lent) 513
-      (λ file e. join-length type first second file b c d e) admit-numbers refl (join-refusals type first second) h
-
-  pub never-twenty-feed : (patch slice output left : List ℕ) → Bytes patch → Bytes slice → 513 ≤ length output → 8482 ≤ length left
-      → ops .feed patch slice output left .answer .number ≡ 20 → ⊥
-  never-twenty-feed patch slice output left b c h k =
-      feeds-never-twenty patch slice output left _ _ _ (keeps .feed patch slice output left)
-      (λ w e. feed-lengths slice w (fed-patch patch slice w b e) c e) feed-numbers refl (feed-refusals patch slice) h k
+  twenty-feed patch slice output left = feeds-twenty (keeps .feed patch slice output left) (feed-refuses patch slice)
 
   -- Demand 2. "A patch is accepted exactly when the kernel rules of stream types, as document 01 takes them for one input, and
   -- its limits allow it;
 
   pub demand-2-patch : (file lent : List ℕ) → Bytes file → 257 ≤ length lent → ops .check file lent .answer .number ≡ 0 ↔ PatchFile file
-  demand-2-patch file lent b h =
-      Iff·trans (writes-zero (check file) lent _ _ (keeps .check file lent) 257 (λ w e. check-length file w b e) h) (check-accepted file b)
+  demand-2-patch file lent b h = Iff·trans (writes-zero (keeps .check file lent) (check-at-most file b) h) (check-accepted file b)
 
   -- a slice, exactly when it is a prefix of the type in force.
 
   pub demand-2-slice : (file slice output left : List ℕ) (patch : PatchFile file) → Bytes slice → 513 ≤ length output → 8482 ≤ length left
       → ops .feed file slice output left .answer .number ≡ 0 ↔ SliceFile (patch .input) slice
   demand-2-slice file slice output left patch b h k =
-      Iff·trans (feeds-zero file slice output left _ _ _ (keeps .feed file slice output left) (λ w e. feed-lengths slice w patch b e) h k)
-      (feed-accepted slice patch b)
+      Iff·trans (feeds-zero (keeps .feed file slice output left) (feed-at-most slice patch b) h k) (feed-accepted slice patch b)
 
   pub demand-2-admit : (type slice : List ℕ) → Bytes type → Bytes slice
       → ops .admit type slice .number ≡ 0 ↔ ((t : TypeFile type) × SliceFile (t .type) slice)
-  demand-2-admit type slice b c = Iff·trans (admits-zero (admit type slice) _ (keeps .admit type slice)) (admit-accepted type slice b c)
+  demand-2-admit type slice b c = Iff·trans (admits-zero (keeps .admit type slice)) (admit-accepted type slice b c)
 
   pub demand-2-complete : {t : Ty} {p : Prefix} → Small t → IsPrefix t p
-      → ops .admit (type-file-bytes t) (slice-file-bytes p) ≡ record { number = 0; complete = as-number (complete p) }
-  demand-2-complete w h = admits-complete (admit _ _) _ (keeps .admit _ _) (admit-answers w h)
+      → ops .admit (type-file-bytes t) (slice-file-bytes p) .complete ≡ 1 ↔ Complete p
+  demand-2-complete w h = admits-complete (keeps .admit _ _) (admit-answers w h)
 
   -- Given long enough buffers, a feed sends the output and leaves the patch that those rules define."
 
@@ -192,8 +141,44 @@ module _ (ops : Operations) (keeps : Keeps ops) where
       → (r .patch ≡ q .patch) × (a .output ≡ b .output)
   cut-free a b e = same-stream a b e
 
--- Nor does the order in which two lanes side by side arrive (the source's Theorem 3.4, "Determinism"): the slice of one and then
--- that of the other join to the same slice either way.
+  -- Bounds. "So a slice file has at most 513 bytes", a type file 257 and a patch file 8,482: no answer is longer.
+
+  pub bound-check : (patch lent : List ℕ) → Bytes patch → ops .check patch lent .answer .written ≤ 257
+  bound-check patch lent b = writes-bounded (keeps .check patch lent) (check-at-most patch b)
+
+  pub bound-left : (type slice lent : List ℕ) → Bytes type → Bytes slice → ops .left type slice lent .answer .written ≤ 257
+  bound-left type slice lent b c = writes-bounded (keeps .left type slice lent) (left-at-most type slice b c)
+
+  pub bound-join : (type first second lent : List ℕ) → Bytes type → Bytes first → Bytes second
+      → ops .join type first second lent .answer .written ≤ 513
+  bound-join type first second lent b c d = writes-bounded (keeps .join type first second lent) (join-at-most type first second b c d)
+
+  pub bound-feed : (patch slice output left : List ℕ) → Bytes patch → Bytes slice
+      → (let a = ops .feed patch slice output left .answer in (a .output ≤ 513) × (a .patch ≤ 8482))
+  bound-feed patch slice output left b c = feeds-bounded (keeps .feed patch slice output left) (fed-at-most patch slice b c)
+
+  -- So with buffers of these lengths 20 never comes.
+
+  pub never-twenty-check : (patch lent : List ℕ) → Bytes patch → 257 ≤ length lent → ops .check patch lent .answer .number ≡ 20 → ⊥
+  never-twenty-check patch lent b h = writes-never-twenty (keeps .check patch lent) (check-refuses patch) (check-at-most patch b) h
+
+  pub never-twenty-left : (type slice lent : List ℕ) → Bytes type → Bytes slice → 257 ≤ length lent
+      → ops .left type slice lent .answer .number ≡ 20 → ⊥
+  never-twenty-left type slice lent b c h =
+      writes-never-twenty (keeps .left type slice lent) (left-refuses type slice) (left-at-most type slice b c) h
+
+  pub never-twenty-join : (type first second lent : List ℕ) → Bytes type → Bytes first → Bytes second → 513 ≤ length lent
+      → ops .join type first second lent .answer .number ≡ 20 → ⊥
+  never-twenty-join type first second lent b c d h =
+      writes-never-twenty (keeps .join type first second lent) (join-refuses type first second) (join-at-most type first second b c d) h
+
+  pub never-twenty-feed : (patch slice output left : List ℕ) → Bytes patch → Bytes slice → 513 ≤ length output → 8482 ≤ length left
+      → ops .feed patch slice output left .answer .number ≡ 20 → ⊥
+  never-twenty-feed patch slice output left b c h k =
+      feeds-never-twenty (keeps .feed patch slice output left) (feed-refuses patch slice) (fed-at-most patch slice b c) h k
+
+-- The order in which two lanes side by side arrive does not matter either (the source's Theorem 3.4, "Determinism"): the slice of
+-- one and then that of the other join to the same slice either way.
 pub order-free : {s t : Ty} {p q : Prefix} → Small (par s t) → IsPrefix s p → IsPrefix t q
     → (let type = type-file-bytes (par s t) in
     (join type (slice-file-bytes (beside p (empty-prefix t))) (slice-file-bytes (beside (empty-prefix (derivative s p)) q))

@@ -18,11 +18,15 @@ pub record Writes (outcome : Result (List ℕ)) (lent : List ℕ) (answer : Writ
   pub answers : answer ≡ written (with-room (fits-one (length lent)) outcome)
   pub buffer : lent-after ≡ after (λ file. file) (with-room (fits-one (length lent)) outcome) lent
 
+-- What an operation that writes nothing promises.
+pub record Admits (outcome : Result Bool) (answer : Admitted) : Type 0 where
+  pub answers : answer ≡ admitted outcome
+
 abbrev pub CheckPromise : (patch lent : List ℕ) → Written → List ℕ → Type 0
 CheckPromise patch lent answer lent-after = Writes (check patch) lent answer lent-after
 
 abbrev pub AdmitPromise : (type slice : List ℕ) → Admitted → Type 0
-AdmitPromise type slice answer = answer ≡ admitted (admit type slice)
+AdmitPromise type slice answer = Admits (admit type slice) answer
 
 abbrev pub LeftPromise : (type slice lent : List ℕ) → Written → List ℕ → Type 0
 LeftPromise type slice lent answer lent-after = Writes (left type slice) lent answer lent-after

@@ -1,7 +1,7 @@
 -- The answers, by the trees that the files hold: what the operations write, how long it is, and when they refuse.
 use mathlib.Core.Path.{_≡_, refl, sym, ap, _∙_}
 use mathlib.Core.Logic.{_↔_}
-use mathlib.Core.Bool.{Bool, true}
+use mathlib.Core.Bool.{Bool, true, false}
 use mathlib.Core.List.{List}
 use Prim.Native.Nat.{ℕ, _≤_}
 use native.Mathlib.Omega.{arith}
@@ -28,7 +28,7 @@ use Rattle.node.specs.Feeding.{sends, leaves}
 use Rattle.node.specs.Feeding.Laws.{fed, leaves-allowed}
 use Rattle.node.specs.PatchFiles.{patch-file, patch-file-bytes, PatchFile}
 use Rattle.node.specs.PatchFiles.Laws.{patch-file-complete, patch-file-sound, patch-file-accepted, patch-file-length, patch-file-refusals}
-use Rattle.wosthile.specs.Answers.{check, admit, left, join, FedFiles, feed, with-room, fits-both, patch-numbers, admit-numbers, feed-numbers, Listed}
+use Rattle.wosthile.specs.Answers.{check, admit, left, join, FedFiles, feed, with-room, fits-both, patch-numbers, admit-numbers, feed-numbers, contains, Listed}
 
 -- No refusal has the number 0.
 pub number-positive : (e : Fault) → 1 ≤ number e
@@ -165,13 +165,20 @@ module _ {A : Type 0} (fits : A → Bool) where
 pub both-fit : {output left : ℕ} (w : FedFiles) → length (w .output) ≤ output → length (w .patch) ≤ left → fits-both output left w ≡ true
 both-fit w h k = and-both (le-leb _ _ h) (le-leb _ _ k)
 
--- The refusals of each operation, 20 aside
+-- The refusals of each operation: each has one of the numbers ns, and 20 is not among them.
 
-pub check-refusals : (patch : List ℕ) → Refusals (Listed patch-numbers) (check patch)
+pub record Refuses {A : Type 0} (ns : List ℕ) (r : Result A) : Type 0 where
+  pub only : Refusals (Listed ns) r
+  pub not-20 : contains ns 20 ≡ false
+
+pub check-refuses : (patch : List ℕ) → Refuses patch-numbers (check patch)
 unfolding check
-check-refusals patch =
-    go-on-refusals (Listed patch-numbers) (patch-file patch) _
-    (patch-file-refusals (Listed patch-numbers) refl refl refl refl refl refl refl patch) (λ c. tt)
+check-refuses patch =
+    record {
+      only = go-on-refusals (Listed patch-numbers) (patch-file patch) _
+          (patch-file-refusals (Listed patch-numbers) refl refl refl refl refl refl refl patch) (λ c. tt);
+      not-20 = refl;
+    }
 
 -- A slice after something else with the numbers ns.
 module _ (ns : List ℕ) (cut : Listed ns SliceCutShort) (unlisted : Listed ns SliceUnlisted) (misplaced : Listed ns SliceMisplaced) (over : Listed ns SliceLeftOver) where
@@ -183,30 +190,41 @@ after-type : {A : Type 0} (type : List ℕ) (f : Ty → Result A) → ((t : Ty) 
     → Refusals (Listed admit-numbers) (go-on (type-file type) f)
 after-type type f h = go-on-refusals (Listed admit-numbers) (type-file type) f (type-file-refusals (Listed admit-numbers) refl refl refl refl type) h
 
-pub admit-refusals : (type slice : List ℕ) → Refusals (Listed admit-numbers) (admit type slice)
+pub admit-refuses : (type slice : List ℕ) → Refuses admit-numbers (admit type slice)
 unfolding admit
-admit-refusals type slice = after-type type _ (λ t. then-slice admit-numbers refl refl refl refl t slice _ (λ p. tt))
+admit-refuses type slice =
+    record { only = after-type type _ (λ t. then-slice admit-numbers refl refl refl refl t slice _ (λ p. tt)); not-20 = refl }
 
-pub left-refusals : (type slice : List ℕ) → Refusals (Listed admit-numbers) (left type slice)
+pub left-refuses : (type slice : List ℕ) → Refuses admit-numbers (left type slice)
 unfolding left
-left-refusals type slice = after-type type _ (λ t. then-slice admit-numbers refl refl refl refl t slice _ (λ p. tt))
+left-refuses type slice =
+    record { only = after-type type _ (λ t. then-slice admit-numbers refl refl refl refl t slice _ (λ p. tt)); not-20 = refl }
 
-pub join-refusals : (type first second : List ℕ) → Refusals (Listed admit-numbers) (join type first second)
+pub join-refuses : (type first second : List ℕ) → Refuses admit-numbers (join type first second)
 unfolding join
-join-refusals type first second =
-    after-type type _ (λ t. then-slice admit-numbers refl refl refl refl t first _
-    (λ p. then-slice admit-numbers refl refl refl refl (derivative t p) second _ (λ q. tt)))
+join-refuses type first second =
+    record {
+      only = after-type type _ (λ t. then-slice admit-numbers refl refl refl refl t first _
+          (λ p. then-slice admit-numbers refl refl refl refl (derivative t p) second _ (λ q. tt)));
+      not-20 = refl;
+    }
 
-pub feed-refusals : (patch slice : List ℕ) → Refusals (Listed feed-numbers) (feed patch slice)
+pub feed-refuses : (patch slice : List ℕ) → Refuses feed-numbers (feed patch slice)
 unfolding feed
-feed-refusals patch slice =
-    go-on-refusals (Listed feed-numbers) (patch-file patch) _
-    (patch-file-refusals (Listed feed-numbers) refl refl refl refl refl refl refl patch)
-    (λ c. then-slice feed-numbers refl refl refl refl (c .patch .input) slice _ (λ p. tt))
+feed-refuses patch slice =
+    record {
+      only = go-on-refusals (Listed feed-numbers) (patch-file patch) _
+          (patch-file-refusals (Listed feed-numbers) refl refl refl refl refl refl refl patch)
+          (λ c. then-slice feed-numbers refl refl refl refl (c .patch .input) slice _ (λ p. tt));
+      not-20 = refl;
+    }
 
--- The lengths of what the operations write
+-- The lengths of what the operations write: no file is longer than n.
 
-pub check-length : (patch file : List ℕ) → Bytes patch → check patch ≡ accepted file → length file ≤ 257
+pub record AtMost (n : ℕ) (r : Result (List ℕ)) : Type 0 where
+  pub within : (file : List ℕ) → r ≡ accepted file → length file ≤ n
+
+check-length : (patch file : List ℕ) → Bytes patch → check patch ≡ accepted file → length file ≤ 257
 unfolding check
 check-length patch file b e =
     let x = go-on-accepted (patch-file patch) (λ c. accepted (type-file-bytes (c .output))) file e in
@@ -214,7 +232,7 @@ check-length patch file b e =
     let d : type-file-bytes (x .0 .output) ≡ file = let y = x .2 in cc in
     rw (← d) (type-file-length (x .0 .output) (output-small (a .types) (a .fits)))
 
-pub left-length : (type slice file : List ℕ) → Bytes type → Bytes slice → left type slice ≡ accepted file → length file ≤ 257
+left-length : (type slice file : List ℕ) → Bytes type → Bytes slice → left type slice ≡ accepted file → length file ≤ 257
 unfolding left
 left-length type slice file b c e =
     let x = type-and-slice type slice (λ t p. accepted (type-file-bytes (derivative t p))) file b c e in
@@ -231,21 +249,33 @@ joined-length {t} {p} second file w h b e =
     let d : slice-file-bytes (concat p (x .0)) ≡ file = let z = x .2 in cc in
     rw (← d) (slice-file-length (concat-is-prefix (x .0) h k) w)
 
-pub join-length : (type first second file : List ℕ) → Bytes type → Bytes first → Bytes second → join type first second ≡ accepted file → length file ≤ 513
+join-length : (type first second file : List ℕ) → Bytes type → Bytes first → Bytes second → join type first second ≡ accepted file → length file ≤ 513
 unfolding join
 join-length type first second file b c o e =
     let x = type-and-slice type first (λ t p. go-on (slice-file (derivative t p) second) (λ q. accepted (slice-file-bytes (concat p q)))) file b c e in
     joined-length second file (x .typed .small) (x .sliced .is-prefix) o (x .made)
 
+pub check-at-most : (patch : List ℕ) → Bytes patch → AtMost 257 (check patch)
+check-at-most patch b = record { within = λ file e. check-length patch file b e }
+
+pub left-at-most : (type slice : List ℕ) → Bytes type → Bytes slice → AtMost 257 (left type slice)
+left-at-most type slice b c = record { within = λ file e. left-length type slice file b c e }
+
+pub join-at-most : (type first second : List ℕ) → Bytes type → Bytes first → Bytes second → AtMost 513 (join type first second)
+join-at-most type first second b c d = record { within = λ file e. join-length type first second file b c d e }
+
 pub record FedLengths (w : FedFiles) : Type 0 where
   pub output : length (w .output) ≤ 513
   pub patch : length (w .patch) ≤ 8482
 
-pub feed-lengths : {patch : List ℕ} (slice : List ℕ) (w : FedFiles) → PatchFile patch → Bytes slice → feed patch slice ≡ accepted w → FedLengths w
-feed-lengths slice w f b e = go (f .input) (f .node) (f .output) (f .allowed) (rw (← f .bytes) at e)
+pub record FedAtMost (r : Result FedFiles) : Type 0 where
+  pub within : (w : FedFiles) → r ≡ accepted w → FedLengths w
+
+pub feed-at-most : {patch : List ℕ} (slice : List ℕ) → PatchFile patch → Bytes slice → FedAtMost (feed patch slice)
+feed-at-most slice f b = record { within = λ w e. go w (f .input) (f .node) (f .output) (f .allowed) (rw (← f .bytes) at e) }
   where
-    go : (s : Ty) (n : Node) (t : Ty) → Allowed s n t → feed (patch-file-bytes s n) slice ≡ accepted w → FedLengths w
-    go s n t a e =
+    go : (w : FedFiles) (s : Ty) (n : Node) (t : Ty) → Allowed s n t → feed (patch-file-bytes s n) slice ≡ accepted w → FedLengths w
+    go w s n t a e =
         let x = go-on-accepted (slice-file s slice) (λ p. accepted (fed-files s n p)) w (sym (feed-of-patch slice a) ∙ e) in
         let h = slice-file-sound s slice (x .0) b (x .1) .1 in
         let d : fed-files s n (x .0) ≡ w = let z = x .2 in cc in
@@ -256,8 +286,11 @@ feed-lengths slice w f b e = go (f .input) (f .node) (f .output) (f .allowed) (r
         })
 
 -- An accepted feed was of a patch file.
-pub fed-patch : (patch slice : List ℕ) (w : FedFiles) → Bytes patch → feed patch slice ≡ accepted w → PatchFile patch
+fed-patch : (patch slice : List ℕ) (w : FedFiles) → Bytes patch → feed patch slice ≡ accepted w → PatchFile patch
 unfolding feed
 fed-patch patch slice w b e =
     let x = go-on-accepted (patch-file patch) (λ c. go-on (slice-file (c .patch .input) slice) (λ p. accepted (fed-files (c .patch .input) (c .patch .node) p))) w e in
     patch-file-accepted patch b .0 (x .0, x .1)
+
+pub fed-at-most : (patch slice : List ℕ) → Bytes patch → Bytes slice → FedAtMost (feed patch slice)
+fed-at-most patch slice b c = record { within = λ w e. (feed-at-most slice (fed-patch patch slice w b e) c) .within w e }

@@ -1,7 +1,7 @@
 -- What follows from a promise: a call is decided, it says 20 exactly if a buffer is too short, and no answer is longer than
 -- what the call has to write.
 use mathlib.Core.Path.{_≡_, refl, sym, ap, ap₂, _∙_}
-use mathlib.Core.Logic.{_↔_}
+use mathlib.Core.Logic.{_↔_, Iff·trans}
 use mathlib.Core.Bool.{Bool, true, false, true≢false, or-true}
 use mathlib.Core.List.{List, [], _∷_}
 use Prim.Native.Nat.{ℕ, _≤_}
@@ -13,14 +13,16 @@ use borrow.Author.Tests.{le-leb}
 use Rattle.stream.specs.declared.Fault.{Fault}
 use Rattle.stream.specs.declared.Fault.the-variants.{NoRoom}
 use Rattle.stream.specs.Faults.{number}
+use Rattle.stream.specs.Prefixes.{Prefix, Complete, complete}
+use Rattle.stream.specs.Prefixes.Laws.{complete-sound, complete-complete}
 use Rattle.stream.specs.Reading.{Result, accepted, refused, IsAccepted, require}
 use Rattle.stream.specs.Reading.Refusals.{Refusals}
 use Rattle.wosthile.specs.declared.Written.{Written}
 use Rattle.wosthile.specs.declared.Admitted.{Admitted}
 use Rattle.wosthile.specs.declared.Fed.{Fed}
 use Rattle.wosthile.specs.Answers.{with-room, number-of, value-of, as-number, after, contains, Listed, fits-one, fits-both, written, admitted, fed, FedFiles, feed}
-use Rattle.wosthile.specs.Answers.Laws.{number-positive, enough-room, room-accepted, room-refusals, both-fit, FedLengths}
-use Rattle.wosthile.specs.Promises.{Writes, FeedPromise, Decided, is-accepted, is-refused, TooShort}
+use Rattle.wosthile.specs.Answers.Laws.{number-positive, enough-room, room-accepted, room-refusals, both-fit, Refuses, AtMost, FedAtMost}
+use Rattle.wosthile.specs.Promises.{Writes, Admits, FeedPromise, Decided, is-accepted, is-refused, TooShort}
 
 -- Faults with a listed number
 
@@ -32,9 +34,9 @@ abbrev NotRoom : Fault → Type 0
 NotRoom e = number e ≡ 20 → ⊥
 
 -- Where 20 is not among the numbers, no refusal is 20.
-not-room : (ns : List ℕ) {A : Type 0} (r : Result A) → contains ns 20 ≡ false → Refusals (Listed ns) r → Refusals NotRoom r
-not-room ns (accepted a) n h = tt
-not-room ns (refused e) n h = λ d. true≢false (sym h ∙ ap (contains ns) d ∙ n)
+not-room : {A : Type 0} {ns : List ℕ} (r : Result A) → Refuses ns r → Refusals NotRoom r
+not-room (accepted a) h = tt
+not-room {ns = ns} (refused e) h = λ d. true≢false (sym (h .only) ∙ ap (contains ns) d ∙ h .not-20)
 
 -- A call is decided, by its outcome with room taken in.
 module _ {A : Type 0} (listed : List ℕ) (answered : ℕ) (lent lent-after : List (List ℕ)) where
@@ -94,94 +96,97 @@ module _ {A : Type 0} (fits : A → Bool) (r : Result A) where
 
 -- The operations with one lent buffer
 
-module _ (outcome : Result (List ℕ)) (lent : List ℕ) (answer : Written) (lent-after : List ℕ) (promise : Writes outcome lent answer lent-after) where
+module _ {outcome : Result (List ℕ)} {lent : List ℕ} {answer : Written} {lent-after : List ℕ} (promise : Writes outcome lent answer lent-after) where
   told : answer .number ≡ number-of (with-room (fits-one (length lent)) outcome)
   unfolding written
   told = ap (λ (a : Written). a .number) (promise .answers)
 
-  pub writes-decided : (ns : List ℕ) → Refusals (Listed ns) outcome
+  all-fit : {most : ℕ} → AtMost most outcome → most ≤ length lent → (file : List ℕ) → outcome ≡ accepted file → fits-one (length lent) file ≡ true
+  all-fit l h file e = le-leb (length file) (length lent) (le-trans (l .within file e) h)
+
+  pub writes-decided : {ns : List ℕ} → Refuses ns outcome
       → Decided (with-room (fits-one (length lent)) outcome) (20 ∷ ns) (answer .number) (lent ∷ []) (lent-after ∷ [])
-  writes-decided ns r =
+  writes-decided {ns} r =
       decided (20 ∷ ns) (answer .number) (lent ∷ []) (lent-after ∷ []) (with-room (fits-one (length lent)) outcome)
-      (room-refusals (fits-one (length lent)) (Listed (20 ∷ ns)) outcome refl (listed-more 20 ns outcome r)) told
+      (room-refusals (fits-one (length lent)) (Listed (20 ∷ ns)) outcome refl (listed-more 20 ns outcome (r .only))) told
       (λ e h. ap (λ l. l ∷ []) (unaltered (λ file. file) (with-room (fits-one (length lent)) outcome) lent lent-after e (promise .buffer) h))
 
-  pub writes-twenty : (ns : List ℕ) → contains ns 20 ≡ false → Refusals (Listed ns) outcome
-      → answer .number ≡ 20 ↔ TooShort (fits-one (length lent)) outcome
-  writes-twenty ns n r = rw told (twenty (fits-one (length lent)) outcome (not-room ns outcome n r))
+  pub writes-twenty : {ns : List ℕ} → Refuses ns outcome → answer .number ≡ 20 ↔ TooShort (fits-one (length lent)) outcome
+  writes-twenty r = rw told (twenty (fits-one (length lent)) outcome (not-room outcome r))
 
-  module _ (most : ℕ) (within : (file : List ℕ) → outcome ≡ accepted file → length file ≤ most) where
-    pub writes-bounded : answer .written ≤ most
-    unfolding written
-    writes-bounded =
-        rw (ap (λ (a : Written). a .written) (promise .answers)) (bounded (fits-one (length lent)) outcome length most within)
+  pub writes-bounded : {most : ℕ} → AtMost most outcome → answer .written ≤ most
+  unfolding written
+  writes-bounded {most} l =
+      rw (ap (λ (a : Written). a .written) (promise .answers)) (bounded (fits-one (length lent)) outcome length most (l .within))
 
-    all-fit : most ≤ length lent → (file : List ℕ) → outcome ≡ accepted file → fits-one (length lent) file ≡ true
-    all-fit h file e = le-leb (length file) (length lent) (le-trans (within file e) h)
+  pub writes-never-twenty : {ns : List ℕ} {most : ℕ} → Refuses ns outcome → AtMost most outcome → most ≤ length lent → answer .number ≡ 20 → ⊥
+  writes-never-twenty r l h e = never-twenty (fits-one (length lent)) outcome (not-room outcome r) (all-fit l h) (sym told ∙ e)
 
-    pub writes-never-twenty : (ns : List ℕ) → contains ns 20 ≡ false → Refusals (Listed ns) outcome → most ≤ length lent → answer .number ≡ 20 → ⊥
-    writes-never-twenty ns n r h e =
-        never-twenty (fits-one (length lent)) outcome (not-room ns outcome n r) (all-fit h) (sym told ∙ e)
-
-    pub writes-zero : most ≤ length lent → answer .number ≡ 0 ↔ IsAccepted outcome
-    writes-zero h = rw told (zero-with-room (fits-one (length lent)) outcome (all-fit h))
+  pub writes-zero : {most : ℕ} → AtMost most outcome → most ≤ length lent → answer .number ≡ 0 ↔ IsAccepted outcome
+  writes-zero l h = rw told (zero-with-room (fits-one (length lent)) outcome (all-fit l h))
 
 -- Feed
 
-module _ (patch slice output left : List ℕ) (answer : Fed) (output-after left-after : List ℕ)
+module _ {patch slice output left : List ℕ} {answer : Fed} {output-after left-after : List ℕ}
     (promise : FeedPromise patch slice output left answer output-after left-after) where
-  fed-told : answer .number ≡ number-of (with-room (fits-both (length output) (length left)) (feed patch slice))
+  abbrev fits : FedFiles → Bool
+  fits w = fits-both (length output) (length left) w
+
+  fed-told : answer .number ≡ number-of (with-room fits (feed patch slice))
   unfolding fed
   fed-told = ap (λ (a : Fed). a .number) (promise .answers)
 
-  pub feeds-decided : (ns : List ℕ) → Refusals (Listed ns) (feed patch slice)
+  both-fits : FedAtMost (feed patch slice) → 513 ≤ length output → 8482 ≤ length left → (w : FedFiles) → feed patch slice ≡ accepted w → fits w ≡ true
+  both-fits l h k w e = let n = l .within w e in both-fit w (le-trans (n .output) h) (le-trans (n .patch) k)
+
+  pub feeds-decided : {ns : List ℕ} → Refuses ns (feed patch slice)
       → Decided (with-room (fits-both (length output) (length left)) (feed patch slice)) (20 ∷ ns) (answer .number)
       (output ∷ left ∷ []) (output-after ∷ left-after ∷ [])
-  feeds-decided ns r =
-      let fits = fits-both (length output) (length left) in
+  feeds-decided {ns} r =
       decided (20 ∷ ns) (answer .number) (output ∷ left ∷ []) (output-after ∷ left-after ∷ []) (with-room fits (feed patch slice))
-      (room-refusals fits (Listed (20 ∷ ns)) (feed patch slice) refl (listed-more 20 ns (feed patch slice) r)) fed-told
-      (λ e h.
-      ap₂ (λ x y. x ∷ y ∷ []) (unaltered (λ w. w .output) (with-room fits (feed patch slice)) output output-after e (promise .output-buffer) h)
+      (room-refusals fits (Listed (20 ∷ ns)) (feed patch slice) refl (listed-more 20 ns (feed patch slice) (r .only))) fed-told
+      (λ e h. ap₂ (λ x y. x ∷ y ∷ []) (unaltered (λ w. w .output) (with-room fits (feed patch slice)) output output-after e (promise .output-buffer) h)
       (unaltered (λ w. w .patch) (with-room fits (feed patch slice)) left left-after e (promise .left-buffer) h))
 
-  pub feeds-twenty : (ns : List ℕ) → contains ns 20 ≡ false → Refusals (Listed ns) (feed patch slice)
+  pub feeds-twenty : {ns : List ℕ} → Refuses ns (feed patch slice)
       → answer .number ≡ 20 ↔ TooShort (fits-both (length output) (length left)) (feed patch slice)
-  feeds-twenty ns n r = rw fed-told (twenty (fits-both (length output) (length left)) (feed patch slice) (not-room ns (feed patch slice) n r))
+  feeds-twenty r = rw fed-told (twenty fits (feed patch slice) (not-room (feed patch slice) r))
 
-  module _ (within : (w : FedFiles) → feed patch slice ≡ accepted w → FedLengths w) where
-    pub feeds-bounded : (answer .output ≤ 513) × (answer .patch ≤ 8482)
-    unfolding fed
-    feeds-bounded = (
-      rw (ap (λ (a : Fed). a .output) (promise .answers))
-          (bounded (fits-both (length output) (length left)) (feed patch slice) (λ w. length (w .output)) 513 (λ w e. (within w e) .output)),
-      rw (ap (λ (a : Fed). a .patch) (promise .answers))
-          (bounded (fits-both (length output) (length left)) (feed patch slice) (λ w. length (w .patch)) 8482 (λ w e. (within w e) .patch)),
-    )
+  pub feeds-bounded : FedAtMost (feed patch slice) → (answer .output ≤ 513) × (answer .patch ≤ 8482)
+  unfolding fed
+  feeds-bounded l = (
+    rw (ap (λ (a : Fed). a .output) (promise .answers))
+        (bounded fits (feed patch slice) (λ w. length (w .output)) 513 (λ w e. (l .within w e) .output)),
+    rw (ap (λ (a : Fed). a .patch) (promise .answers))
+        (bounded fits (feed patch slice) (λ w. length (w .patch)) 8482 (λ w e. (l .within w e) .patch)),
+  )
 
-    both-fits : 513 ≤ length output → 8482 ≤ length left → (w : FedFiles) → feed patch slice ≡ accepted w
-        → fits-both (length output) (length left) w ≡ true
-    both-fits h k w e = both-fit w (le-trans ((within w e) .output) h) (le-trans ((within w e) .patch) k)
+  pub feeds-never-twenty : {ns : List ℕ} → Refuses ns (feed patch slice) → FedAtMost (feed patch slice)
+      → 513 ≤ length output → 8482 ≤ length left → answer .number ≡ 20 → ⊥
+  feeds-never-twenty r l h k e = never-twenty fits (feed patch slice) (not-room (feed patch slice) r) (both-fits l h k) (sym fed-told ∙ e)
 
-    pub feeds-never-twenty : (ns : List ℕ) → contains ns 20 ≡ false → Refusals (Listed ns) (feed patch slice)
-        → 513 ≤ length output → 8482 ≤ length left → answer .number ≡ 20 → ⊥
-    feeds-never-twenty ns n r h k e =
-        never-twenty (fits-both (length output) (length left)) (feed patch slice) (not-room ns (feed patch slice) n r) (both-fits h k) (sym fed-told ∙ e)
-
-    pub feeds-zero : 513 ≤ length output → 8482 ≤ length left → answer .number ≡ 0 ↔ IsAccepted (feed patch slice)
-    feeds-zero h k = rw fed-told (zero-with-room (fits-both (length output) (length left)) (feed patch slice) (both-fits h k))
+  pub feeds-zero : FedAtMost (feed patch slice) → 513 ≤ length output → 8482 ≤ length left → answer .number ≡ 0 ↔ IsAccepted (feed patch slice)
+  feeds-zero l h k = rw fed-told (zero-with-room fits (feed patch slice) (both-fits l h k))
 
 -- Admit
-pub admits-decided : (o : Result Bool) (answer : Admitted) (ns : List ℕ) → Refusals (Listed ns) o → answer ≡ admitted o
-    → Decided o ns (answer .number) [] []
-unfolding admitted
-admits-decided o answer ns r e = decided ns (answer .number) [] [] o r (ap (λ (a : Admitted). a .number) e) (λ x h. refl)
 
-pub admits-zero : (o : Result Bool) (answer : Admitted) → answer ≡ admitted o → answer .number ≡ 0 ↔ IsAccepted o
-unfolding admitted
-admits-zero o answer e = rw (ap (λ (a : Admitted). a .number) e) (zero-accepted o)
+one-true : (b : Bool) → as-number b ≡ 1 ↔ b ≡ true
+one-true true = ((λ e. refl), (λ e. refl))
+one-true false = ((λ e. absurd (omega arith)), (λ e. absurd (true≢false (sym e))))
 
-pub admits-complete : {b : Bool} (o : Result Bool) (answer : Admitted) → answer ≡ admitted o → o ≡ accepted b
-    → answer ≡ record { number = 0; complete = as-number b }
-unfolding admitted
-admits-complete o answer e d = e ∙ ap admitted d
+module _ {o : Result Bool} {answer : Admitted} (promise : Admits o answer) where
+  admit-told : answer .number ≡ number-of o
+  unfolding admitted
+  admit-told = ap (λ (a : Admitted). a .number) (promise .answers)
+
+  pub admits-decided : {ns : List ℕ} → Refuses ns o → Decided o ns (answer .number) [] []
+  admits-decided {ns} r = decided ns (answer .number) [] [] o (r .only) admit-told (λ x h. refl)
+
+  pub admits-zero : answer .number ≡ 0 ↔ IsAccepted o
+  admits-zero = rw admit-told (zero-accepted o)
+
+  pub admits-complete : {p : Prefix} → o ≡ accepted (complete p) → answer .complete ≡ 1 ↔ Complete p
+  unfolding admitted
+  admits-complete {p} d =
+      rw (ap (λ (a : Admitted). a .complete) (promise .answers ∙ ap admitted d))
+      (Iff·trans (one-true (complete p)) ((λ e. complete-sound p e), (λ c. complete-complete c)))
