@@ -6,16 +6,16 @@ use Rattle.stream.specs.Levels.{level-limit}
 pub mod Laws
 
 pub data Node : Type 0 where
-  pass : Node  -- 0
-  silent : Ty → Node  -- 1, and a nullable type
-  emit-cue : Node  -- 2, document 01's cue
+  pass : Node  -- 0, the source's variable
+  silent : Ty → Node  -- 1, and a nullable type (the source's sink, at any nullable type)
+  emit-cue : Node  -- 2, document 01's cue, the source's ()
   emit-level : ℕ → Node  -- 3, document 01's level, and its value
-  both : Node → Node → Node  -- 4
+  both : Node → Node → Node  -- 4, the source's PAR-R
   left : Node  -- 5
   right : Node  -- 6
   first : Node  -- 7
   second : Node  -- 8
-  then : Node → Node → Node  -- 9
+  then : Node → Node → Node  -- 9, the source's CAT-R
   chain : Node → Node → Node  -- 10, the source's cut
   regroup-right : Node  -- 11
   regroup-left : Node  -- 12

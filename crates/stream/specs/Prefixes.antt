@@ -1,4 +1,5 @@
--- Prefixes: what has come so far of a stream. Document 01 calls one a slice (Files, "Slices" to "Join").
+-- Prefixes: what has come so far of a stream. Document 01 calls one a slice (Files, "Slices" to "Join"). The source's names
+-- for them (its Figure 4) stand behind the kind bytes.
 use mathlib.Core.Bool.{Bool, true, false, _&&_}
 use Prim.Native.Nat.{ℕ, _<_}
 use Rattle.stream.specs.Levels.{level-limit}
@@ -6,16 +7,17 @@ use Rattle.stream.specs.Types.{Ty, empty, cue, level, seq, par, first-pa
 pub mod Laws
 
 pub data Prefix : Type 0 where
-  nothing : Prefix  -- 0, of the empty type
-  cue-awaited : Prefix  -- 1, not yet
-  cue-come : Prefix  -- 2, come
+  nothing : Prefix  -- 0, epsp, of the empty type
+  cue-awaited : Prefix  -- 1, onepA, not yet
+  cue-come : Prefix  -- 2, onepB, come
   level-awaited : Prefix  -- 3, not yet
   level-come : ℕ → Prefix  -- 4, come, and the value
-  in-first : Prefix → Prefix  -- 5, a sequence whose first part is still coming
-  crossed : Prefix → Prefix → Prefix  -- 6, the complete first part, then a prefix of the second
-  beside : Prefix → Prefix → Prefix  -- 7, both sides
+  in-first : Prefix → Prefix  -- 5, catpA, a sequence whose first part is still coming
+  crossed : Prefix → Prefix → Prefix  -- 6, catpB, the complete first part, then a prefix of the second
+  beside : Prefix → Prefix → Prefix  -- 7, parp, both sides
 
--- "Complete means: 0, 2, 4, a 6 whose second is complete, a 7 with both complete." (The source's maximal prefix.)
+-- "Complete means: 0, 2, 4, a 6 whose second is complete, a 7 with both complete." (The source's
+-- batch, seen as a prefix.)
 pub data Complete : Prefix → Type 0 where
   whole-nothing : Complete nothing
   whole-cue : Complete cue-come

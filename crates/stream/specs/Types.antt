@@ -5,9 +5,9 @@ use lib.Dec.{eqb}
 pub mod Laws
 
 pub data Ty : Type 0 where
-  empty : Ty  -- 0, the source's unit type 1
-  cue : Ty  -- 1
-  level : Ty  -- 2
+  empty : Ty  -- 0, the stream with nothing in it (the source's ε)
+  cue : Ty  -- 1, one event (the source's unit type 1)
+  level : Ty  -- 2, one event with a value
   seq : Ty → Ty → Ty  -- 3, sequence: one part after the other (the source's s · t)
   par : Ty → Ty → Ty  -- 4, side by side (the source's s ∥ t)
 
