@@ -24,31 +24,31 @@ pub data Feeds : Ty → Node → Prefix → Prefix → Node → Type 0 where
   feeds-left : {s t : Ty} {p q : Prefix} → Feeds (par s t) left (beside p q) p left
   feeds-right : {s t : Ty} {p q : Prefix} → Feeds (par s t) right (beside p q) q right
   -- "first: On 5 p sends p; itself. On 6 b q sends b; silent with what b leaves of s."
-  feeds-first-5 : {s t : Ty} {p : Prefix} → Feeds (seq s t) first (in-first p) p first
-  feeds-first-6 : {s t : Ty} {b q : Prefix} → Feeds (seq s t) first (crossed b q) b (silent (derivative s b))
+  feeds-first-coming : {s t : Ty} {p : Prefix} → Feeds (seq s t) first (in-first p) p first
+  feeds-first-crossed : {s t : Ty} {b q : Prefix} → Feeds (seq s t) first (crossed b q) b (silent (derivative s b))
   -- "second: On 5 sends t's empty slice; itself. On 6 b q sends q; pass."
-  feeds-second-5 : {s t : Ty} {p : Prefix} → Feeds (seq s t) second (in-first p) (empty-prefix t) second
-  feeds-second-6 : {s t : Ty} {b q : Prefix} → Feeds (seq s t) second (crossed b q) q pass
+  feeds-second-coming : {s t : Ty} {p : Prefix} → Feeds (seq s t) second (in-first p) (empty-prefix t) second
+  feeds-second-crossed : {s t : Ty} {b q : Prefix} → Feeds (seq s t) second (crossed b q) q pass
   -- "then: On 5 p runs the first node: 5 and its output; then, with the first node replaced."
-  feeds-then-5 : {s t : Ty} {n m n′ : Node} {p o : Prefix} → Feeds s n p o n′
+  feeds-then-coming : {s t : Ty} {n m n′ : Node} {p o : Prefix} → Feeds s n p o n′
       → Feeds (seq s t) (then n m) (in-first p) (in-first o) (then n′ m)
   -- "On 6 b q runs the first on b and the second on q: 6 and both outputs; the second node's remainder alone."
-  feeds-then-6 : {s t : Ty} {n m n′ m′ : Node} {b q o u : Prefix} → Feeds s n b o n′ → Feeds t m q u m′
+  feeds-then-crossed : {s t : Ty} {n m n′ m′ : Node} {b q o u : Prefix} → Feeds s n b o n′ → Feeds t m q u m′
       → Feeds (seq s t) (then n m) (crossed b q) (crossed o u) m′
   -- "chain: the second takes what the first sends; chain of both left."
   feeds-chain : {s t : Ty} {n m n′ m′ : Node} {p o u : Prefix} → Types s n t → Feeds s n p o n′ → Feeds t m o u m′
       → Feeds s (chain n m) p u (chain n′ m′)
   -- "regroup right: 5 5 p gives 5 p, itself. 5 6 b q gives 6 b 5 q, pass. 6 6 b c q gives 6 b 6 c q, pass."
-  feeds-right-55 : {s : Ty} {p : Prefix} → Feeds s regroup-right (in-first (in-first p)) (in-first p) regroup-right
-  feeds-right-56 : {s : Ty} {b q : Prefix} → Feeds s regroup-right (in-first (crossed b q)) (crossed b (in-first q)) pass
-  feeds-right-66 : {s : Ty} {b c q : Prefix} → Feeds s regroup-right (crossed (crossed b c) q) (crossed b (crossed c q)) pass
+  feeds-regroup-right-in-first : {s : Ty} {p : Prefix} → Feeds s regroup-right (in-first (in-first p)) (in-first p) regroup-right
+  feeds-regroup-right-in-second : {s : Ty} {b q : Prefix} → Feeds s regroup-right (in-first (crossed b q)) (crossed b (in-first q)) pass
+  feeds-regroup-right-in-third : {s : Ty} {b c q : Prefix} → Feeds s regroup-right (crossed (crossed b c) q) (crossed b (crossed c q)) pass
   -- "regroup left: 5 p gives 5 5 p, itself. 6 b 5 q gives 5 6 b q, pass. 6 b 6 c q gives 6 6 b c q, pass."
-  feeds-left-5 : {s : Ty} {p : Prefix} → Feeds s regroup-left (in-first p) (in-first (in-first p)) regroup-left
-  feeds-left-65 : {s : Ty} {b q : Prefix} → Feeds s regroup-left (crossed b (in-first q)) (in-first (crossed b q)) pass
-  feeds-left-66 : {s : Ty} {b c q : Prefix} → Feeds s regroup-left (crossed b (crossed c q)) (crossed (crossed b c) q) pass
+  feeds-regroup-left-in-first : {s : Ty} {p : Prefix} → Feeds s regroup-left (in-first p) (in-first (in-first p)) regroup-left
+  feeds-regroup-left-in-second : {s : Ty} {b q : Prefix} → Feeds s regroup-left (crossed b (in-first q)) (in-first (crossed b q)) pass
+  feeds-regroup-left-in-third : {s : Ty} {b c q : Prefix} → Feeds s regroup-left (crossed b (crossed c q)) (crossed (crossed b c) q) pass
   -- "spread: 5 p gives 7 5 p 5 p, itself. 6 b 7 q r gives 7 6 b q 6 b r, pass."
-  feeds-spread-5 : {s : Ty} {p : Prefix} → Feeds s spread (in-first p) (beside (in-first p) (in-first p)) spread
-  feeds-spread-6 : {s : Ty} {b q r : Prefix} → Feeds s spread (crossed b (beside q r)) (beside (crossed b q) (crossed b r)) pass
+  feeds-spread-coming : {s : Ty} {p : Prefix} → Feeds s spread (in-first p) (beside (in-first p) (in-first p)) spread
+  feeds-spread-crossed : {s : Ty} {b q r : Prefix} → Feeds s spread (crossed b (beside q r)) (beside (crossed b q) (crossed b r)) pass
   -- "front: p gives 6 0 p; pass."
   feeds-front : {s : Ty} {p : Prefix} → Feeds s front p (crossed nothing p) pass
 

@@ -10,7 +10,7 @@ use Rattle.stream.specs.Faults.{number}
 use Rattle.wosthile.specs.declared.Written.{Written}
 use Rattle.wosthile.specs.declared.Admitted.{Admitted}
 use Rattle.wosthile.specs.declared.Fed.{Fed}
-use Rattle.wosthile.specs.Answers.{check, admit, left, join, feed, with-room, fits-one, fits-both, Listed, written, admitted, fed, after}
+use Rattle.wosthile.specs.Answers.{check, admit, left, join, feed, with-room, fits-one, fits-both, Listed, written, admitted, fed, front, after}
 pub mod Laws
 
 -- What an operation with one lent buffer promises: `outcome` is what it has to write, 20 aside.
@@ -49,6 +49,18 @@ pub record FedCall : Type 0 where
   pub answer : Fed
   pub output : List ℕ
   pub left : List ℕ
+
+-- Accepted calls that write a file, or the two files of a feed, at the front of what they were lent.
+abbrev pub writes-file : (file lent : List ℕ) → WrittenCall
+writes-file file lent = record { answer = record { number = 0; written = length file }; lent = front file lent }
+
+abbrev pub sends-and-leaves : (output patch output-lent left-lent : List ℕ) → FedCall
+sends-and-leaves output patch output-lent left-lent =
+    record {
+      answer = record { number = 0; output = length output; patch = length patch };
+      output = front output output-lent;
+      left = front patch left-lent;
+    }
 
 pub record Operations : Type 0 where
   pub check : (patch lent : List ℕ) → WrittenCall

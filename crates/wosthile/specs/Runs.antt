@@ -6,8 +6,8 @@ use Prim.Native.Nat.{ℕ, _*_, _+_, _≤_}
 use lib.Dec.{eqb}
 use lib.ListN.{length, take}
 use Rattle.stream.specs.Reading.{Bytes, accepted}
-use Rattle.wosthile.specs.Answers.{check, left, join, front}
-use Rattle.wosthile.specs.Promises.{FedCall}
+use Rattle.wosthile.specs.Answers.{check, left, join}
+use Rattle.wosthile.specs.Promises.{FedCall, sends-and-leaves}
 pub mod Laws
 
 -- "Feed calls, none or any number, each with a slice file and two buffers of its own, of any bytes and any lengths."
@@ -62,15 +62,6 @@ unfoldable pub first-section : List ℕ → List ℕ
 first-section [] = []
 first-section (h ∷ []) = h ∷ []
 first-section (h ∷ l ∷ s) = h ∷ l ∷ take (h * 256 + l) s
-
--- An accepted feed that writes the files `output` and `patch` at the front of the buffers lent.
-abbrev pub sends-and-leaves : (output patch output-lent left-lent : List ℕ) → FedCall
-sends-and-leaves output patch output-lent left-lent =
-    record {
-      answer = record { number = 0; output = length output; patch = length patch };
-      output = front output output-lent;
-      left = front patch left-lent;
-    }
 
 -- "The accepted slices joined in order, fed as one to the patch at the start with long enough buffers, are accepted too, send
 -- exactly the accepted feeds' outputs joined in order, and leave the patch that the list left, byte for byte." Its input

@@ -8,7 +8,7 @@ use Rattle.stream.specs.Prefixes.{Prefix, in-first, crossed, beside, Complete, 
 use Rattle.stream.specs.Prefixes.Laws.{crossed-second, beside-first, beside-second, empty-prefix-is-prefix, empty-prefix-complete, derivative-empty, complete→nullable, derivative-size, derivative-concat, concat-empty-left, concat-empty-right}
 use Rattle.node.specs.Nodes.{Node, silent, both, then, chain, Types, types-pass, types-silent, types-cue, types-level, types-both, types-left, types-right, types-first, types-second, types-then, types-chain, types-regroup-right, types-regroup-left, types-spread, types-front, output-type, count, Fits, Allowed}
 use Rattle.node.specs.Nodes.Laws.{output-type-is}
-use Rattle.node.specs.Feeding.{Feeds, feeds-pass, feeds-silent, feeds-cue, feeds-level, feeds-both, feeds-left, feeds-right, feeds-first-5, feeds-first-6, feeds-second-5, feeds-second-6, feeds-then-5, feeds-then-6, feeds-chain, feeds-right-55, feeds-right-56, feeds-right-66, feeds-left-5, feeds-left-65, feeds-left-66, feeds-spread-5, feeds-spread-6, feeds-front, sends, leaves}
+use Rattle.node.specs.Feeding.{Feeds, feeds-pass, feeds-silent, feeds-cue, feeds-level, feeds-both, feeds-left, feeds-right, feeds-first-coming, feeds-first-crossed, feeds-second-coming, feeds-second-crossed, feeds-then-coming, feeds-then-crossed, feeds-chain, feeds-regroup-right-in-first, feeds-regroup-right-in-second, feeds-regroup-right-in-third, feeds-regroup-left-in-first, feeds-regroup-left-in-second, feeds-regroup-left-in-third, feeds-spread-coming, feeds-spread-crossed, feeds-front, sends, leaves}
 
 -- A fed node: its output is a prefix of the output type, complete where the input is, and the node left takes what is left
 -- of the input type to what is left of the output type.
@@ -84,21 +84,21 @@ feeds (types-level v) h = feeds-level
 feeds (types-both d e) h = feeds-both (feeds d h) (feeds e h)
 feeds types-left (of-beside h k) = feeds-left
 feeds types-right (of-beside h k) = feeds-right
-feeds types-first (of-first h) = feeds-first-5
-feeds types-first (of-crossed h c k) = feeds-first-6
-feeds types-second (of-first h) = feeds-second-5
-feeds types-second (of-crossed h c k) = feeds-second-6
-feeds (types-then d e) (of-first h) = feeds-then-5 (feeds d h)
-feeds (types-then d e) (of-crossed h c k) = feeds-then-6 (feeds d h) (feeds e k)
+feeds types-first (of-first h) = feeds-first-coming
+feeds types-first (of-crossed h c k) = feeds-first-crossed
+feeds types-second (of-first h) = feeds-second-coming
+feeds types-second (of-crossed h c k) = feeds-second-crossed
+feeds (types-then d e) (of-first h) = feeds-then-coming (feeds d h)
+feeds (types-then d e) (of-crossed h c k) = feeds-then-crossed (feeds d h) (feeds e k)
 feeds (types-chain d e) h = rw (output-type-is d) (feeds-chain d (feeds d h) (feeds e ((fed d h) .sent)))
-feeds types-regroup-right (of-first (of-first h)) = feeds-right-55
-feeds types-regroup-right (of-first (of-crossed h c k)) = feeds-right-56
-feeds types-regroup-right (of-crossed (of-crossed h c k) d l) = feeds-right-66
-feeds types-regroup-left (of-first h) = feeds-left-5
-feeds types-regroup-left (of-crossed h c (of-first k)) = feeds-left-65
-feeds types-regroup-left (of-crossed h c (of-crossed k d l)) = feeds-left-66
-feeds types-spread (of-first h) = feeds-spread-5
-feeds types-spread (of-crossed h c (of-beside k l)) = feeds-spread-6
+feeds types-regroup-right (of-first (of-first h)) = feeds-regroup-right-in-first
+feeds types-regroup-right (of-first (of-crossed h c k)) = feeds-regroup-right-in-second
+feeds types-regroup-right (of-crossed (of-crossed h c k) d l) = feeds-regroup-right-in-third
+feeds types-regroup-left (of-first h) = feeds-regroup-left-in-first
+feeds types-regroup-left (of-crossed h c (of-first k)) = feeds-regroup-left-in-second
+feeds types-regroup-left (of-crossed h c (of-crossed k d l)) = feeds-regroup-left-in-third
+feeds types-spread (of-first h) = feeds-spread-coming
+feeds types-spread (of-crossed h c (of-beside k l)) = feeds-spread-crossed
 feeds types-front h = feeds-front
 
 -- Two outcomes of a feed that are the same.
@@ -121,14 +121,14 @@ feeds-only (feeds-both f g) =
     record { sent = ap₂ beside a.sent b.sent; node = ap₂ both a.node b.node }
 feeds-only feeds-left = same
 feeds-only feeds-right = same
-feeds-only feeds-first-5 = same
-feeds-only feeds-first-6 = same
-feeds-only feeds-second-5 = same
-feeds-only feeds-second-6 = same
-feeds-only (feeds-then-5 f) =
+feeds-only feeds-first-coming = same
+feeds-only feeds-first-crossed = same
+feeds-only feeds-second-coming = same
+feeds-only feeds-second-crossed = same
+feeds-only (feeds-then-coming f) =
     let a = feeds-only f in
     record { sent = ap in-first a.sent; node = ap₂ then a.node refl }
-feeds-only (feeds-then-6 f g) =
+feeds-only (feeds-then-crossed f g) =
     let a = feeds-only f in
     let b = feeds-only g in
     record { sent = ap₂ crossed a.sent b.sent; node = b.node }
@@ -136,14 +136,14 @@ feeds-only (feeds-chain d f g) =
     let a = feeds-only f in
     let b = feeds-only g in
     rw (output-type-is d, ← a.sent) (record { sent = b.sent; node = ap₂ chain a.node b.node })
-feeds-only feeds-right-55 = same
-feeds-only feeds-right-56 = same
-feeds-only feeds-right-66 = same
-feeds-only feeds-left-5 = same
-feeds-only feeds-left-65 = same
-feeds-only feeds-left-66 = same
-feeds-only feeds-spread-5 = same
-feeds-only feeds-spread-6 = same
+feeds-only feeds-regroup-right-in-first = same
+feeds-only feeds-regroup-right-in-second = same
+feeds-only feeds-regroup-right-in-third = same
+feeds-only feeds-regroup-left-in-first = same
+feeds-only feeds-regroup-left-in-second = same
+feeds-only feeds-regroup-left-in-third = same
+feeds-only feeds-spread-coming = same
+feeds-only feeds-spread-crossed = same
 feeds-only feeds-front = same
 
 -- Feeding a joined prefix is feeding its two parts.

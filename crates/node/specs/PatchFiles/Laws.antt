@@ -8,13 +8,13 @@ use lib.ListN.{length, getD, length-append}
 use Rattle.stream.specs.declared.Fault.{Fault}
 use Rattle.stream.specs.declared.Fault.the-variants.{CutShort, Unlisted, LeftOver, TypeTooLarge, TooManyNodes, NotNullable, WrongShape}
 use Rattle.stream.specs.Types.{Ty, type-limit}
-use Rattle.stream.specs.Levels.{read-value}
-use Rattle.stream.specs.Levels.Laws.{value-length, value-reads, value-sound, value-faults}
+use Rattle.stream.specs.Levels.{value-bytes, read-value}
+use Rattle.stream.specs.Levels.Laws.{value-length, value-is-bytes, value-reads, value-sound, value-faults}
 use Rattle.stream.specs.Reading.{Bytes, Reading, read, fault, accepted, IsAccepted, read-on, section-bytes, Root, leaf, two-parts}
-use Rattle.stream.specs.Reading.Laws.{Reads, reads-leaf, reads-two, tree-reads, RootIs, leaf-is, two-is, tree-sound, section-reads, section-sound, whole-sound, _&_, past, every, bytes-tail, read-on-read, go-on-accepted}
+use Rattle.stream.specs.Reading.Laws.{Reads, reads-leaf, reads-two, tree-reads, RootIs, leaf-is, two-is, tree-sound, section-reads, section-sound, whole-sound, _&_, past, every, bytes-tail, bytes-nil, bytes-cons, section-is-bytes, read-on-read, go-on-accepted}
 use Rattle.stream.specs.Reading.Refusals.{Faults, Refusals, read-on-faults, go-on-refusals, section-faults, tree-faults, whole-refusals}
 use Rattle.stream.specs.TypeFiles.{type-bytes, read-type, type-section}
-use Rattle.stream.specs.TypeFiles.Laws.{type-length, read-type-reads, read-type-sound, type-section-reads, type-section-sound, read-type-faults, type-section-faults}
+use Rattle.stream.specs.TypeFiles.Laws.{type-length, type-is-bytes, type-section-is-bytes, read-type-reads, read-type-sound, type-section-reads, type-section-sound, read-type-faults, type-section-faults}
 use Rattle.node.specs.Nodes.{Node, pass, silent, emit-cue, emit-level, both, left, right, first, second, then, chain, regroup-right, regroup-left, spread, front, count, node-limit, Small, Allowed}
 use Rattle.node.specs.Checking.{typing}
 use Rattle.node.specs.Checking.Laws.{Carries, types-carries, typing-sound, typing-complete, typing-refusals}
@@ -52,6 +52,33 @@ patch-file-length {s} {t} {n} a =
     rw (append-nil (node-bytes n []), length-append (type-bytes s []) _)
     (omega (arith, type-length s [], nodes-short n (types-carries (a .types) (a .fits)) (a .few), a .input-small))
 
+-- What is written are bytes
+
+node-is-bytes : (n : Node) (r : List ℕ) → Carries n → Bytes r → Bytes (node-bytes n r)
+unfolding node-bytes
+node-is-bytes pass r f b = bytes-cons 0 r (omega arith) b
+node-is-bytes (silent n) r f b = bytes-cons 1 (type-bytes n r) (omega arith) (type-is-bytes n r b)
+node-is-bytes emit-cue r f b = bytes-cons 2 r (omega arith) b
+node-is-bytes (emit-level v) r f b = bytes-cons 3 (value-bytes v r) (omega arith) (value-is-bytes v r f b)
+node-is-bytes (both n m) r f b = bytes-cons 4 (node-bytes n (node-bytes m r)) (omega arith) (node-is-bytes n (node-bytes m r) f.0 (node-is-bytes m r f.1 b))
+node-is-bytes left r f b = bytes-cons 5 r (omega arith) b
+node-is-bytes right r f b = bytes-cons 6 r (omega arith) b
+node-is-bytes first r f b = bytes-cons 7 r (omega arith) b
+node-is-bytes second r f b = bytes-cons 8 r (omega arith) b
+node-is-bytes (then n m) r f b = bytes-cons 9 (node-bytes n (node-bytes m r)) (omega arith) (node-is-bytes n (node-bytes m r) f.0 (node-is-bytes m r f.1 b))
+node-is-bytes (chain n m) r f b = bytes-cons 10 (node-bytes n (node-bytes m r)) (omega arith) (node-is-bytes n (node-bytes m r) f.0 (node-is-bytes m r f.1 b))
+node-is-bytes regroup-right r f b = bytes-cons 11 r (omega arith) b
+node-is-bytes regroup-left r f b = bytes-cons 12 r (omega arith) b
+node-is-bytes spread r f b = bytes-cons 13 r (omega arith) b
+node-is-bytes front r f b = bytes-cons 14 r (omega arith) b
+
+pub patch-file-is-bytes : {s t : Ty} {n : Node} → Allowed s n t → Bytes (patch-file-bytes s n)
+unfolding patch-file-bytes
+patch-file-is-bytes {s} {t} {n} a =
+    let f = types-carries (a .types) (a .fits) in
+    type-section-is-bytes s (section-bytes (node-bytes n []) []) (a .input-small)
+    (section-is-bytes (node-bytes n []) [] (omega (arith, nodes-short n f (a .few))) (node-is-bytes n [] f bytes-nil) bytes-nil)
+
 -- Reading what was written
 
 reads : (n : Node) → Carries n → Reads TooManyNodes node-root tt n (count n) (node-bytes n)
@@ -79,7 +106,7 @@ read-node-reads n r f h = tree-reads TooManyNodes node-root node-limit r (reads 
 node-section-reads : (n : Node) (r : List ℕ) → Carries n → count n ≤ node-limit → node-section (section-bytes (node-bytes n []) r) ≡ read n r
 unfolding node-section
 node-section-reads n r f h =
-    section-reads CutShort LeftOver read-node (node-bytes n []) r n (omega (arith, nodes-short n f h)) (read-node-reads n [] f h)
+    section-reads CutShort LeftOver read-node (node-bytes n []) r n (read-node-reads n [] f h)
 
 pub patch-file-complete : {s t : Ty} {n : Node} → Allowed s n t
     → patch-file (patch-file-bytes s n) ≡ accepted (record { patch = record { input = s; node = n }; output = t })
@@ -93,35 +120,35 @@ patch-file-complete {s} {t} {n} a =
 abbrev IsNode : Unit {0} → Node → Type 0
 IsNode w n = Carries n
 
-abbrev Root-is : Unit {0} → List ℕ → Reading (Root (Unit {0}) Node) → Type 0
-Root-is w s g = RootIs TooManyNodes node-root IsNode node-bytes count w s g
+abbrev NodeRootIs : Unit {0} → List ℕ → Reading (Root (Unit {0}) Node) → Type 0
+NodeRootIs w s g = RootIs TooManyNodes node-root IsNode node-bytes count w s g
 
-carried-is : (w : Unit {0}) (s : List ℕ) → Bytes s → Root-is w (1 ∷ s) (read-on (read-type s) (λ n r. leaf (silent n) r))
+carried-is : (w : Unit {0}) (s : List ℕ) → Bytes s → NodeRootIs w (1 ∷ s) (read-on (read-type s) (λ n r. leaf (silent n) r))
 unfolding node-bytes count
 carried-is w s b = go (read-type s) refl
   where
-    go : (g : Reading Ty) → read-type s ≡ g → Root-is w (1 ∷ s) (read-on g (λ n r. leaf (silent n) r))
+    go : (g : Reading Ty) → read-type s ≡ g → NodeRootIs w (1 ∷ s) (read-on g (λ n r. leaf (silent n) r))
     go (fault e) h = tt
     go (read n r) h =
         let f = read-type-sound s n r b h in
         leaf-is TooManyNodes node-root IsNode node-bytes count (silent n) (1 ∷ s) r (f .rest)
         (f .within) refl (ap (λ l. 1 ∷ l) (f .bytes))
 
-value-is : (w : Unit {0}) (s : List ℕ) → Bytes s → Root-is w (3 ∷ s) (read-on (read-value CutShort s) (λ v r. leaf (emit-level v) r))
+value-is : (w : Unit {0}) (s : List ℕ) → Bytes s → NodeRootIs w (3 ∷ s) (read-on (read-value CutShort s) (λ v r. leaf (emit-level v) r))
 unfolding node-bytes count
 value-is w s b = go (read-value CutShort s) refl
   where
-    go : (g : Reading ℕ) → read-value CutShort s ≡ g → Root-is w (3 ∷ s) (read-on g (λ v r. leaf (emit-level v) r))
+    go : (g : Reading ℕ) → read-value CutShort s ≡ g → NodeRootIs w (3 ∷ s) (read-on g (λ v r. leaf (emit-level v) r))
     go (fault e) h = tt
     go (read v r) h =
         let f = value-sound CutShort s v r b h in
         leaf-is TooManyNodes node-root IsNode node-bytes count (emit-level v) (3 ∷ s) r (f .rest)
         (f .below) refl (ap (λ l. 3 ∷ l) (f .bytes))
 
-kinds-sound : (w : Unit {0}) (s : List ℕ) → Bytes s → (k : ℕ) → Root-is w (k ∷ s) (getD node-kinds k (λ r. fault Unlisted) s)
+kinds-sound : (w : Unit {0}) (s : List ℕ) → Bytes s → (k : ℕ) → NodeRootIs w (k ∷ s) (getD node-kinds k (λ r. fault Unlisted) s)
 unfolding node-bytes count
 kinds-sound w s b =
-    every (λ k f. Root-is w (k ∷ s) (f s)) (λ r. fault Unlisted) node-kinds
+    every (λ k f. NodeRootIs w (k ∷ s) (f s)) (λ r. fault Unlisted) node-kinds
     (plain pass tt refl refl
     & carried-is w s b
     & plain emit-cue tt refl refl
@@ -139,15 +166,15 @@ kinds-sound w s b =
     & plain front tt refl refl
     & past (λ k h. tt))
   where
-    plain : {k : ℕ} (n : Node) → Carries n → count n ≡ 1 → node-bytes n s ≡ k ∷ s → Root-is w (k ∷ s) (leaf n s)
+    plain : {k : ℕ} (n : Node) → Carries n → count n ≡ 1 → node-bytes n s ≡ k ∷ s → NodeRootIs w (k ∷ s) (leaf n s)
     plain n f c e = leaf-is TooManyNodes node-root IsNode node-bytes count n _ s b f c e
 
     forked : (f : Node → Node → Node) (k : ℕ) → ((n m : Node) → IsNode tt n → IsNode tt m → IsNode w (f n m))
         → ((n m : Node) → count (f n m) ≡ suc (count n + count m)) → ((n m : Node) (x : List ℕ) → node-bytes (f n m) x ≡ k ∷ node-bytes n (node-bytes m x))
-        → Root-is w (k ∷ s) (two-parts f tt tt s)
+        → NodeRootIs w (k ∷ s) (two-parts f tt tt s)
     forked f k i c e = two-is TooManyNodes node-root IsNode node-bytes count f k s b i c e
 
-root-sound : (w : Unit {0}) (s : List ℕ) → Bytes s → Root-is w s (node-root w s)
+root-sound : (w : Unit {0}) (s : List ℕ) → Bytes s → NodeRootIs w s (node-root w s)
 unfolding node-root
 root-sound w [] b = tt
 root-sound w (k ∷ s) b = kinds-sound w s (bytes-tail k s b) k

@@ -6,6 +6,7 @@ use native.Mathlib.Omega.{arith}
 use lib.ListN.{length}
 use Rattle.stream.specs.declared.Fault.{Fault}
 use Rattle.stream.specs.Reading.{Bytes, read}
+use Rattle.stream.specs.Reading.Laws.{bytes-cons}
 use Rattle.stream.specs.Reading.Refusals.{Faults}
 use Rattle.stream.specs.Levels.{level-limit, value-bytes, read-value}
 
@@ -16,6 +17,10 @@ value-width = 2
 pub value-length : (v : ℕ) (r : List ℕ) → length (value-bytes v r) ≡ value-width + length r
 unfolding value-bytes
 value-length v r = omega arith
+
+pub value-is-bytes : (v : ℕ) (r : List ℕ) → v < level-limit → Bytes r → Bytes (value-bytes v r)
+unfolding value-bytes level-limit
+value-is-bytes v r h b = bytes-cons (v / 256) (v % 256 ∷ r) (omega arith) (bytes-cons (v % 256) r (omega arith) b)
 
 pub value-reads : (cut-short : Fault) (v : ℕ) (r : List ℕ) → read-value cut-short (value-bytes v r) ≡ read v r
 unfolding read-value value-bytes

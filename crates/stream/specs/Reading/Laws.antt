@@ -12,6 +12,7 @@ use borrow.Author.Tests.{le-leb, leb-true}
 use Rattle.stream.specs.declared.Fault.{Fault}
 use Rattle.stream.specs.Reading.{Bytes, Reading, read, fault, Result, accepted, refused, read-on, go-on, require, whole, before, section-bytes, counted, section, Root, forest, only, tree, leaf, one-part, two-parts, on-one, on-two}
 
+-- A table of proofs is written `a & b & past c`.
 infixr 5 _&_
 -- Bytes
 
@@ -21,15 +22,22 @@ bytes-tail b s h = λ i. h (suc i)
 pub bytes-drop : (n : ℕ) (s : List ℕ) → Bytes s → Bytes (drop n s)
 bytes-drop n s h = λ i. rw (getD-drop n s i 0) (h (n + i))
 
+pub bytes-nil : Bytes []
+bytes-nil = λ i. omega arith
+
+pub bytes-cons : (b : ℕ) (s : List ℕ) → b < 256 → Bytes s → Bytes (b ∷ s)
+bytes-cons b s h k zero = h
+bytes-cons b s h k (suc i) = k i
+
+pub bytes-append : (s t : List ℕ) → Bytes s → Bytes t → Bytes (s ++ t)
+bytes-append [] t h k = k
+bytes-append (b ∷ s) t h k = bytes-cons b (s ++ t) (h 0) (bytes-append s t (bytes-tail b s h) k)
+
 pub bytes-take : (n : ℕ) (s : List ℕ) → Bytes s → Bytes (take n s)
-bytes-take zero [] h = λ i. omega arith
-bytes-take zero (b ∷ s) h = λ i. omega arith
-bytes-take (suc n) [] h = λ i. omega arith
-bytes-take (suc n) (b ∷ s) h = go (bytes-take n s (bytes-tail b s h))
-  where
-    go : Bytes (take n s) → Bytes (b ∷ take n s)
-    go k zero = h 0
-    go k (suc i) = k i
+bytes-take zero [] h = bytes-nil
+bytes-take zero (b ∷ s) h = bytes-nil
+bytes-take (suc n) [] h = bytes-nil
+bytes-take (suc n) (b ∷ s) h = bytes-cons b (take n s) (h 0) (bytes-take n s (bytes-tail b s h))
 
 -- Forests
 
@@ -227,10 +235,10 @@ module _ {W A : Type 0} (over : Fault) (root : W → List ℕ → Reading (Root 
 -- Sections
 
 module _ {A : Type 0} (cut-short left-over : Fault) (contents : List ℕ → Reading A) where
-  pub section-reads : (body r : List ℕ) (a : A) → length body < 65536 → contents body ≡ read a []
+  pub section-reads : (body r : List ℕ) (a : A) → contents body ≡ read a []
       → section cut-short left-over contents (section-bytes body r) ≡ read a r
   unfolding section section-bytes counted
-  section-reads body r a h e =
+  section-reads body r a e =
       let n : length body / 256 * 256 + length body % 256 ≡ length body = omega arith in
       let m : length body ≤ length (body ++ r) = rw (length-append body r) (omega arith) in
       ap (λ k. counted cut-short left-over contents k (body ++ r)) n
@@ -248,10 +256,10 @@ module _ {A : Type 0} (cut-short left-over : Fault) (contents : List ℕ → Rea
   whole-read (read b (c ∷ y)) a x r e = let z : _≡_ {A = ℕ} 0 1 = cc in absurd (omega arith)
   whole-read (fault f) a x r e = let z : _≡_ {A = ℕ} 0 1 = cc in absurd (omega arith)
 
-  counted-sound : (n : ℕ) (s : List ℕ) (a : A) (r : List ℕ) → Bytes s → counted cut-short left-over contents n s ≡ read a r
+  counted-sound : (n : ℕ) (s : List ℕ) (a : A) (r : List ℕ) → counted cut-short left-over contents n s ≡ read a r
       → (n ≤ length s) × (contents (take n s) ≡ read a []) × (drop n s ≡ r)
   unfolding counted
-  counted-sound n s a r b e = go (leb n (length s)) refl e
+  counted-sound n s a r e = go (leb n (length s)) refl e
     where
       go : (t : Bool) → leb n (length s) ≡ t
           → elim t as (λ u. Reading A)
@@ -268,7 +276,7 @@ module _ {A : Type 0} (cut-short left-over : Fault) (contents : List ℕ → Rea
   section-sound (h ∷ []) a r b e = let z : _≡_ {A = ℕ} 0 1 = cc in absurd (omega arith)
   section-sound (h ∷ l ∷ s) a r b e =
       let c : Bytes s = λ i. b (suc (suc i)) in
-      let w = counted-sound (h * 256 + l) s a r c e in
+      let w = counted-sound (h * 256 + l) s a r e in
       let n : length (take (h * 256 + l) s) ≡ h * 256 + l = length-take-le (h * 256 + l) s (w .0) in
       let x : (h * 256 + l) / 256 ≡ h = omega (arith, b 0, b 1) in
       let y : (h * 256 + l) % 256 ≡ l = omega (arith, b 0, b 1) in
@@ -279,6 +287,13 @@ module _ {A : Type 0} (cut-short left-over : Fault) (contents : List ℕ → Rea
         body-bytes = bytes-take (h * 256 + l) s c;
         rest = rw (← w .2) (bytes-drop (h * 256 + l) s c);
       }
+
+-- A section of up to 65,535 bytes is bytes.
+pub section-is-bytes : (body r : List ℕ) → length body < 65536 → Bytes body → Bytes r → Bytes (section-bytes body r)
+unfolding section-bytes
+section-is-bytes body r h b c =
+    bytes-cons (length body / 256) (length body % 256 ∷ (body ++ r)) (omega arith)
+    (bytes-cons (length body % 256) (body ++ r) (omega arith) (bytes-append body r b c))
 
 -- What is read, or accepted, after something else was
 

@@ -11,12 +11,12 @@ use Rattle.stream.specs.declared.Fault.{Fault}
 use Rattle.stream.specs.declared.Fault.the-variants.{SliceCutShort, SliceUnlisted, SliceLeftOver, SliceMisplaced}
 use Rattle.stream.specs.Types.{Ty, size, type-limit, first-part, second-part, has-kind}
 use Rattle.stream.specs.Types.Laws.{and-left, and-right, made-of, parts-size, size-positive}
-use Rattle.stream.specs.Levels.{read-value}
-use Rattle.stream.specs.Levels.Laws.{value-width, value-length, value-reads, value-sound, value-faults}
+use Rattle.stream.specs.Levels.{value-bytes, read-value}
+use Rattle.stream.specs.Levels.Laws.{value-width, value-length, value-is-bytes, value-reads, value-sound, value-faults}
 use Rattle.stream.specs.Prefixes.{Prefix, nothing, cue-awaited, cue-come, level-awaited, level-come, in-first, crossed, beside, Complete, whole-nothing, whole-cue, whole-level, whole-crossed, whole-beside, IsPrefix, of-empty, of-cue-awaited, of-cue-come, of-level-awaited, of-level-come, of-first, of-crossed, of-beside}
 use Rattle.stream.specs.Prefixes.Laws.{crossed-second, beside-first, beside-second}
 use Rattle.stream.specs.Reading.{Bytes, Reading, read, fault, accepted, IsAccepted, read-on, whole, section-bytes, section, Root, forest, leaf}
-use Rattle.stream.specs.Reading.Laws.{Reads, reads-leaf, reads-one, reads-two, tree-reads, RootIs, leaf-is, one-is, two-is, tree-sound, section-reads, section-sound, whole-sound, _&_, past, every, bytes-tail}
+use Rattle.stream.specs.Reading.Laws.{Reads, reads-leaf, reads-one, reads-two, tree-reads, RootIs, leaf-is, one-is, two-is, tree-sound, section-reads, section-sound, whole-sound, _&_, past, every, bytes-tail, bytes-nil, bytes-cons, section-is-bytes}
 use Rattle.stream.specs.Reading.Refusals.{Faults, Refusals, read-on-faults, section-faults, tree-faults, whole-refusals}
 use Rattle.stream.specs.SliceFiles.{prefix-bytes, slice-file-bytes, SliceFile, Owed, owed, belongs, prefix-kinds, prefix-root, read-prefix, slice-file}
 
@@ -60,6 +60,26 @@ pub slice-file-length : {t : Ty} {p : Prefix} → IsPrefix t p → size t ≤ ty
 unfolding slice-file-bytes section-bytes type-limit
 slice-file-length {p = p} h w = rw (append-nil (prefix-bytes p [])) (omega (arith, prefix-length [] h))
 
+-- What is written are bytes
+
+prefix-is-bytes : {t : Ty} {p : Prefix} (r : List ℕ) → IsPrefix t p → Bytes r → Bytes (prefix-bytes p r)
+unfolding prefix-bytes
+prefix-is-bytes r of-empty b = bytes-cons 0 r (omega arith) b
+prefix-is-bytes r of-cue-awaited b = bytes-cons 1 r (omega arith) b
+prefix-is-bytes r of-cue-come b = bytes-cons 2 r (omega arith) b
+prefix-is-bytes r of-level-awaited b = bytes-cons 3 r (omega arith) b
+prefix-is-bytes r (of-level-come {v = v} h) b = bytes-cons 4 (value-bytes v r) (omega arith) (value-is-bytes v r h b)
+prefix-is-bytes r (of-first {p = p} h) b = bytes-cons 5 (prefix-bytes p r) (omega arith) (prefix-is-bytes r h b)
+prefix-is-bytes r (of-crossed {b = x} {q = q} h c k) b =
+    bytes-cons 6 (prefix-bytes x (prefix-bytes q r)) (omega arith) (prefix-is-bytes (prefix-bytes q r) h (prefix-is-bytes r k b))
+prefix-is-bytes r (of-beside {p = p} {q = q} h k) b =
+    bytes-cons 7 (prefix-bytes p (prefix-bytes q r)) (omega arith) (prefix-is-bytes (prefix-bytes q r) h (prefix-is-bytes r k b))
+
+pub slice-file-is-bytes : {t : Ty} {p : Prefix} → IsPrefix t p → size t ≤ type-limit → Bytes (slice-file-bytes p)
+unfolding slice-file-bytes type-limit
+slice-file-is-bytes {p = p} h w =
+    section-is-bytes (prefix-bytes p []) [] (omega (arith, prefix-length [] h)) (prefix-is-bytes [] h bytes-nil) bytes-nil
+
 -- Reading what was written
 
 reads : {t : Ty} {p : Prefix} (c : Bool) → IsPrefix t p → (c ≡ true → Complete p)
@@ -84,14 +104,10 @@ unfolding read-prefix
 read-prefix-reads r h w =
     tree-reads SliceCutShort prefix-root type-limit r (reads false h (λ e. absurd (false≢true e))) (omega (arith, nodes-within h))
 
-body-short : {t : Ty} {p : Prefix} → IsPrefix t p → size t ≤ type-limit → length (prefix-bytes p []) < 65536
-unfolding type-limit
-body-short h w = omega (arith, prefix-length [] h)
-
 pub slice-file-complete : {t : Ty} {p : Prefix} → IsPrefix t p → size t ≤ type-limit → slice-file t (slice-file-bytes p) ≡ accepted p
 unfolding slice-file slice-file-bytes
 slice-file-complete {t} {p} h w =
-    rw (section-reads SliceCutShort SliceLeftOver (read-prefix t) (prefix-bytes p []) [] p (body-short h w) (read-prefix-reads [] h w))
+    rw (section-reads SliceCutShort SliceLeftOver (read-prefix t) (prefix-bytes p []) [] p (read-prefix-reads [] h w))
 
 -- What was read was written
 
@@ -99,11 +115,11 @@ record Fills (o : Owed) (p : Prefix) : Type 0 where
   is : IsPrefix (o .type) p
   whole : o .must-complete ≡ true → Complete p
 
-abbrev Root-is : Owed → List ℕ → Reading (Root Owed Prefix) → Type 0
-Root-is o s g = RootIs SliceCutShort prefix-root Fills prefix-bytes nodes o s g
+abbrev PrefixRootIs : Owed → List ℕ → Reading (Root Owed Prefix) → Type 0
+PrefixRootIs o s g = RootIs SliceCutShort prefix-root Fills prefix-bytes nodes o s g
 
 belongs-is : (o : Owed) (s r : List ℕ) (b : Bool) (root : List ℕ → Reading (Root Owed Prefix))
-    → (b ≡ true → Root-is o s (root r)) → Root-is o s (belongs b root r)
+    → (b ≡ true → PrefixRootIs o s (root r)) → PrefixRootIs o s (belongs b root r)
 belongs-is o s r true root h = h refl
 belongs-is o s r false root h = tt
 
@@ -112,11 +128,11 @@ free : (b c : Bool) {p : Prefix} → b && not c ≡ true → c ≡ true → Comp
 free b c e d = absurd (true≢false (sym d ∙ not-true c (and-right b (not c) e)))
 
 value-is : (t : Ty) (c : Bool) (s : List ℕ) → Bytes s → has-kind 2 t ≡ true
-    → Root-is (owed t c) (4 ∷ s) (read-on (read-value SliceCutShort s) (λ v r. leaf (level-come v) r))
+    → PrefixRootIs (owed t c) (4 ∷ s) (read-on (read-value SliceCutShort s) (λ v r. leaf (level-come v) r))
 unfolding prefix-bytes nodes
 value-is t c s b e = go (read-value SliceCutShort s) refl
   where
-    go : (g : Reading ℕ) → read-value SliceCutShort s ≡ g → Root-is (owed t c) (4 ∷ s) (read-on g (λ v r. leaf (level-come v) r))
+    go : (g : Reading ℕ) → read-value SliceCutShort s ≡ g → PrefixRootIs (owed t c) (4 ∷ s) (read-on g (λ v r. leaf (level-come v) r))
     go (fault x) h = tt
     go (read v r) h =
         let f = value-sound SliceCutShort s v r b h in
@@ -124,10 +140,10 @@ value-is t c s b e = go (read-value SliceCutShort s) refl
         (record { is = rw (made-of 2 t e) (of-level-come (f .below)); whole = λ d. whole-level }) refl (ap (λ l. 4 ∷ l) (f .bytes))
 
 kinds-sound : (t : Ty) (c : Bool) (s : List ℕ) → Bytes s → (k : ℕ)
-    → Root-is (owed t c) (k ∷ s) (getD prefix-kinds k (λ u d r. fault SliceUnlisted) t c s)
+    → PrefixRootIs (owed t c) (k ∷ s) (getD prefix-kinds k (λ u d r. fault SliceUnlisted) t c s)
 unfolding prefix-bytes nodes
 kinds-sound t c s b =
-    every (λ k f. Root-is (owed t c) (k ∷ s) (f t c s)) (λ u d r. fault SliceUnlisted) prefix-kinds
+    every (λ k f. PrefixRootIs (owed t c) (k ∷ s) (f t c s)) (λ u d r. fault SliceUnlisted) prefix-kinds
     (plain (has-kind 0 t) nothing (λ e. rw (made-of 0 t e) of-empty) (λ e d. whole-nothing) refl refl
     & plain (has-kind 1 t && not c) cue-awaited (λ e. rw (made-of 1 t (and-left (has-kind 1 t) (not c) e)) of-cue-awaited) (free (has-kind 1 t) c) refl refl
     & plain (has-kind 1 t) cue-come (λ e. rw (made-of 1 t e) of-cue-come) (λ e d. whole-cue) refl refl
@@ -142,7 +158,7 @@ kinds-sound t c s b =
     & past (λ k h. tt))
   where
     plain : {k : ℕ} (b : Bool) (p : Prefix) → (b ≡ true → IsPrefix t p) → (b ≡ true → c ≡ true → Complete p) → nodes p ≡ 1
-        → prefix-bytes p s ≡ k ∷ s → Root-is (owed t c) (k ∷ s) (belongs b (leaf p) s)
+        → prefix-bytes p s ≡ k ∷ s → PrefixRootIs (owed t c) (k ∷ s) (belongs b (leaf p) s)
     plain b′ p h w n e =
         belongs-is (owed t c) _ s b′ (leaf p)
         (λ d. leaf-is SliceCutShort prefix-root Fills prefix-bytes nodes p _ s b (record { is = h d; whole = λ x. w d x }) n e)
@@ -161,7 +177,7 @@ kinds-sound t c s b =
     beside-fills p q e i j =
         record { is = rw (made-of 4 t e) (of-beside (i .is) (j .is)); whole = λ d. whole-beside (i .whole d) (j .whole d) }
 
-root-sound : (o : Owed) (s : List ℕ) → Bytes s → Root-is o s (prefix-root o s)
+root-sound : (o : Owed) (s : List ℕ) → Bytes s → PrefixRootIs o s (prefix-root o s)
 unfolding prefix-root
 root-sound o [] b = tt
 root-sound o (k ∷ s) b = kinds-sound (o .type) (o .must-complete) s (bytes-tail k s b) k

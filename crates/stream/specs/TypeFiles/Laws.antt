@@ -2,14 +2,14 @@
 use mathlib.Core.Path.{_≡_, refl}
 use mathlib.Core.Logic.{_↔_}
 use mathlib.Core.List.{List, [], _∷_, append-nil}
-use Prim.Native.Nat.{ℕ, _+_, _≤_, _<_}
+use Prim.Native.Nat.{ℕ, _+_, _≤_}
 use native.Mathlib.Omega.{arith}
 use lib.ListN.{length}
 use Rattle.stream.specs.declared.Fault.{Fault}
 use Rattle.stream.specs.declared.Fault.the-variants.{CutShort, Unlisted, LeftOver, TypeTooLarge}
 use Rattle.stream.specs.Types.{Ty, empty, cue, level, seq, par, size, type-limit}
 use Rattle.stream.specs.Reading.{Bytes, read, fault, accepted, IsAccepted, section-bytes}
-use Rattle.stream.specs.Reading.Laws.{Reads, reads-leaf, reads-two, tree-reads, RootIs, leaf-is, two-is, tree-sound, section-reads, section-sound, whole-sound, _&_, past, every, bytes-tail}
+use Rattle.stream.specs.Reading.Laws.{Reads, reads-leaf, reads-two, tree-reads, RootIs, leaf-is, two-is, tree-sound, section-reads, section-sound, whole-sound, _&_, past, every, bytes-tail, bytes-nil, bytes-cons, section-is-bytes}
 use Rattle.stream.specs.Reading.Refusals.{Faults, Refusals, section-faults, tree-faults, whole-refusals}
 use Rattle.stream.specs.TypeFiles.{type-bytes, type-file-bytes, TypeFile, type-kinds, type-root, read-type, type-section, type-file}
 
@@ -25,6 +25,21 @@ pub type-file-length : (t : Ty) → size t ≤ type-limit → length (type-file-
 unfolding type-file-bytes section-bytes type-limit
 type-file-length t w = rw (append-nil (type-bytes t [])) (omega (arith, type-length t []))
 
+-- What is written are bytes
+
+pub type-is-bytes : (t : Ty) (r : List ℕ) → Bytes r → Bytes (type-bytes t r)
+unfolding type-bytes
+type-is-bytes empty r b = bytes-cons 0 r (omega arith) b
+type-is-bytes cue r b = bytes-cons 1 r (omega arith) b
+type-is-bytes level r b = bytes-cons 2 r (omega arith) b
+type-is-bytes (seq s t) r b = bytes-cons 3 (type-bytes s (type-bytes t r)) (omega arith) (type-is-bytes s (type-bytes t r) (type-is-bytes t r b))
+type-is-bytes (par s t) r b = bytes-cons 4 (type-bytes s (type-bytes t r)) (omega arith) (type-is-bytes s (type-bytes t r) (type-is-bytes t r b))
+
+pub type-section-is-bytes : (t : Ty) (r : List ℕ) → size t ≤ type-limit → Bytes r → Bytes (section-bytes (type-bytes t []) r)
+unfolding type-limit
+type-section-is-bytes t r h b =
+    section-is-bytes (type-bytes t []) r (omega (arith, type-length t [])) (type-is-bytes t [] bytes-nil) b
+
 -- Reading what was written
 
 reads : (t : Ty) → Reads TypeTooLarge type-root tt t (size t) (type-bytes t)
@@ -39,14 +54,10 @@ pub read-type-reads : (t : Ty) (r : List ℕ) → size t ≤ type-limit → read
 unfolding read-type
 read-type-reads t r h = tree-reads TypeTooLarge type-root type-limit r (reads t) h
 
-body-short : (t : Ty) → size t ≤ type-limit → length (type-bytes t []) < 65536
-unfolding type-limit
-body-short t h = omega (arith, type-length t [])
-
 pub type-section-reads : (t : Ty) (r : List ℕ) → size t ≤ type-limit → type-section (section-bytes (type-bytes t []) r) ≡ read t r
 unfolding type-section
 type-section-reads t r h =
-    section-reads CutShort LeftOver read-type (type-bytes t []) r t (body-short t h) (read-type-reads t [] h)
+    section-reads CutShort LeftOver read-type (type-bytes t []) r t (read-type-reads t [] h)
 
 pub type-file-complete : (t : Ty) → size t ≤ type-limit → type-file (type-file-bytes t) ≡ accepted t
 unfolding type-file type-file-bytes

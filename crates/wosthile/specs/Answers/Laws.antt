@@ -2,7 +2,7 @@
 use mathlib.Core.Path.{_≡_, refl, sym, ap, _∙_}
 use mathlib.Core.Logic.{_↔_}
 use mathlib.Core.Bool.{Bool, true, false}
-use mathlib.Core.List.{List}
+use mathlib.Core.List.{List, []}
 use Prim.Native.Nat.{ℕ, _≤_}
 use native.Mathlib.Omega.{arith}
 use native.Mathlib.Nat.{le-trans}
@@ -16,18 +16,18 @@ use Rattle.stream.specs.Types.Laws.{and-both}
 use Rattle.stream.specs.Prefixes.{Prefix, beside, IsPrefix, of-beside, complete, empty-prefix, derivative, concat}
 use Rattle.stream.specs.Prefixes.Laws.{derivative-size, concat-is-prefix, empty-prefix-is-prefix, left-lane-first, right-lane-first, right-lane-after, left-lane-after}
 use Rattle.stream.specs.Reading.{Bytes, Result, accepted, IsAccepted, go-on, require}
-use Rattle.stream.specs.Reading.Laws.{go-on-accepted, require-accepted}
+use Rattle.stream.specs.Reading.Laws.{bytes-nil, go-on-accepted, require-accepted}
 use Rattle.stream.specs.Reading.Refusals.{Refusals, go-on-refusals, require-refusals}
 use Rattle.stream.specs.TypeFiles.{type-file, type-file-bytes, TypeFile}
-use Rattle.stream.specs.TypeFiles.Laws.{type-file-complete, type-file-sound, type-file-length, type-file-refusals}
+use Rattle.stream.specs.TypeFiles.Laws.{type-file-complete, type-file-sound, type-file-length, type-section-is-bytes, type-file-refusals}
 use Rattle.stream.specs.SliceFiles.{slice-file, slice-file-bytes, SliceFile}
-use Rattle.stream.specs.SliceFiles.Laws.{slice-file-complete, slice-file-sound, slice-file-accepted, slice-file-length, slice-file-refusals}
+use Rattle.stream.specs.SliceFiles.Laws.{slice-file-complete, slice-file-sound, slice-file-accepted, slice-file-length, slice-file-is-bytes, slice-file-refusals}
 use Rattle.node.specs.Nodes.{Node, Small, Allowed}
 use Rattle.node.specs.Nodes.Laws.{output-small}
 use Rattle.node.specs.Feeding.{sends, leaves}
 use Rattle.node.specs.Feeding.Laws.{fed, leaves-allowed}
 use Rattle.node.specs.PatchFiles.{patch-file, patch-file-bytes, PatchFile}
-use Rattle.node.specs.PatchFiles.Laws.{patch-file-complete, patch-file-sound, patch-file-accepted, patch-file-length, patch-file-refusals}
+use Rattle.node.specs.PatchFiles.Laws.{patch-file-complete, patch-file-sound, patch-file-accepted, patch-file-length, patch-file-is-bytes, patch-file-refusals}
 use Rattle.wosthile.specs.Answers.{check, admit, left, join, FedFiles, feed, with-room, fits-both, patch-numbers, admit-numbers, feed-numbers, contains, Listed}
 
 -- No refusal has the number 0.
@@ -219,71 +219,82 @@ feed-refuses patch slice =
       not-20 = refl;
     }
 
--- The lengths of what the operations write: no file is longer than n.
+-- What the operations write: no file is longer than n, and all are bytes.
 
-pub record AtMost (n : ℕ) (r : Result (List ℕ)) : Type 0 where
-  pub within : (file : List ℕ) → r ≡ accepted file → length file ≤ n
+pub record Sized (n : ℕ) (file : List ℕ) : Type 0 where
+  pub short : length file ≤ n
+  pub bytes : Bytes file
 
-check-length : (patch file : List ℕ) → Bytes patch → check patch ≡ accepted file → length file ≤ 257
+type-sized : (t : Ty) → Small t → Sized 257 (type-file-bytes t)
+unfolding type-file-bytes
+type-sized t w = record { short = type-file-length t w; bytes = type-section-is-bytes t [] w bytes-nil }
+
+slice-sized : {t : Ty} {p : Prefix} → IsPrefix t p → Small t → Sized 513 (slice-file-bytes p)
+slice-sized h w = record { short = slice-file-length h w; bytes = slice-file-is-bytes h w }
+
+patch-sized : {s t : Ty} {n : Node} → Allowed s n t → Sized 8482 (patch-file-bytes s n)
+patch-sized a = record { short = patch-file-length a; bytes = patch-file-is-bytes a }
+
+pub record WritesSized (n : ℕ) (r : Result (List ℕ)) : Type 0 where
+  pub sized : (file : List ℕ) → r ≡ accepted file → Sized n file
+
+check-file : (patch file : List ℕ) → Bytes patch → check patch ≡ accepted file → Sized 257 file
 unfolding check
-check-length patch file b e =
+check-file patch file b e =
     let x = go-on-accepted (patch-file patch) (λ c. accepted (type-file-bytes (c .output))) file e in
     let a = (patch-file-sound patch (x .0) b (x .1)) .allowed in
     let d : type-file-bytes (x .0 .output) ≡ file = let y = x .2 in cc in
-    rw (← d) (type-file-length (x .0 .output) (output-small (a .types) (a .fits)))
+    rw (← d) (type-sized (x .0 .output) (output-small (a .types) (a .fits)))
 
-left-length : (type slice file : List ℕ) → Bytes type → Bytes slice → left type slice ≡ accepted file → length file ≤ 257
+pub check-sized : (patch : List ℕ) → Bytes patch → WritesSized 257 (check patch)
+check-sized patch b = record { sized = λ file e. check-file patch file b e }
+
+left-file : (type slice file : List ℕ) → Bytes type → Bytes slice → left type slice ≡ accepted file → Sized 257 file
 unfolding left
-left-length type slice file b c e =
+left-file type slice file b c e =
     let x = type-and-slice type slice (λ t p. accepted (type-file-bytes (derivative t p))) file b c e in
     let t = x .typed .type in
     let p = x .sliced .prefix in
     let d : type-file-bytes (derivative t p) ≡ file = let z = x .made in cc in
-    rw (← d) (type-file-length (derivative t p) (le-trans (derivative-size (x .sliced .is-prefix)) (x .typed .small)))
+    rw (← d) (type-sized (derivative t p) (le-trans (derivative-size (x .sliced .is-prefix)) (x .typed .small)))
 
-joined-length : {t : Ty} {p : Prefix} (second file : List ℕ) → Small t → IsPrefix t p → Bytes second
-    → go-on (slice-file (derivative t p) second) (λ q. accepted (slice-file-bytes (concat p q))) ≡ accepted file → length file ≤ 513
-joined-length {t} {p} second file w h b e =
+pub left-sized : (type slice : List ℕ) → Bytes type → Bytes slice → WritesSized 257 (left type slice)
+left-sized type slice b c = record { sized = λ file e. left-file type slice file b c e }
+
+joined-file : {t : Ty} {p : Prefix} (second file : List ℕ) → Small t → IsPrefix t p → Bytes second
+    → go-on (slice-file (derivative t p) second) (λ q. accepted (slice-file-bytes (concat p q))) ≡ accepted file → Sized 513 file
+joined-file {t} {p} second file w h b e =
     let x = go-on-accepted (slice-file (derivative t p) second) (λ q. accepted (slice-file-bytes (concat p q))) file e in
     let k = slice-file-sound (derivative t p) second (x .0) b (x .1) .1 in
     let d : slice-file-bytes (concat p (x .0)) ≡ file = let z = x .2 in cc in
-    rw (← d) (slice-file-length (concat-is-prefix (x .0) h k) w)
+    rw (← d) (slice-sized (concat-is-prefix (x .0) h k) w)
 
-join-length : (type first second file : List ℕ) → Bytes type → Bytes first → Bytes second → join type first second ≡ accepted file → length file ≤ 513
+join-file : (type first second file : List ℕ) → Bytes type → Bytes first → Bytes second → join type first second ≡ accepted file → Sized 513 file
 unfolding join
-join-length type first second file b c o e =
+join-file type first second file b c o e =
     let x = type-and-slice type first (λ t p. go-on (slice-file (derivative t p) second) (λ q. accepted (slice-file-bytes (concat p q)))) file b c e in
-    joined-length second file (x .typed .small) (x .sliced .is-prefix) o (x .made)
+    joined-file second file (x .typed .small) (x .sliced .is-prefix) o (x .made)
 
-pub check-at-most : (patch : List ℕ) → Bytes patch → AtMost 257 (check patch)
-check-at-most patch b = record { within = λ file e. check-length patch file b e }
+pub join-sized : (type first second : List ℕ) → Bytes type → Bytes first → Bytes second → WritesSized 513 (join type first second)
+join-sized type first second b c d = record { sized = λ file e. join-file type first second file b c d e }
 
-pub left-at-most : (type slice : List ℕ) → Bytes type → Bytes slice → AtMost 257 (left type slice)
-left-at-most type slice b c = record { within = λ file e. left-length type slice file b c e }
+pub record FedSized (w : FedFiles) : Type 0 where
+  pub output : Sized 513 (w .output)
+  pub patch : Sized 8482 (w .patch)
 
-pub join-at-most : (type first second : List ℕ) → Bytes type → Bytes first → Bytes second → AtMost 513 (join type first second)
-join-at-most type first second b c d = record { within = λ file e. join-length type first second file b c d e }
+pub record FeedsSized (r : Result FedFiles) : Type 0 where
+  pub sized : (w : FedFiles) → r ≡ accepted w → FedSized w
 
-pub record FedLengths (w : FedFiles) : Type 0 where
-  pub output : length (w .output) ≤ 513
-  pub patch : length (w .patch) ≤ 8482
-
-pub record FedAtMost (r : Result FedFiles) : Type 0 where
-  pub within : (w : FedFiles) → r ≡ accepted w → FedLengths w
-
-pub feed-at-most : {patch : List ℕ} (slice : List ℕ) → PatchFile patch → Bytes slice → FedAtMost (feed patch slice)
-feed-at-most slice f b = record { within = λ w e. go w (f .input) (f .node) (f .output) (f .allowed) (rw (← f .bytes) at e) }
+pub feed-sized : {patch : List ℕ} (slice : List ℕ) → PatchFile patch → Bytes slice → FeedsSized (feed patch slice)
+feed-sized slice f b = record { sized = λ w e. go w (f .input) (f .node) (f .output) (f .allowed) (rw (← f .bytes) at e) }
   where
-    go : (w : FedFiles) (s : Ty) (n : Node) (t : Ty) → Allowed s n t → feed (patch-file-bytes s n) slice ≡ accepted w → FedLengths w
+    go : (w : FedFiles) (s : Ty) (n : Node) (t : Ty) → Allowed s n t → feed (patch-file-bytes s n) slice ≡ accepted w → FedSized w
     go w s n t a e =
         let x = go-on-accepted (slice-file s slice) (λ p. accepted (fed-files s n p)) w (sym (feed-of-patch slice a) ∙ e) in
         let h = slice-file-sound s slice (x .0) b (x .1) .1 in
         let d : fed-files s n (x .0) ≡ w = let z = x .2 in cc in
         rw (← d)
-        (record {
-          output = slice-file-length ((fed (a .types) h) .sent) (output-small (a .types) (a .fits));
-          patch = patch-file-length (leaves-allowed a h);
-        })
+        (record { output = slice-sized ((fed (a .types) h) .sent) (output-small (a .types) (a .fits)); patch = patch-sized (leaves-allowed a h) })
 
 -- An accepted feed was of a patch file.
 fed-patch : (patch slice : List ℕ) (w : FedFiles) → Bytes patch → feed patch slice ≡ accepted w → PatchFile patch
@@ -292,5 +303,5 @@ fed-patch patch slice w b e =
     let x = go-on-accepted (patch-file patch) (λ c. go-on (slice-file (c .patch .input) slice) (λ p. accepted (fed-files (c .patch .input) (c .patch .node) p))) w e in
     patch-file-accepted patch b .0 (x .0, x .1)
 
-pub fed-at-most : (patch slice : List ℕ) → Bytes patch → Bytes slice → FedAtMost (feed patch slice)
-fed-at-most patch slice b c = record { within = λ w e. (feed-at-most slice (fed-patch patch slice w b e) c) .within w e }
+pub feed-sized-of-bytes : (patch slice : List ℕ) → Bytes patch → Bytes slice → FeedsSized (feed patch slice)
+feed-sized-of-bytes patch slice b c = record { sized = λ w e. (feed-sized slice (fed-patch patch slice w b e) c) .sized w e }

@@ -8,21 +8,22 @@ use Prim.Native.Nat.{ℕ, _≤_}
 use native.Mathlib.Omega.{arith}
 use native.Mathlib.Nat.{le-trans}
 use lib.Dec.{eqb}
-use lib.ListN.{length}
+use lib.ListN.{length, drop}
 use borrow.Author.Tests.{le-leb}
 use Rattle.stream.specs.declared.Fault.{Fault}
 use Rattle.stream.specs.declared.Fault.the-variants.{NoRoom}
 use Rattle.stream.specs.Faults.{number}
 use Rattle.stream.specs.Prefixes.{Prefix, Complete, complete}
 use Rattle.stream.specs.Prefixes.Laws.{complete-sound, complete-complete}
-use Rattle.stream.specs.Reading.{Result, accepted, refused, IsAccepted, require}
+use Rattle.stream.specs.Reading.{Bytes, Result, accepted, refused, IsAccepted, require}
+use Rattle.stream.specs.Reading.Laws.{bytes-append, bytes-drop}
 use Rattle.stream.specs.Reading.Refusals.{Refusals}
 use Rattle.wosthile.specs.declared.Written.{Written}
 use Rattle.wosthile.specs.declared.Admitted.{Admitted}
 use Rattle.wosthile.specs.declared.Fed.{Fed}
-use Rattle.wosthile.specs.Answers.{with-room, number-of, value-of, as-number, after, contains, Listed, fits-one, fits-both, written, admitted, fed, FedFiles, feed}
-use Rattle.wosthile.specs.Answers.Laws.{number-positive, enough-room, room-accepted, room-refusals, both-fit, Refuses, AtMost, FedAtMost}
-use Rattle.wosthile.specs.Promises.{Writes, Admits, FeedPromise, Decided, is-accepted, is-refused, TooShort}
+use Rattle.wosthile.specs.Answers.{with-room, number-of, value-of, as-number, after, contains, Listed, fits-one, fits-both, written, admitted, fed, FedFiles, check, admit, left, join, feed}
+use Rattle.wosthile.specs.Answers.Laws.{number-positive, enough-room, room-accepted, room-refusals, both-fit, Refuses, WritesSized, FeedsSized}
+use Rattle.wosthile.specs.Promises.{WrittenCall, writes-file, Operations, Keeps, Writes, Admits, FeedPromise, Decided, is-accepted, is-refused, TooShort}
 
 -- Faults with a listed number
 
@@ -94,6 +95,17 @@ module _ {A : Type 0} (fits : A → Bool) (r : Result A) where
     (λ a. zero-accepted (with-room fits r) .1 (a .0, enough-room fits r (a .1) (h (a .0) (a .1)))),
   )
 
+-- Bytes stay bytes in a buffer, if what is written are bytes.
+still-bytes : {A : Type 0} (fits : A → Bool) (r : Result A) (file : A → List ℕ) (lent : List ℕ)
+    → ((a : A) → r ≡ accepted a → Bytes (file a)) → Bytes lent → Bytes (after file (with-room fits r) lent)
+unfolding after
+still-bytes {A} fits r file lent h b = go (with-room fits r) refl
+  where
+    go : (o : Result A) → with-room fits r ≡ o → Bytes (after file o lent)
+    go (accepted a) e =
+        bytes-append (file a) (drop (length (file a)) lent) (h a (room-accepted fits r a e .0)) (bytes-drop (length (file a)) lent b)
+    go (refused e) d = b
+
 -- The operations with one lent buffer
 
 module _ {outcome : Result (List ℕ)} {lent : List ℕ} {answer : Written} {lent-after : List ℕ} (promise : Writes outcome lent answer lent-after) where
@@ -101,8 +113,8 @@ module _ {outcome : Result (List ℕ)} {lent : List ℕ} {answer : Written} {len
   unfolding written
   told = ap (λ (a : Written). a .number) (promise .answers)
 
-  all-fit : {most : ℕ} → AtMost most outcome → most ≤ length lent → (file : List ℕ) → outcome ≡ accepted file → fits-one (length lent) file ≡ true
-  all-fit l h file e = le-leb (length file) (length lent) (le-trans (l .within file e) h)
+  all-fit : {most : ℕ} → WritesSized most outcome → most ≤ length lent → (file : List ℕ) → outcome ≡ accepted file → fits-one (length lent) file ≡ true
+  all-fit l h file e = le-leb (length file) (length lent) (le-trans ((l .sized file e) .short) h)
 
   pub writes-decided : {ns : List ℕ} → Refuses ns outcome
       → Decided (with-room (fits-one (length lent)) outcome) (20 ∷ ns) (answer .number) (lent ∷ []) (lent-after ∷ [])
@@ -114,15 +126,27 @@ module _ {outcome : Result (List ℕ)} {lent : List ℕ} {answer : Written} {len
   pub writes-twenty : {ns : List ℕ} → Refuses ns outcome → answer .number ≡ 20 ↔ TooShort (fits-one (length lent)) outcome
   writes-twenty r = rw told (twenty (fits-one (length lent)) outcome (not-room outcome r))
 
-  pub writes-bounded : {most : ℕ} → AtMost most outcome → answer .written ≤ most
+  pub writes-bounded : {most : ℕ} → WritesSized most outcome → answer .written ≤ most
   unfolding written
   writes-bounded {most} l =
-      rw (ap (λ (a : Written). a .written) (promise .answers)) (bounded (fits-one (length lent)) outcome length most (l .within))
+      rw (ap (λ (a : Written). a .written) (promise .answers)) (bounded (fits-one (length lent)) outcome length most (λ file e. (l .sized file e) .short))
 
-  pub writes-never-twenty : {ns : List ℕ} {most : ℕ} → Refuses ns outcome → AtMost most outcome → most ≤ length lent → answer .number ≡ 20 → ⊥
+  pub writes-never-twenty : {ns : List ℕ} {most : ℕ} → Refuses ns outcome → WritesSized most outcome → most ≤ length lent → answer .number ≡ 20 → ⊥
   writes-never-twenty r l h e = never-twenty (fits-one (length lent)) outcome (not-room outcome r) (all-fit l h) (sym told ∙ e)
 
-  pub writes-zero : {most : ℕ} → AtMost most outcome → most ≤ length lent → answer .number ≡ 0 ↔ IsAccepted outcome
+  pub writes-bytes : {most : ℕ} → WritesSized most outcome → Bytes lent → Bytes lent-after
+  writes-bytes l b =
+      rw (promise .buffer) (still-bytes (fits-one (length lent)) outcome (λ file. file) lent (λ file e. (l .sized file e) .bytes) b)
+
+  -- With room for its file, the call writes exactly that.
+  pub writes-exactly : {file : List ℕ} → outcome ≡ accepted file → length file ≤ length lent
+      → _≡_ {A = WrittenCall} (record { answer = answer; lent = lent-after }) (writes-file file lent)
+  unfolding written after
+  writes-exactly {file} e h =
+      let o = enough-room (fits-one (length lent)) outcome e (le-leb (length file) (length lent) h) in
+      λ i. record { answer = (promise .answers ∙ ap written o) i; lent = (promise .buffer ∙ ap (λ r. after (λ f. f) r lent) o) i }
+
+  pub writes-zero : {most : ℕ} → WritesSized most outcome → most ≤ length lent → answer .number ≡ 0 ↔ IsAccepted outcome
   writes-zero l h = rw told (zero-with-room (fits-one (length lent)) outcome (all-fit l h))
 
 -- Feed
@@ -136,8 +160,8 @@ module _ {patch slice output left : List ℕ} {answer : Fed} {output-after left-
   unfolding fed
   fed-told = ap (λ (a : Fed). a .number) (promise .answers)
 
-  both-fits : FedAtMost (feed patch slice) → 513 ≤ length output → 8482 ≤ length left → (w : FedFiles) → feed patch slice ≡ accepted w → fits w ≡ true
-  both-fits l h k w e = let n = l .within w e in both-fit w (le-trans (n .output) h) (le-trans (n .patch) k)
+  both-fits : FeedsSized (feed patch slice) → 513 ≤ length output → 8482 ≤ length left → (w : FedFiles) → feed patch slice ≡ accepted w → fits w ≡ true
+  both-fits l h k w e = let n = l .sized w e in both-fit w (le-trans (n .output .short) h) (le-trans (n .patch .short) k)
 
   pub feeds-decided : {ns : List ℕ} → Refuses ns (feed patch slice)
       → Decided (with-room (fits-both (length output) (length left)) (feed patch slice)) (20 ∷ ns) (answer .number)
@@ -152,20 +176,26 @@ module _ {patch slice output left : List ℕ} {answer : Fed} {output-after left-
       → answer .number ≡ 20 ↔ TooShort (fits-both (length output) (length left)) (feed patch slice)
   feeds-twenty r = rw fed-told (twenty fits (feed patch slice) (not-room (feed patch slice) r))
 
-  pub feeds-bounded : FedAtMost (feed patch slice) → (answer .output ≤ 513) × (answer .patch ≤ 8482)
+  pub feeds-bounded : FeedsSized (feed patch slice) → (answer .output ≤ 513) × (answer .patch ≤ 8482)
   unfolding fed
   feeds-bounded l = (
     rw (ap (λ (a : Fed). a .output) (promise .answers))
-        (bounded fits (feed patch slice) (λ w. length (w .output)) 513 (λ w e. (l .within w e) .output)),
+        (bounded fits (feed patch slice) (λ w. length (w .output)) 513 (λ w e. (l .sized w e) .output .short)),
     rw (ap (λ (a : Fed). a .patch) (promise .answers))
-        (bounded fits (feed patch slice) (λ w. length (w .patch)) 8482 (λ w e. (l .within w e) .patch)),
+        (bounded fits (feed patch slice) (λ w. length (w .patch)) 8482 (λ w e. (l .sized w e) .patch .short)),
   )
 
-  pub feeds-never-twenty : {ns : List ℕ} → Refuses ns (feed patch slice) → FedAtMost (feed patch slice)
+  pub feeds-never-twenty : {ns : List ℕ} → Refuses ns (feed patch slice) → FeedsSized (feed patch slice)
       → 513 ≤ length output → 8482 ≤ length left → answer .number ≡ 20 → ⊥
   feeds-never-twenty r l h k e = never-twenty fits (feed patch slice) (not-room (feed patch slice) r) (both-fits l h k) (sym fed-told ∙ e)
 
-  pub feeds-zero : FedAtMost (feed patch slice) → 513 ≤ length output → 8482 ≤ length left → answer .number ≡ 0 ↔ IsAccepted (feed patch slice)
+  pub feeds-bytes : FeedsSized (feed patch slice) → Bytes output → Bytes left → Bytes output-after × Bytes left-after
+  feeds-bytes l b c = (
+    rw (promise .output-buffer) (still-bytes fits (feed patch slice) (λ w. w .output) output (λ w e. (l .sized w e) .output .bytes) b),
+    rw (promise .left-buffer) (still-bytes fits (feed patch slice) (λ w. w .patch) left (λ w e. (l .sized w e) .patch .bytes) c),
+  )
+
+  pub feeds-zero : FeedsSized (feed patch slice) → 513 ≤ length output → 8482 ≤ length left → answer .number ≡ 0 ↔ IsAccepted (feed patch slice)
   feeds-zero l h k = rw fed-told (zero-with-room fits (feed patch slice) (both-fits l h k))
 
 -- Admit
@@ -190,3 +220,34 @@ module _ {o : Result Bool} {answer : Admitted} (promise : Admits o answer) where
   admits-complete {p} d =
       rw (ap (λ (a : Admitted). a .complete) (promise .answers ∙ ap admitted d))
       (Iff·trans (one-true (complete p)) ((λ e. complete-sound p e), (λ c. complete-complete c)))
+
+-- The definitions themselves keep the promises.
+defined : Operations
+defined =
+    record {
+      check = λ patch lent. writing (check patch) lent;
+      admit = λ type slice. admitted (admit type slice);
+      left = λ type slice lent. writing (left type slice) lent;
+      join = λ type first second lent. writing (join type first second) lent;
+      feed = λ patch slice output left.
+          let o = with-room (fits-both (length output) (length left)) (feed patch slice) in
+          record { answer = fed o; output = after (λ w. w .output) o output; left = after (λ w. w .patch) o left };
+    }
+  where
+    writing : Result (List ℕ) → List ℕ → WrittenCall
+    writing r lent =
+        let o = with-room (fits-one (length lent)) r in
+        record { answer = written o; lent = after (λ file. file) o lent }
+
+pub kept-by-definitions : (ops : Operations) × Keeps ops
+unfolding defined
+kept-by-definitions = (
+  defined,
+  record {
+    check = λ patch lent. record { answers = refl; buffer = refl };
+    admit = λ type slice. record { answers = refl };
+    left = λ type slice lent. record { answers = refl; buffer = refl };
+    join = λ type first second lent. record { answers = refl; buffer = refl };
+    feed = λ patch slice output left. record { answers = refl; output-buffer = refl; left-buffer = refl };
+  },
+)

@@ -26,8 +26,8 @@ use Rattle.node.specs.Feeding.Lists.{Pieces, no-more, piece, concat-all, deriva
 use Rattle.node.specs.PatchFiles.{node-bytes, patch-file-bytes, PatchFile}
 use Rattle.wosthile.specs.Answers.{check, left, FedFiles, feed, with-room, fits-both, fed, front, after}
 use Rattle.wosthile.specs.Answers.Laws.{check-answers, patch-checked, left-answers, join-answers, fed-files, feed-of-patch, feed-answers, number-positive, enough-room, room-accepted, both-fit}
-use Rattle.wosthile.specs.Promises.{FeedPromise, FedCall}
-use Rattle.wosthile.specs.Runs.{Call, ByteSlices, Run, Feed, takes, after-call, run, Joins, alone, joined, first-section, sends-and-leaves, AsOne}
+use Rattle.wosthile.specs.Promises.{FeedPromise, FedCall, sends-and-leaves}
+use Rattle.wosthile.specs.Runs.{Call, ByteSlices, Run, Feed, takes, after-call, run, Joins, alone, joined, first-section, AsOne}
 
 -- The call that an outcome is.
 abbrev call-of : Result FedFiles → List ℕ → List ℕ → FedCall
