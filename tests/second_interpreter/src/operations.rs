@@ -1,0 +1,114 @@
+//! The five operations, from files to files.
+//!
+//! An accepted call answers the number of bytes written to each buffer. "These
+//! stand at the front of the lent buffer, and the bytes behind them stay.
+//! Refused: the number alone, every lent buffer unaltered." So every answer is
+//! made whole before the first byte is written.
+
+use crate::feeding::{feed_node, Fed};
+use crate::files::{
+    patch_file, read_patch_file, read_slice_file, read_type_file, slice_file, type_file,
+};
+use crate::nodes::Node;
+use crate::numbers::{Number, BUFFER_TOO_SHORT};
+use crate::slices::{join_slices, what_slice_leaves, Slice};
+use crate::types::Type;
+use crate::typing::output_type;
+
+/// A slice that was read against a type has what it leaves.
+const SLICE_WAS_READ: &str = "a slice read against a type is a slice of it";
+/// A patch that passed both passes and a slice of its input can be fed.
+const PATCH_WAS_CHECKED: &str = "a checked patch takes every slice of its input type";
+
+/// "**Check** a patch; writes its output type file."
+pub fn check(patch: &[u8], buffer: &mut [u8]) -> Result<usize, Number> {
+    let accepted = accept_patch(patch)?;
+    write_answer(&type_file(&accepted.output), buffer)
+}
+
+/// "**Admit** a type file and a slice; answers whether the slice is complete,
+/// writing nothing."
+pub fn admit(type_file: &[u8], slice_file: &[u8]) -> Result<bool, Number> {
+    let (_, slice) = read_type_and_slice(type_file, slice_file)?;
+    Ok(slice.is_complete())
+}
+
+/// "**Left** of a type and slice; writes a type file. As Admit, then 20."
+pub fn left(type_file: &[u8], slice_file: &[u8], buffer: &mut [u8]) -> Result<usize, Number> {
+    let (stream, slice) = read_type_and_slice(type_file, slice_file)?;
+    let remainder = what_slice_leaves(&stream, &slice).expect(SLICE_WAS_READ);
+    write_answer(&crate::files::type_file(&remainder), buffer)
+}
+
+/// "**Join** a type and two slices; writes a slice file. As Admit for the
+/// first, then 11 to 14 for the second against what is left, then 20."
+pub fn join(
+    type_file: &[u8],
+    first: &[u8],
+    second: &[u8],
+    buffer: &mut [u8],
+) -> Result<usize, Number> {
+    let (stream, first) = read_type_and_slice(type_file, first)?;
+    let remainder = what_slice_leaves(&stream, &first).expect(SLICE_WAS_READ);
+    let second = read_slice_file(second, &remainder)?;
+    let joined = join_slices(&first, &second).expect(SLICE_WAS_READ);
+    write_answer(&slice_file(&joined), buffer)
+}
+
+/// "**Feed** a patch and a slice; writes the output slice file and the patch
+/// file left. As Check without 20; 11 to 14 against the input type; 20 if
+/// either buffer is too short."
+pub fn feed(
+    patch: &[u8],
+    slice: &[u8],
+    output: &mut [u8],
+    patch_left: &mut [u8],
+) -> Result<(usize, usize), Number> {
+    let Accepted { input, node, .. } = accept_patch(patch)?;
+    let slice = read_slice_file(slice, &input)?;
+    let Fed { sent, left } = feed_node(&node, &input, &slice).expect(PATCH_WAS_CHECKED);
+    // "The patch left has as its input type what the slice leaves."
+    let input_left = what_slice_leaves(&input, &slice).expect(SLICE_WAS_READ);
+    let sent = slice_file(&sent);
+    let left = patch_file(&input_left, &left);
+    if sent.len() > output.len() || left.len() > patch_left.len() {
+        return Err(BUFFER_TOO_SHORT);
+    }
+    Ok((
+        write_answer(&sent, output)?,
+        write_answer(&left, patch_left)?,
+    ))
+}
+
+/// A patch that the rules of Check have no number for, 20 aside.
+struct Accepted {
+    input: Type,
+    node: Node,
+    output: Type,
+}
+
+/// Both passes of Check: the whole file first, then the types.
+fn accept_patch(patch: &[u8]) -> Result<Accepted, Number> {
+    let (input, node) = read_patch_file(patch)?;
+    let output = output_type(&node, &input)?;
+    Ok(Accepted {
+        input,
+        node,
+        output,
+    })
+}
+
+/// The faults of Admit: those of the type file, then those of the slice.
+fn read_type_and_slice(type_file: &[u8], slice_file: &[u8]) -> Result<(Type, Slice), Number> {
+    let stream = read_type_file(type_file)?;
+    let slice = read_slice_file(slice_file, &stream)?;
+    Ok((stream, slice))
+}
+
+/// Writes an answer at the front of the buffer; "20: the buffer is too short
+/// for this answer".
+fn write_answer(answer: &[u8], buffer: &mut [u8]) -> Result<usize, Number> {
+    let front = buffer.get_mut(..answer.len()).ok_or(BUFFER_TOO_SHORT)?;
+    front.copy_from_slice(answer);
+    Ok(answer.len())
+}

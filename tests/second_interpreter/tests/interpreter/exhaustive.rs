@@ -1,0 +1,157 @@
+//! Every short string of bytes, against lists made from document 01 by building
+//! trees up instead of reading them.
+
+use std::collections::HashMap;
+
+use second_interpreter::{admit, slice_file, type_file, Slice, Type};
+
+use crate::common::section;
+
+/// All types of exactly so many nodes.
+fn types_of(nodes: usize) -> Vec<Type> {
+    if nodes == 1 {
+        return vec![Type::Empty, Type::Cue, Type::Level];
+    }
+    let mut types = Vec::new();
+    for first in 1..nodes.saturating_sub(1) {
+        for one in types_of(first) {
+            for other in types_of(nodes - 1 - first) {
+                types.push(Type::sequence(one.clone(), other.clone()));
+                types.push(Type::beside(one.clone(), other));
+            }
+        }
+    }
+    types
+}
+
+/// All slices of a type whose level values have bytes of 0 to 1.
+fn slices_of(stream: &Type) -> Vec<Slice> {
+    match stream {
+        Type::Empty => vec![Slice::Empty],
+        Type::Cue => vec![Slice::CueNotYet, Slice::CueCome],
+        Type::Level => {
+            let values = [0, 1, 256, 257].map(Slice::LevelCome);
+            [vec![Slice::LevelNotYet], values.to_vec()].concat()
+        }
+        Type::Sequence(s, t) => {
+            let firsts = slices_of(s);
+            let mut slices: Vec<Slice> = firsts.iter().cloned().map(Slice::uncrossed).collect();
+            for first in firsts.into_iter().filter(Slice::is_complete) {
+                for second in slices_of(t) {
+                    slices.push(Slice::crossed(first.clone(), second));
+                }
+            }
+            slices
+        }
+        Type::Beside(s, t) => {
+            let mut slices = Vec::new();
+            for left in slices_of(s) {
+                for right in slices_of(t) {
+                    slices.push(Slice::beside(left.clone(), right));
+                }
+            }
+            slices
+        }
+    }
+}
+
+/// Calls with every string of so many bytes below the bound.
+fn every_string(length: usize, bound: u8, mut call: impl FnMut(&[u8])) {
+    let mut bytes = vec![0; length];
+    loop {
+        call(&bytes);
+        let Some(place) = bytes.iter().rposition(|byte| *byte + 1 < bound) else {
+            return;
+        };
+        bytes[place] += 1;
+        bytes[place + 1..].fill(0);
+    }
+}
+
+#[test]
+fn exactly_the_types_are_read() {
+    for length in 1..=6 {
+        let files: Vec<Vec<u8>> = types_of(length).iter().map(type_file).collect();
+        let mut read = 0;
+        every_string(length, 6, |bytes| {
+            let file = section(bytes);
+            // A type that was read leaves an empty slice file cut short.
+            let number = admit(&file, &[]).expect_err("no slice");
+            assert_eq!(number == 11, files.contains(&file), "{bytes:?}");
+            read += usize::from(number == 11);
+        });
+        assert_eq!(read, files.len());
+    }
+}
+
+#[test]
+fn exactly_the_slices_are_admitted() {
+    for stream in [1, 3, 5].into_iter().flat_map(types_of) {
+        let stream_file = type_file(&stream);
+        let slices: HashMap<Vec<u8>, bool> = slices_of(&stream)
+            .iter()
+            .map(|slice| (slice_file(slice), slice.is_complete()))
+            .collect();
+        for length in 0..=4 {
+            every_string(length, 9, |bytes| {
+                let file = section(bytes);
+                let known = slices.get(&file).copied();
+                let admitted = admit(&stream_file, &file).ok();
+                if known.is_some() || bytes.iter().all(|byte| *byte != 4) {
+                    assert_eq!(admitted, known, "{stream:?} {bytes:?}");
+                }
+            });
+        }
+        for (file, complete) in &slices {
+            assert_eq!(admit(&stream_file, file), Ok(*complete));
+        }
+    }
+}
+
+/// The number for a slice section, by trying: the first byte after which no
+/// slice goes on gives 12 or 14, a prefix of one 11, one with more behind 13.
+fn number_by_trying(slices: &[Vec<u8>], section: &[u8]) -> Option<u32> {
+    if slices.iter().any(|slice| slice == section) {
+        return None;
+    }
+    if slices.iter().any(|slice| slice.starts_with(section)) {
+        return Some(11);
+    }
+    if slices.iter().any(|slice| section.starts_with(slice)) {
+        return Some(13);
+    }
+    let goes_on = |length: &usize| {
+        let start = &section[..*length];
+        slices.iter().any(|slice| slice.starts_with(start))
+    };
+    let fault = (0..section.len()).rev().find(goes_on)?;
+    Some(if section[fault] > 7 { 12 } else { 14 })
+}
+
+#[test]
+fn the_first_fault_of_a_slice_by_trying() {
+    let mut seen = HashMap::new();
+    // Levels are left out: the values listed above are not all there are.
+    let no_level = |stream: &Type| !type_file(stream)[2..].contains(&2);
+    for stream in [1, 3, 5].into_iter().flat_map(types_of).filter(no_level) {
+        let stream_file = type_file(&stream);
+        let slices: Vec<Vec<u8>> = slices_of(&stream)
+            .iter()
+            .map(|slice| slice_file(slice)[2..].to_vec())
+            .collect();
+        for length in 0..=5 {
+            every_string(length, 9, |bytes| {
+                let number = admit(&stream_file, &section(bytes)).err();
+                assert_eq!(
+                    number,
+                    number_by_trying(&slices, bytes),
+                    "{stream:?} {bytes:?}"
+                );
+                *seen.entry(number).or_insert(0) += 1;
+            });
+        }
+    }
+    for number in [None, Some(11), Some(12), Some(13), Some(14)] {
+        assert!(seen.contains_key(&number), "{number:?} never came");
+    }
+}

@@ -1,0 +1,197 @@
+//! Random types, slices and patches from a deterministic generator.
+
+use second_interpreter::{output_type, Node, Slice, Type};
+
+/// Marsaglia's xorshift with 64 bits.
+pub struct Random(u64);
+
+impl Random {
+    /// A generator; the seed must not be zero.
+    pub fn new(seed: u64) -> Self {
+        assert_ne!(seed, 0);
+        Random(seed)
+    }
+
+    /// The next 64 bits.
+    pub fn next(&mut self) -> u64 {
+        self.0 ^= self.0 << 13;
+        self.0 ^= self.0 >> 7;
+        self.0 ^= self.0 << 17;
+        self.0
+    }
+
+    /// A number below the bound.
+    pub fn below(&mut self, bound: usize) -> usize {
+        ((self.next() >> 11) % bound as u64) as usize
+    }
+
+    /// True once in so many times.
+    pub fn once_in(&mut self, times: usize) -> bool {
+        self.below(times) == 0
+    }
+
+    /// Any byte.
+    pub fn byte(&mut self) -> u8 {
+        self.below(256) as u8
+    }
+
+    /// A level's value, often one at the ends of a byte.
+    pub fn value(&mut self) -> u16 {
+        match self.below(4) {
+            0 => 0,
+            1 => u16::MAX,
+            2 => 255,
+            _ => self.below(65_536) as u16,
+        }
+    }
+}
+
+/// Two sizes for the parts of a tree with at most so many nodes.
+fn split(random: &mut Random, nodes: usize) -> (usize, usize) {
+    let first = 1 + random.below(nodes - 2);
+    (first, nodes - 1 - first)
+}
+
+/// A type of at most so many nodes.
+pub fn random_type(random: &mut Random, nodes: usize) -> Type {
+    if nodes < 3 || random.once_in(8) {
+        return match random.below(5) {
+            0 => Type::Empty,
+            1 | 2 => Type::Cue,
+            _ => Type::Level,
+        };
+    }
+    let (one, other) = split(random, nodes);
+    let one = random_type(random, one);
+    let other = random_type(random, other);
+    if random.below(5) < 3 {
+        Type::sequence(one, other)
+    } else {
+        Type::beside(one, other)
+    }
+}
+
+/// A nullable type of at most so many nodes.
+fn random_nullable(random: &mut Random, nodes: usize) -> Type {
+    if nodes < 3 || random.once_in(3) {
+        return Type::Empty;
+    }
+    let (one, other) = split(random, nodes);
+    Type::beside(random_nullable(random, one), random_nullable(random, other))
+}
+
+/// A slice of the type, which crosses and brings more the higher `progress` is,
+/// from 0 to 8.
+pub fn random_slice(random: &mut Random, stream: &Type, progress: usize) -> Slice {
+    let comes = random.below(8) < progress;
+    match stream {
+        Type::Empty => Slice::Empty,
+        Type::Cue if comes => Slice::CueCome,
+        Type::Cue => Slice::CueNotYet,
+        Type::Level if comes => Slice::LevelCome(random.value()),
+        Type::Level => Slice::LevelNotYet,
+        Type::Sequence(first, second) if comes => {
+            let first = random_slice(random, first, 8);
+            Slice::crossed(first, random_slice(random, second, progress))
+        }
+        Type::Sequence(first, _) => Slice::uncrossed(random_slice(random, first, progress)),
+        Type::Beside(left, right) => {
+            let left = random_slice(random, left, progress);
+            Slice::beside(left, random_slice(random, right, progress))
+        }
+    }
+}
+
+/// A node that takes the type, of at most so many nodes.
+pub fn random_node(random: &mut Random, input: &Type, nodes: usize) -> Node {
+    for _ in 0..20 {
+        if let Some(node) = try_node(random, input, nodes) {
+            if output_type(&node, input).is_ok() {
+                return node;
+            }
+        }
+    }
+    Node::Pass
+}
+
+/// A node of a random kind, or none if the kind does not suit.
+fn try_node(random: &mut Random, input: &Type, nodes: usize) -> Option<Node> {
+    if nodes >= 3 && !random.once_in(6) {
+        return try_two_parts(random, input, nodes);
+    }
+    if !random.once_in(3) {
+        return Some(suited(random, input));
+    }
+    Some(match random.below(5) {
+        0 => Node::Pass,
+        1 => Node::silent(random_nullable(random, 9)),
+        2 => Node::Cue,
+        3 => Node::Level(random.value()),
+        _ => Node::Front,
+    })
+}
+
+/// One of the kinds that ask for a shape, or pass if the type suits none.
+fn suited(random: &mut Random, input: &Type) -> Node {
+    let mut nodes = vec![
+        Node::Left,
+        Node::Right,
+        Node::First,
+        Node::Second,
+        Node::RegroupRight,
+        Node::RegroupLeft,
+        Node::Spread,
+    ];
+    nodes.retain(|node| output_type(node, input).is_ok());
+    if nodes.len() > 2 && !random.once_in(4) {
+        // Those that keep the whole stream, so that more can follow them.
+        nodes.drain(..2);
+    }
+    if nodes.is_empty() {
+        return Node::Pass;
+    }
+    let place = random.below(nodes.len());
+    nodes.swap_remove(place)
+}
+
+/// A two-part kind with parts that take their inputs.
+fn try_two_parts(random: &mut Random, input: &Type, nodes: usize) -> Option<Node> {
+    let (one, other) = split(random, nodes);
+    match random.below(5) {
+        0 => {
+            let first = random_node(random, input, one);
+            Some(Node::both(first, random_node(random, input, other)))
+        }
+        1 | 2 => {
+            let (s, t) = input.sequence_parts()?;
+            let first = random_node(random, s, one);
+            Some(Node::then(first, random_node(random, t, other)))
+        }
+        _ => {
+            let first = random_node(random, input, one);
+            let between = output_type(&first, input).ok()?;
+            Some(Node::chain(first, random_node(random, &between, other)))
+        }
+    }
+}
+
+/// A file with some bytes changed, taken away or put in.
+pub fn damaged(random: &mut Random, file: &[u8]) -> Vec<u8> {
+    let mut bytes = file.to_vec();
+    for _ in 0..=random.below(3) {
+        let place = random.below(bytes.len() + 1);
+        let byte = if random.once_in(4) {
+            random.byte()
+        } else {
+            random.below(16) as u8
+        };
+        match random.below(5) {
+            0 => bytes.truncate(place),
+            1 => bytes.insert(place, byte),
+            2 if place < bytes.len() => drop(bytes.remove(place)),
+            _ if place < bytes.len() => bytes[place] = byte,
+            _ => bytes.push(byte),
+        }
+    }
+    bytes
+}

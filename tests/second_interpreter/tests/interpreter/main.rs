@@ -1,0 +1,10 @@
+//! Tests of the second interpreter through its public functions.
+
+mod cases;
+mod common;
+mod exhaustive;
+mod generator;
+mod kinds;
+mod program;
+mod properties;
+mod refusals;
