@@ -5,5 +5,4 @@ pub mod Prefixes
 pub mod Reading
 pub mod TypeFiles
 pub mod SliceFiles
-pub mod TypeReads
 pub mod Computing

@@ -8,6 +8,7 @@ use lib.ListN.{length, getD, take, drop}
 use Rattle.stream.specs.declared.Fault.{Fault}
 pub mod Laws
 pub mod Walking
+pub mod Parts
 pub mod Refusals
 pub mod Examples
 

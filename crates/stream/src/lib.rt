@@ -1,8 +1,6 @@
-// Types and prefixes as bytes.
+// The refusals and their numbers. Types and prefixes themselves are definitions, in specs/.
 ghost use mathlib.Core.Path.{_≡_};
 ghost use Rattle.stream.specs.Faults.{number};
-
-pub mod types;
 
 // Why an operation refuses. `number` in specs/Faults.antt gives document 01's number for each.
 pub enum Fault {

@@ -103,11 +103,11 @@ two-makes {A = A} f v w s = go
     go (t ∷ u ∷ ts) k h = omega arith
 
 module _ {W A : Type 0} (over : Fault) (root : W → List ℕ → Reading (Root W A)) (one : (w : W) (s : List ℕ) → MakesOne (root w s)) where
-  abbrev OneEach : List W → Reading (List A) → Type 0
+  abbrev pub OneEach : List W → Reading (List A) → Type 0
   OneEach owed (read ts r) = length ts ≡ length owed
   OneEach owed (fault e) = Unit
 
-  one-each : (budget : ℕ) (owed : List W) (s : List ℕ) → OneEach owed (forest over root budget owed s)
+  pub one-each : (budget : ℕ) (owed : List W) (s : List ℕ) → OneEach owed (forest over root budget owed s)
   unfolding forest
   one-each zero [] s = refl
   one-each (suc budget) [] s = refl

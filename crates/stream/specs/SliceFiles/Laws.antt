@@ -2,8 +2,8 @@
 use mathlib.Core.Path.{_≡_, refl, sym, ap, _∙_}
 use mathlib.Core.Bool.{Bool, true, false, _&&_, not, true≢false, false≢true}
 use mathlib.Core.Logic.{_↔_}
-use mathlib.Core.List.{List, [], _∷_, _++_, append-nil}
-use Prim.Native.Nat.{ℕ, zero, suc, _+_, _*_, _≤_, _<_}
+use mathlib.Core.List.{List, [], _∷_, append-nil}
+use Prim.Native.Nat.{ℕ, suc, _+_, _*_, _≤_}
 use native.Mathlib.Omega.{arith}
 use lib.ListN.{length, getD}
 use borrow.Author.Tests.{not-true}
@@ -17,6 +17,7 @@ use Rattle.stream.specs.Prefixes.{Prefix, nothing, cue-awaited, cue-come
 use Rattle.stream.specs.Prefixes.Laws.{crossed-second, beside-first, beside-second}
 use Rattle.stream.specs.Reading.{Bytes, Reading, read, fault, accepted, IsAccepted, read-on, whole, section-bytes, section, Root, forest, leaf}
 use Rattle.stream.specs.Reading.Laws.{Reads, reads-leaf, reads-one, reads-two, tree-reads, RootIs, leaf-is, one-is, two-is, tree-sound, section-reads, section-sound, whole-sound, _&_, past, every, bytes-tail, bytes-nil, bytes-cons, section-is-bytes}
+use Rattle.stream.specs.Reading.Parts.{weight, Lighter, same-forest}
 use Rattle.stream.specs.Reading.Refusals.{Faults, Refusals, read-on-faults, section-faults, tree-faults, whole-refusals}
 use Rattle.stream.specs.SliceFiles.{prefix-bytes, slice-file-bytes, SliceFile, Owed, owed, belongs, prefix-kinds, prefix-root, read-prefix, slice-file}
 
@@ -111,9 +112,9 @@ slice-file-complete {t} {p} h w =
 
 -- What was read was written
 
-record Fills (o : Owed) (p : Prefix) : Type 0 where
-  is : IsPrefix (o .type) p
-  whole : o .must-complete ≡ true → Complete p
+pub record Fills (o : Owed) (p : Prefix) : Type 0 where
+  pub is : IsPrefix (o .type) p
+  pub whole : o .must-complete ≡ true → Complete p
 
 abbrev PrefixRootIs : Owed → List ℕ → Reading (Root Owed Prefix) → Type 0
 PrefixRootIs o s g = RootIs SliceCutShort prefix-root Fills prefix-bytes nodes o s g
@@ -177,7 +178,7 @@ kinds-sound t c s b =
     beside-fills p q e i j =
         record { is = rw (made-of 4 t e) (of-beside (i .is) (j .is)); whole = λ d. whole-beside (i .whole d) (j .whole d) }
 
-root-sound : (o : Owed) (s : List ℕ) → Bytes s → PrefixRootIs o s (prefix-root o s)
+pub root-sound : (o : Owed) (s : List ℕ) → Bytes s → PrefixRootIs o s (prefix-root o s)
 unfolding prefix-root
 root-sound o [] b = tt
 root-sound o (k ∷ s) b = kinds-sound (o .type) (o .must-complete) s (bytes-tail k s b) k
@@ -198,73 +199,51 @@ slice-file-accepted t s w b = (
 
 -- The limit of 255 is never met: each node read takes at least one from the sizes of the types owed.
 
-weight : List Owed → ℕ
-weight [] = 0
-weight (o ∷ os) = size (o .type) + weight os
+abbrev pub owed-size : Owed → ℕ
+owed-size o = size (o .type)
 
-weight-append : (os us : List Owed) → weight (os ++ us) ≡ weight os + weight us
+pub owed-positive : (o : Owed) → 1 ≤ owed-size o
+owed-positive o = size-positive (o .type)
+
+belongs-lighter : (o : Owed) (r : List ℕ) (b : Bool) (root : List ℕ → Reading (Root Owed Prefix))
+    → (b ≡ true → Lighter owed-size o (root r)) → Lighter owed-size o (belongs b root r)
+belongs-lighter o r true root h = h refl
+belongs-lighter o r false root h = tt
+
+value-lighter : (o : Owed) (g : Reading ℕ) → Lighter owed-size o (read-on g (λ v r. leaf (level-come v) r))
 unfolding weight
-weight-append [] us = omega arith
-weight-append (o ∷ os) us = omega (arith, weight-append os us)
+value-lighter o (read v r) = omega (arith, owed-positive o)
+value-lighter o (fault e) = tt
 
-abbrev Lighter : Ty → Reading (Root Owed Prefix) → Type 0
-Lighter t (read n r) = weight (n .parts) < size t
-Lighter t (fault e) = Unit
-
-belongs-lighter : (t : Ty) (r : List ℕ) (b : Bool) (root : List ℕ → Reading (Root Owed Prefix))
-    → (b ≡ true → Lighter t (root r)) → Lighter t (belongs b root r)
-belongs-lighter t r true root h = h refl
-belongs-lighter t r false root h = tt
-
-value-lighter : (t : Ty) (g : Reading ℕ) → Lighter t (read-on g (λ v r. leaf (level-come v) r))
-unfolding weight
-value-lighter t (read v r) = omega (arith, size-positive t)
-value-lighter t (fault e) = tt
-
-kinds-lighter : (t : Ty) (c : Bool) (s : List ℕ) (k : ℕ) → Lighter t (getD prefix-kinds k (λ u d r. fault SliceUnlisted) t c s)
+kinds-lighter : (t : Ty) (c : Bool) (s : List ℕ) (k : ℕ) → Lighter owed-size (owed t c) (getD prefix-kinds k (λ u d r. fault SliceUnlisted) t c s)
 unfolding weight
 kinds-lighter t c s =
-    every (λ k f. Lighter t (f t c s)) (λ u d r. fault SliceUnlisted) prefix-kinds
+    every (λ k f. Lighter owed-size (owed t c) (f t c s)) (λ u d r. fault SliceUnlisted) prefix-kinds
     (leafy (has-kind 0 t) nothing
     & leafy (has-kind 1 t && not c) cue-awaited
     & leafy (has-kind 1 t) cue-come
     & leafy (has-kind 2 t && not c) level-awaited
-    & belongs-lighter t s (has-kind 2 t) _ (λ e. value-lighter t (read-value SliceCutShort s))
-    & belongs-lighter t s (has-kind 3 t && not c) _
+    & belongs-lighter (owed t c) s (has-kind 2 t) _ (λ e. value-lighter (owed t c) (read-value SliceCutShort s))
+    & belongs-lighter (owed t c) s (has-kind 3 t && not c) _
     (λ e. omega (arith, parts-size 3 t (omega arith) (and-left (has-kind 3 t) (not c) e), size-positive (second-part t)))
-    & belongs-lighter t s (has-kind 3 t) _ (λ e. omega (arith, parts-size 3 t (omega arith) e))
-    & belongs-lighter t s (has-kind 4 t) _ (λ e. omega (arith, parts-size 4 t (omega arith) e))
+    & belongs-lighter (owed t c) s (has-kind 3 t) _ (λ e. omega (arith, parts-size 3 t (omega arith) e))
+    & belongs-lighter (owed t c) s (has-kind 4 t) _ (λ e. omega (arith, parts-size 4 t (omega arith) e))
     & past (λ k h. tt))
   where
-    leafy : (b : Bool) (p : Prefix) → Lighter t (belongs b (leaf p) s)
-    leafy b p = belongs-lighter t s b (leaf p) (λ e. omega (arith, size-positive t))
+    leafy : (b : Bool) (p : Prefix) → Lighter owed-size (owed t c) (belongs b (leaf p) s)
+    leafy b p = belongs-lighter (owed t c) s b (leaf p) (λ e. omega (arith, size-positive t))
 
-root-lighter : (o : Owed) (s : List ℕ) → Lighter (o .type) (prefix-root o s)
+pub root-lighter : (o : Owed) (s : List ℕ) → Lighter owed-size o (prefix-root o s)
 unfolding prefix-root
 root-lighter o [] = tt
 root-lighter o (k ∷ s) = kinds-lighter (o .type) (o .must-complete) s k
-
-limit-not-met-by : (e d : Fault) (budget : ℕ) (os : List Owed) (s : List ℕ) → weight os ≤ budget
-    → forest e prefix-root budget os s ≡ forest d prefix-root budget os s
-unfolding forest weight
-limit-not-met-by e d zero [] s h = refl
-limit-not-met-by e d (suc budget) [] s h = refl
-limit-not-met-by e d zero (o ∷ os) s h = absurd (omega (arith, size-positive (o .type)))
-limit-not-met-by e d (suc budget) (o ∷ os) s h =
-    go (prefix-root o s) (root-lighter o s) (λ us r i. limit-not-met-by e d budget us r i)
-  where
-    go : (g : Reading (Root Owed Prefix)) → Lighter (o .type) g
-        → ((us : List Owed) (r : List ℕ) → weight us ≤ budget → forest e prefix-root budget us r ≡ forest d prefix-root budget us r)
-        → read-on g (λ n r. read-on (forest e prefix-root budget (n .parts ++ os) r) (λ ts rest. read (n .build ts) rest))
-        ≡ read-on g (λ n r. read-on (forest d prefix-root budget (n .parts ++ os) r) (λ ts rest. read (n .build ts) rest))
-    go (read n r) l k = rw (k (n .parts ++ os) r (omega (arith, weight-append (n .parts) os)))
-    go (fault x) l k = refl
 
 -- Whatever the bytes, the reading of a slice never depends on the fault that a 256th node would give.
 pub limit-not-met : (e d : Fault) (t : Ty) (s : List ℕ) → size t ≤ type-limit
     → forest e prefix-root type-limit (owed t false ∷ []) s ≡ forest d prefix-root type-limit (owed t false ∷ []) s
 unfolding weight
-limit-not-met e d t s h = limit-not-met-by e d type-limit (owed t false ∷ []) s (omega arith)
+limit-not-met e d t s h =
+    same-forest owed-size prefix-root owed-positive root-lighter e d type-limit type-limit (owed t false ∷ []) s (omega arith) (omega arith)
 
 -- The refusals of a slice file are 11 to 14.
 module _ (P : Fault → Type 0) (cut : P SliceCutShort) (unlisted : P SliceUnlisted) (misplaced : P SliceMisplaced) (over : P SliceLeftOver) where

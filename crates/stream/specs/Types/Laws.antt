@@ -4,7 +4,7 @@ use mathlib.Core.Bool.{Bool, true, false, _&&_, false≢true}
 use Prim.Native.Nat.{ℕ, zero, suc, _+_, _≤_}
 use native.Mathlib.Omega.{arith}
 use borrow.Author.Tests.{eqb-true}
-use Rattle.stream.specs.Types.{Ty, empty, cue, level, seq, par, Nullable, null-empty, null-par, nullable, size, kind, first-part, second-part, has-kind}
+use Rattle.stream.specs.Types.{Ty, empty, cue, level, seq, par, Nullable, null-empty, null-par, nullable, size, type-limit, kind, first-part, second-part, has-kind}
 
 -- Booleans
 
@@ -37,6 +37,10 @@ nullable-complete null-empty = refl
 nullable-complete (null-par h k) = and-both (nullable-complete h) (nullable-complete k)
 
 -- size
+
+pub limit-is : type-limit ≡ 255
+unfolding type-limit
+limit-is = refl
 
 pub size-positive : (t : Ty) → 1 ≤ size t
 unfolding size

@@ -1,0 +1,85 @@
+-- `write_leaf_concat` meets its contract: if the leaf is still awaited the join is the second prefix, otherwise it is the leaf
+-- and the second prefix has one byte.
+use borrow.Author.Needs.{needs}
+use native.Mathlib.Omega.{arith}
+use mathlib.Core.Path.{sym, _∙_}
+use Rattle.files.specs.SliceReads.{is-unfinished}
+use Rattle.files.specs.SliceReads.Laws.{width-positive, prefix-inside}
+use Rattle.files.proofs.JoiningLeaf.{awaited-due, awaited-written, come-due, come-written}
+use Rattle.files.proofs.writing.write_leaf_concat.Statement.{statement}
+use Rattle.files.proofs.writing.write_leaf_concat.Tie as tie
+
+shared-slice-read-is-unfinished : tie.Need-shared-slice-read-is-unfinished
+shared-slice-read-is-unfinished c =
+    let due = c .before .before .before .before .pre .due in
+    omega (arith, prefix-inside (due .follows .first-at), width-positive (due .one))
+
+is-unfinished-requires : tie.Need-is-unfinished-requires
+is-unfinished-requires c κs = search needs
+
+copy-prefix-requires : tie.Need-copy-prefix-requires
+copy-prefix-requires c κs =
+    let asked = c .before .before in
+    let pre = asked .before .before .before .before .before .pre in
+    awaited-due (pre .leaf) (sym (asked .is-unfinished .ensures) ∙ c .before .if1 .taken) (pre .due)
+
+returns : tie.Need-returns
+returns c =
+    let asked = c .before .before .before .before .before in
+    let pre = asked .before .before .before .before .before .pre in
+    awaited-written (pre .leaf) (sym (asked .is-unfinished .ensures) ∙ c .before .before .before .before .if1 .taken) (c .before .before .copy-prefix .ensures)
+
+add-t14 : tie.Need-add-t14
+add-t14 c =
+    let due = c .before .before .before .before .before .before .before .before .before .before .pre .due in
+    omega (arith, prefix-inside (due .follows .first-at), width-positive (due .one))
+
+add-t15 : tie.Need-add-t15
+add-t15 c =
+    let due = c .before .before .before .before .before .before .before .before .before .before .pre .due in
+    omega (arith, prefix-inside (due .follows .second-at), returns c .each due .second)
+
+copy-prefix-requires-2 : tie.Need-copy-prefix-requires-2
+copy-prefix-requires-2 c κs =
+    let asked = c .before .before in
+    let pre = asked .before .before .before .before .before .pre in
+    come-due (pre .leaf) (sym (asked .is-unfinished .ensures) ∙ c .before .if1 .left) (pre .due)
+
+returns-2 : tie.Need-returns-2
+returns-2 c =
+    let asked = c .before .before .before .before .before in
+    let pre = asked .before .before .before .before .before .pre in
+    come-written (pre .leaf) (sym (asked .is-unfinished .ensures) ∙ c .before .before .before .before .if1 .left) (c .before .before .copy-prefix2 .ensures)
+
+add-t18 : tie.Need-add-t18
+add-t18 c =
+    let due = c .before .before .before .before .before .before .before .before .before .before .pre .due in
+    omega (arith, prefix-inside (due .follows .first-at), returns-2 c .each due .first)
+
+add-t19 : tie.Need-add-t19
+add-t19 c =
+    let due = c .before .before .before .before .before .before .before .before .before .before .pre .due in
+    omega (arith, prefix-inside (due .follows .second-at), width-positive (due .other))
+
+same-length : tie.Need-same-length
+same-length c = search needs
+
+same-length-2 : tie.Need-same-length-2
+same-length-2 c = search needs
+
+pub write-leaf-concat-spec : {M : Type 1} → statement M
+write-leaf-concat-spec =
+    tie.close
+    (tie.spec
+    shared-slice-read-is-unfinished
+    is-unfinished-requires
+    copy-prefix-requires
+    add-t14
+    add-t15
+    copy-prefix-requires-2
+    add-t18
+    add-t19
+    same-length
+    returns
+    same-length-2
+    returns-2)

@@ -1,0 +1,3 @@
+pub mod TypeReads
+pub mod SliceReads
+pub mod Writing

@@ -1,0 +1,41 @@
+-- What the readers of types tell their callers: where a type stands, or the first fault.
+use mathlib.Core.Path.{_≡_}
+use mathlib.Core.List.{List}
+use Prim.Native.Nat.{ℕ, _+_, _-_, _≤_}
+use lib.ListN.{length, drop}
+use Rattle.files.specs.declared.types.Ty.{Ty as Place}
+use Rattle.files.specs.declared.types.TreeEnd.{TreeEnd}
+use Rattle.files.specs.declared.types.TreeEnd.the-variants.{At, Failed}
+use Rattle.files.specs.declared.types.TypeRead.{TypeRead}
+use Rattle.files.specs.declared.types.TypeRead.the-variants.{Whole, Refused}
+use Rattle.stream.specs.Types.{Ty, size, type-limit}
+use Rattle.stream.specs.Reading.{Reading, read, fault, Result, accepted, refused}
+use Rattle.stream.specs.TypeFiles.{type-bytes}
+pub mod Laws
+
+-- Where a tree ends in the n bytes that it was read from.
+unfoldable pub end-of : {A : Type 0} → ℕ → Reading A → TreeEnd
+end-of n (read a r) = At (n - length r)
+end-of n (fault e) = Failed e
+
+-- The type of a file stands behind the two bytes of its section's count.
+abbrev pub in-file : Ty → Place
+in-file t = record { start = 2; end = 2 + size t }
+
+unfoldable pub type-read : Result Ty → TypeRead
+type-read (accepted t) = Whole (in-file t)
+type-read (refused e) = Refused e
+
+-- A type of at most 255 nodes stands at a place of some bytes; what stands behind it is free.
+pub record TypeAt (bytes : List ℕ) (at : ℕ) (t : Ty) : Type 0 where
+  pub rest : List ℕ
+  pub here : drop at bytes ≡ type-bytes t rest
+  pub small : size t ≤ type-limit
+
+pub record SomeTypeAt (bytes : List ℕ) (at : ℕ) : Type 0 where
+  pub type : Ty
+  pub stands : TypeAt bytes at type
+
+-- `end` is where the type at `at` ends, whichever it is.
+pub record TypeEnds (bytes : List ℕ) (at end : ℕ) : Type 0 where
+  pub each : (t : Ty) → TypeAt bytes at t → end ≡ at + size t

@@ -1,0 +1,4 @@
+// Types and slices in bytes: the code that reads them and writes them.
+pub mod prefixes;
+pub mod types;
+pub mod writing;

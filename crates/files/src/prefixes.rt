@@ -1,0 +1,246 @@
+// Slices as bytes: whether a file is a slice of a type, and what Left and Join have to know of one.
+use crate::types::count_of;
+use crate::types::skip_type;
+use stream::Fault;
+ghost use mathlib.Core.Path.{_≡_};
+ghost use Prim.Native.Nat.{_+_, _≤_, _<_};
+ghost use lib.ListN.{length, getD};
+ghost use Rattle.stream.specs.Types.{type-limit};
+ghost use Rattle.files.specs.TypeReads.{SomeTypeAt};
+ghost use Rattle.files.specs.SliceReads.{home-of, is-unfinished, belongs-at, leaf-width, first-complete, SomePrefixAt, PrefixEnds, leaf-walked, first-known, SumsFit, beside-walked, Walks, ReadsSlice};
+
+// What is known of a prefix that was read against its type: whether it is complete, how many nodes the type has that it
+// leaves, and by how many bytes its join with a later prefix is shorter than the two.
+pub struct Prefix {
+    pub complete: bool,
+    pub left: usize,
+    pub overlap: usize,
+}
+
+// A type and a prefix of it, walked through: where they end, and what is known of the prefix; or the first fault.
+pub enum Walk {
+    Past {
+        type_end: usize,
+        prefix_end: usize,
+        prefix: Prefix,
+    },
+    Failed(Fault),
+}
+
+// What became of a slice file: what is known of its prefix, or why it is refused.
+pub enum SliceRead {
+    Whole(Prefix),
+    Refused(Fault),
+}
+
+// The kind of type that a slice's kind belongs to.
+fn home_of(kind: u8) -> u8
+    ensures { λ r. ⌜ r ≡ home-of kind ⌝ }
+{
+    match kind {
+        0 => 0,
+        1..=2 => 1,
+        3..=4 => 2,
+        5..=6 => 3,
+        _ => 4,
+    }
+}
+
+// Whether a slice's kind keeps it from being complete.
+pub fn is_unfinished(kind: u8) -> bool
+    ensures { λ r. ⌜ r ≡ is-unfinished kind ⌝ }
+{
+    match kind {
+        1 => true,
+        3 => true,
+        5 => true,
+        _ => false,
+    }
+}
+
+// How many bytes a leaf of a slice takes: a level that has come has its value behind it.
+pub fn leaf_width(kind: u8) -> usize
+    ensures { λ r. ⌜ r ≡ leaf-width kind ⌝ }
+{
+    match kind {
+        4 => 3,
+        _ => 1,
+    }
+}
+
+// Whether a slice's kind may stand where a prefix of a type of kind `home` is owed, `complete` if it has to be.
+fn belongs(home: u8, kind: u8, complete: bool) -> bool
+    ensures { λ r. ⌜ r ≡ belongs-at home kind complete ⌝ }
+{
+    if home != home_of(kind) {
+        return false;
+    }
+    if complete {
+        return !is_unfinished(kind);
+    }
+    true
+}
+
+// Where the prefix that stands at `at` ends.
+pub fn skip_prefix(slice: &[u8], at: usize) -> usize
+    requires { ⌜ SomePrefixAt (now slice) at ⌝ }
+    ensures { λ r. ⌜ PrefixEnds (now (slice .entry)) at r ⌝ }
+{
+    let mut owed: usize = 1;
+    let mut end = at;
+    while 0 < owed {
+        let kind = slice[end];
+        if kind < 5 {
+            owed -= 1;
+        } else if 5 < kind {
+            owed += 1;
+        }
+        end += leaf_width(kind);
+    }
+    end
+}
+
+// A leaf, whose kind belongs there; its type ends at `end`.
+fn walk_leaf(end: usize, slice: &[u8], from: usize) -> Walk
+    requires { ⌜ from < length (now slice) ⌝ }
+    ensures { λ r. ⌜ r ≡ leaf-walked end (length (now (slice .entry))) from (getD (now (slice .entry)) from 0) ⌝ }
+{
+    let kind = slice[from];
+    let width = leaf_width(kind);
+    if slice.len() - from < width {
+        return Walk::Failed(Fault::SliceCutShort);
+    }
+    Walk::Past {
+        type_end: end,
+        prefix_end: from + width,
+        prefix: Prefix {
+            complete: !is_unfinished(kind),
+            left: 1,
+            overlap: 1,
+        },
+    }
+}
+
+// Of a sequence whose first part is still coming, from that part and from the size `second` of the second part's type.
+fn in_first(first: Prefix, second: usize) -> Prefix
+    requires { ⌜ first .left + second < type-limit ⌝ }
+    requires { ⌜ first .overlap < type-limit ⌝ }
+    ensures { λ r. ⌜ r ≡ first-known first second ⌝ }
+{
+    Prefix {
+        complete: false,
+        left: 1 + first.left + second,
+        overlap: 1 + first.overlap,
+    }
+}
+
+// Of two prefixes side by side, from the first and from how the walk through the second ended.
+fn beside(first: Prefix, second: Walk) -> Walk
+    requires { ⌜ SumsFit first second ⌝ }
+    ensures { λ r. ⌜ r ≡ beside-walked first second ⌝ }
+{
+    match second {
+        Walk::Failed(fault) => Walk::Failed(fault),
+        Walk::Past {
+            type_end,
+            prefix_end,
+            prefix,
+        } => Walk::Past {
+            type_end,
+            prefix_end,
+            prefix: Prefix {
+                complete: first.complete && prefix.complete,
+                left: 1 + first.left + prefix.left,
+                overlap: 1 + first.overlap + prefix.overlap,
+            },
+        },
+    }
+}
+
+// Whether the first part under a slice's kind has to be complete: a crossed one has, one that is still coming need not.
+fn first_complete(kind: u8, complete: bool) -> bool
+    ensures { λ r. ⌜ r ≡ first-complete kind complete ⌝ }
+{
+    match kind {
+        5 => false,
+        6 => true,
+        _ => complete,
+    }
+}
+
+// Walks through the type at `at` and the prefix of it at `from`, to the end of both or to the first fault.
+// `complete` says whether the prefix has to be.
+fn walk_prefix(types: &[u8], at: usize, slice: &[u8], from: usize, complete: bool) -> Walk
+    requires { ⌜ SomeTypeAt (now types) at ⌝ }
+    requires { ⌜ from ≤ length (now slice) ⌝ }
+    ensures { λ r. ⌜ Walks (now (types .entry)) at (now (slice .entry)) from complete r ⌝ }
+{
+    if from == slice.len() {
+        return Walk::Failed(Fault::SliceCutShort);
+    }
+    let kind = slice[from];
+    if 7 < kind {
+        return Walk::Failed(Fault::SliceUnlisted);
+    }
+    if !belongs(types[at], kind, complete) {
+        return Walk::Failed(Fault::SliceMisplaced);
+    }
+    if kind < 5 {
+        return walk_leaf(at + 1, slice, from);
+    }
+    let complete_first = first_complete(kind, complete);
+    match walk_prefix(types, at + 1, slice, from + 1, complete_first) {
+        Walk::Failed(fault) => Walk::Failed(fault),
+        Walk::Past {
+            type_end,
+            prefix_end,
+            prefix,
+        } => match kind {
+            5 => {
+                let end = skip_type(types, type_end);
+                Walk::Past {
+                    type_end: end,
+                    prefix_end,
+                    prefix: in_first(prefix, end - type_end),
+                }
+            }
+            6 => walk_prefix(types, type_end, slice, prefix_end, complete),
+            _ => beside(
+                prefix,
+                walk_prefix(types, type_end, slice, prefix_end, complete),
+            ),
+        },
+    }
+}
+
+// Whether the bytes are the file of a prefix of the type at `at`; otherwise the first fault. Any bytes may be handed in.
+pub fn read_slice_file(types: &[u8], at: usize, file: &[u8]) -> SliceRead
+    requires { ⌜ SomeTypeAt (now types) at ⌝ }
+    ensures { λ r. ⌜ ReadsSlice (now (types .entry)) at (now (file .entry)) r ⌝ }
+{
+    let length = file.len();
+    if length < 2 {
+        return SliceRead::Refused(Fault::SliceCutShort);
+    }
+    let count = count_of(file[0], file[1]);
+    if length - 2 < count {
+        return SliceRead::Refused(Fault::SliceCutShort);
+    }
+    let end = 2 + count;
+    match walk_prefix(types, at, &file[2..end], 0, false) {
+        Walk::Failed(fault) => SliceRead::Refused(fault),
+        Walk::Past {
+            type_end: _,
+            prefix_end,
+            prefix,
+        } => {
+            if prefix_end < count {
+                SliceRead::Refused(Fault::SliceLeftOver)
+            } else if end < length {
+                SliceRead::Refused(Fault::SliceLeftOver)
+            } else {
+                SliceRead::Whole(prefix)
+            }
+        }
+    }
+}

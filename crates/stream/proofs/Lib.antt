@@ -1,2 +1,0 @@
-pub mod TypeWalk
-pub mod TypeFile
