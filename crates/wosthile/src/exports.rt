@@ -1,0 +1,28 @@
+// The operations under their C names; include/wosthile.h declares them.
+use crate::Admitted;
+use crate::Written;
+use crate::admit;
+use crate::join;
+use crate::left;
+ghost use Rattle.wosthile.specs.Promises.{AdmitPromise, LeftPromise, JoinPromise};
+
+#[no_mangle]
+pub extern "C" fn wosthile_admit(ty: &[u8], slice: &[u8]) -> Admitted
+    ensures { λ r. ⌜ AdmitPromise (now (ty .entry)) (now (slice .entry)) r ⌝ }
+{
+    admit(ty, slice)
+}
+
+#[no_mangle]
+pub extern "C" fn wosthile_left(ty: &[u8], slice: &[u8], out: &mut [u8]) -> Written
+    ensures { λ r. ⌜ LeftPromise (now (ty .entry)) (now (slice .entry)) (now (out .entry)) r (now (out .exit)) ⌝ }
+{
+    left(ty, slice, out)
+}
+
+#[no_mangle]
+pub extern "C" fn wosthile_join(ty: &[u8], first: &[u8], second: &[u8], out: &mut [u8]) -> Written
+    ensures { λ r. ⌜ JoinPromise (now (ty .entry)) (now (first .entry)) (now (second .entry)) (now (out .entry)) r (now (out .exit)) ⌝ }
+{
+    join(ty, first, second, out)
+}
