@@ -1,0 +1,160 @@
+/*
+ * Wosthile: type files and slice files, for C and C++ on x86-64.
+ *
+ * A stream has a type: a tree of cues and 16-bit levels, of parts that follow one another and of parts that run side
+ * by side. A slice says what has come of a stream so far. Three operations work on the files of both:
+ *
+ *   wosthile_admit   is this a slice of that type, and has everything come?
+ *   wosthile_left    what the slice leaves of the type: what is still to come
+ *   wosthile_join    two slices, the second of what the first leaves, as one slice
+ *
+ * Files. A file is one section: a count of two bytes, the high byte first, and then that many bytes. They hold one
+ * tree in preorder: the root, then its parts from left to right. All values below are decimal.
+ *
+ *   type     0 empty    1 cue    2 level    3 sequence, two types    4 side by side, two types
+ *   slice    of 0:  0
+ *            of 1:  1 not yet, or 2 come
+ *            of 2:  3 not yet, or 4 come and then the value, two bytes, the high byte first
+ *            of 3:  5 and a slice of the first part; or 6, crossed, and a complete slice of the first part and a
+ *                   slice of the second
+ *            of 4:  7 and a slice of each part
+ *
+ * A slice is complete if it is 0, 2 or 4, or a 6 whose second slice is complete, or a 7 with both complete. A first
+ * part that has fully come is not crossed yet: of type 3 1 1 the slices 5 2 and 6 2 1 differ.
+ *
+ * Every call ends, whatever the bytes and the lengths of the files; there is nothing to test before it.
+ *
+ *   Accepted: the number is 0. A lent buffer holds the answer, a whole file with its count, at its front; the bytes
+ *   behind the answer are as they were. A buffer of the greatest size below is never too short.
+ *   Refused: the number is that of the first fault. Every byte of the lent buffer is as it was.
+ *
+ * What the caller has to keep:
+ *
+ *   - A pointer is good for as many bytes as its length says. NULL is fine with length 0 and with no other length.
+ *   - Files may overlap one another, or be the same bytes. A lent buffer overlaps no file: never write an answer over
+ *     the file that it is made from.
+ *
+ * Every function is reentrant: it keeps nothing between calls, so threads may call it at the same time, each with a
+ * buffer of its own. None allocates memory, and none needs more than WOSTHILE_STACK_MAX bytes of stack. The archive,
+ * libwosthile.a, asks for memcpy, memmove and memset at most, and for nothing else.
+ */
+#ifndef WOSTHILE_H
+#define WOSTHILE_H
+
+#include <stddef.h>
+#include <stdint.h>
+
+#if !defined(__x86_64__) || defined(__ILP32__)
+#error "libwosthile.a is built for x86-64 with 64-bit pointers"
+#endif
+
+/* Changes whenever a struct or a function below changes in a way that asks for compiling again. */
+#define WOSTHILE_ABI 1
+
+/* The greatest sizes of accepted files, in bytes. A lent buffer of that size is long enough for every answer. */
+#define WOSTHILE_TYPE_FILE_MAX 257
+#define WOSTHILE_SLICE_FILE_MAX 513
+#define WOSTHILE_PATCH_FILE_MAX 8482
+
+/* A thread that makes these calls needs so many bytes of stack beside its own; the deepest types take most of them. */
+#define WOSTHILE_STACK_MAX 40960
+
+#ifdef __cplusplus
+extern "C" {
+#endif
+
+/*
+ * The number in every answer. 1 to 4 speak of a type, 11 to 14 of a slice, 20 of the lent buffer; 5 to 7 speak of a
+ * patch and are never answered by the operations in this header. Where one place has several faults, 4 and 5 come
+ * before 1 and 1 before 2; in a slice 11 comes before 12 and 12 before 14.
+ */
+enum wosthile_number {
+    /* The call was accepted. */
+    WOSTHILE_ACCEPTED = 0,
+    /* A section is longer than the bytes remain, or a tree needs a byte past its section. */
+    WOSTHILE_CUT_SHORT = 1,
+    /* A kind byte is not listed. */
+    WOSTHILE_UNLISTED_KIND = 2,
+    /* Bytes stand after a whole tree in its section, or after the last section. */
+    WOSTHILE_BYTES_LEFT_OVER = 3,
+    /* A type needs a 256th node. */
+    WOSTHILE_TYPE_TOO_LARGE = 4,
+    /* A patch needs a 64th node. */
+    WOSTHILE_PATCH_TOO_LARGE = 5,
+    /* The type that a silent node carries is not nullable. */
+    WOSTHILE_NOT_NULLABLE = 6,
+    /* The input of a node lacks the shape that the node takes. */
+    WOSTHILE_WRONG_SHAPE = 7,
+    /* A slice is cut short: its section or its tree needs more bytes than there are. */
+    WOSTHILE_SLICE_CUT_SHORT = 11,
+    /* A slice has a kind above 7. */
+    WOSTHILE_SLICE_UNLISTED_KIND = 12,
+    /* A slice has bytes left over, in its section or after it. */
+    WOSTHILE_SLICE_BYTES_LEFT_OVER = 13,
+    /* A slice has a kind that does not belong there; 1, 3 or 5 where a crossed first part has to be complete is one. */
+    WOSTHILE_SLICE_MISPLACED_KIND = 14,
+    /* The lent buffer is too short for this answer. */
+    WOSTHILE_BUFFER_TOO_SHORT = 20
+};
+
+/* The answer of an operation that writes a file. */
+typedef struct {
+    uint32_t number; /* 0, or the number of the first fault */
+    size_t written;  /* how many bytes stand at the front of the lent buffer; 0 on a refusal */
+} wosthile_written;
+
+/* The answer of wosthile_admit. */
+typedef struct {
+    uint32_t number;   /* 0, or the number of the first fault */
+    uint32_t complete; /* 1 if the slice is complete, 0 if it is not; 0 on a refusal */
+} wosthile_admitted;
+
+/*
+ * Is the file at slice a slice of the type whose file stands at type, and is it complete?
+ * Refuses the type with 1 to 4, then the slice with 11 to 14.
+ */
+wosthile_admitted wosthile_admit(const uint8_t *type, size_t type_len, const uint8_t *slice, size_t slice_len);
+
+/*
+ * Writes to left the file of the type that the slice leaves, at most WOSTHILE_TYPE_FILE_MAX bytes and never more than
+ * type_len. Refuses as wosthile_admit does, then with 20.
+ *
+ *   slice 0, 2, 4   leaves empty
+ *   slice 1, 3      leaves the type
+ *   slice 5         leaves a sequence of what is left of the first part and the whole second
+ *   slice 6         leaves what is left of the second part
+ *   slice 7         leaves both remainders side by side
+ */
+wosthile_written wosthile_left(const uint8_t *type, size_t type_len, const uint8_t *slice, size_t slice_len,
+                               uint8_t *left, size_t left_len);
+
+/*
+ * Writes to joined the file of first and second as one slice of the type, at most WOSTHILE_SLICE_FILE_MAX bytes.
+ * second is a slice of what first leaves of the type, the type that wosthile_left writes. Refuses the type with 1 to 4,
+ * then first with 11 to 14, then second with 11 to 14, then with 20. The number does not tell the two slices apart.
+ */
+wosthile_written wosthile_join(const uint8_t *type, size_t type_len, const uint8_t *first, size_t first_len,
+                               const uint8_t *second, size_t second_len, uint8_t *joined, size_t joined_len);
+
+/* The layout that the archive was built for. */
+#ifdef __cplusplus
+#define WOSTHILE_HOLDS(condition, reason) static_assert(condition, reason)
+#else
+#define WOSTHILE_HOLDS(condition, reason) _Static_assert(condition, reason)
+#endif
+
+WOSTHILE_HOLDS(sizeof(size_t) == 8, "a length has eight bytes");
+WOSTHILE_HOLDS(sizeof(wosthile_written) == 16, "wosthile_written has sixteen bytes");
+WOSTHILE_HOLDS(offsetof(wosthile_written, number) == 0, "the number comes first");
+WOSTHILE_HOLDS(offsetof(wosthile_written, written) == 8, "the length follows at eight");
+WOSTHILE_HOLDS(sizeof(wosthile_admitted) == 8, "wosthile_admitted has eight bytes");
+WOSTHILE_HOLDS(offsetof(wosthile_admitted, number) == 0, "the number comes first");
+WOSTHILE_HOLDS(offsetof(wosthile_admitted, complete) == 4, "complete follows at four");
+
+#undef WOSTHILE_HOLDS
+
+#ifdef __cplusplus
+}
+#endif
+
+#endif

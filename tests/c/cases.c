@@ -1,0 +1,395 @@
+/*
+ * Calls of Admit, Left and Join through the header alone, each with the answer that document 01 gives for it.
+ * Every file stands in memory of its exact size, where a sanitizer sees a byte too many. Every lent buffer stands
+ * between two margins, which show a byte written beside it: the archive itself has no sanitizer in it.
+ */
+#include "wosthile.h"
+
+#include <stdbool.h>
+#include <stdio.h>
+#include <stdlib.h>
+#include <string.h>
+
+struct bytes {
+    const uint8_t *at;
+    size_t count;
+};
+
+/* RAW is a file byte by byte; FILE_OF is the file of one section, given by its contents. */
+#define LENGTH(...) sizeof((const uint8_t[]){__VA_ARGS__})
+#define RAW(...) {(const uint8_t[]){__VA_ARGS__}, LENGTH(__VA_ARGS__)}
+#define FILE_OF(...) {(const uint8_t[]){0, LENGTH(__VA_ARGS__), __VA_ARGS__}, 2 + LENGTH(__VA_ARGS__)}
+#define NONE {NULL, 0}
+
+struct admit_row {
+    const char *name;
+    struct bytes type, slice;
+    wosthile_admitted answer;
+};
+
+static const struct admit_row admit_rows[] = {
+    {"empty", FILE_OF(0), FILE_OF(0), {0, 1}},
+    {"cue not yet", FILE_OF(1), FILE_OF(1), {0, 0}},
+    {"cue come", FILE_OF(1), FILE_OF(2), {0, 1}},
+    {"level not yet", FILE_OF(2), FILE_OF(3), {0, 0}},
+    {"level 0 come is not level not yet", FILE_OF(2), FILE_OF(4, 0, 0), {0, 1}},
+    {"level 65535 come", FILE_OF(2), FILE_OF(4, 255, 255), {0, 1}},
+    {"value bytes are no kinds", FILE_OF(4, 2, 1), FILE_OF(7, 4, 200, 8, 2), {0, 1}},
+    {"first part has come and is not crossed", FILE_OF(3, 1, 1), FILE_OF(5, 2), {0, 0}},
+    {"crossed", FILE_OF(3, 1, 1), FILE_OF(6, 2, 1), {0, 0}},
+    {"crossed, and the second part has come", FILE_OF(3, 1, 1), FILE_OF(6, 2, 2), {0, 1}},
+    {"empty in sequence with empty still owes its crossing", FILE_OF(3, 0, 0), FILE_OF(5, 0), {0, 0}},
+    {"empty crossed to empty", FILE_OF(3, 0, 0), FILE_OF(6, 0, 0), {0, 1}},
+    {"one side has come", FILE_OF(4, 1, 2), FILE_OF(7, 2, 3), {0, 0}},
+    {"both sides have come", FILE_OF(4, 1, 2), FILE_OF(7, 2, 4, 1, 0), {0, 1}},
+
+    {"no type file", NONE, FILE_OF(1), {1, 0}},
+    {"type file of one byte", RAW(0), FILE_OF(1), {1, 0}},
+    {"type section without contents", RAW(0, 0), FILE_OF(1), {1, 0}},
+    {"type section longer than the file", RAW(0, 2, 1), FILE_OF(1), {1, 0}},
+    {"length before contents", RAW(0, 2, 200), FILE_OF(1), {1, 0}},
+    {"type section that claims 65535 bytes", RAW(255, 255, 1), FILE_OF(1), {1, 0}},
+    {"type tree cut short", FILE_OF(3, 1), FILE_OF(5, 1), {1, 0}},
+    {"unlisted type kind", FILE_OF(200), FILE_OF(1), {2, 0}},
+    {"unlisted type kind below", FILE_OF(4, 1, 19), FILE_OF(7, 1, 1), {2, 0}},
+    {"bytes after the type", FILE_OF(1, 1), FILE_OF(1), {3, 0}},
+    {"bytes after the type are not looked at", FILE_OF(1, 200), FILE_OF(1), {3, 0}},
+    {"bytes after the type section", RAW(0, 1, 1, 0), FILE_OF(1), {3, 0}},
+    {"the type before the slice", FILE_OF(1, 1), FILE_OF(200), {3, 0}},
+
+    {"no slice file", FILE_OF(1), NONE, {11, 0}},
+    {"slice file of one byte", FILE_OF(1), RAW(0), {11, 0}},
+    {"slice section without contents", FILE_OF(1), RAW(0, 0), {11, 0}},
+    {"slice section longer than the file", FILE_OF(1), RAW(0, 2, 200), {11, 0}},
+    {"slice tree cut short", FILE_OF(4, 1, 1), FILE_OF(7, 2), {11, 0}},
+    {"level without its value", FILE_OF(2), FILE_OF(4), {11, 0}},
+    {"level with half its value", FILE_OF(2), FILE_OF(4, 1), {11, 0}},
+    {"unlisted slice kind", FILE_OF(1), FILE_OF(200), {12, 0}},
+    {"unlisted slice kind in a crossed first part", FILE_OF(3, 1, 1), FILE_OF(6, 15), {12, 0}},
+    {"bytes after the slice", FILE_OF(1), FILE_OF(2, 1), {13, 0}},
+    {"bytes after the slice are not looked at", FILE_OF(1), FILE_OF(2, 200), {13, 0}},
+    {"bytes after the slice section", FILE_OF(1), RAW(0, 1, 2, 0), {13, 0}},
+    {"case 7, a crossed first part that has not come", FILE_OF(3, 1, 1), FILE_OF(6, 1, 1), {14, 0}},
+    {"level not yet in a crossed first part", FILE_OF(3, 2, 1), FILE_OF(6, 3, 1), {14, 0}},
+    {"uncrossed in a crossed first part", FILE_OF(3, 3, 1, 1, 1), FILE_OF(6, 5, 2, 1), {14, 0}},
+    {"the second of a crossed first part", FILE_OF(3, 3, 1, 1, 1), FILE_OF(6, 6, 2, 1, 1), {14, 0}},
+    {"one side of a crossed first part", FILE_OF(3, 4, 1, 1, 1), FILE_OF(6, 7, 2, 1, 1), {14, 0}},
+    {"at the byte, before the cut", FILE_OF(3, 4, 1, 1, 1), FILE_OF(6, 7, 1), {14, 0}},
+    {"at the byte, before the unlisted kind", FILE_OF(3, 4, 1, 1, 1), FILE_OF(6, 7, 1, 200), {14, 0}},
+    {"a kind of another type", FILE_OF(1), FILE_OF(3), {14, 0}},
+    {"the kind before its value", FILE_OF(1), FILE_OF(4, 1), {14, 0}},
+    {"side by side on a sequence", FILE_OF(3, 1, 1), FILE_OF(7, 2, 1), {14, 0}},
+};
+
+/* Left, and Join where a second slice is given; the answer counts if the number is 0. */
+struct writing_row {
+    const char *name;
+    struct bytes type, first, second;
+    uint32_t number;
+    struct bytes answer;
+};
+
+static const struct writing_row left_rows[] = {
+    {"empty leaves empty", FILE_OF(0), FILE_OF(0), NONE, 0, FILE_OF(0)},
+    {"case 2, cue not yet", FILE_OF(1), FILE_OF(1), NONE, 0, FILE_OF(1)},
+    {"case 2, cue come", FILE_OF(1), FILE_OF(2), NONE, 0, FILE_OF(0)},
+    {"level not yet", FILE_OF(2), FILE_OF(3), NONE, 0, FILE_OF(2)},
+    {"level 0 come", FILE_OF(2), FILE_OF(4, 0, 0), NONE, 0, FILE_OF(0)},
+    {"case 1", FILE_OF(4, 1, 2), FILE_OF(7, 2, 3), NONE, 0, FILE_OF(4, 0, 2)},
+    {"case 4, not crossed", FILE_OF(3, 1, 1), FILE_OF(5, 2), NONE, 0, FILE_OF(3, 0, 1)},
+    {"case 4, crossed", FILE_OF(3, 1, 1), FILE_OF(6, 2, 1), NONE, 0, FILE_OF(1)},
+    {"case 5, not crossed", FILE_OF(3, 1, 4, 1, 1), FILE_OF(5, 2), NONE, 0, FILE_OF(3, 0, 4, 1, 1)},
+    {"case 5, crossed", FILE_OF(3, 1, 4, 1, 1), FILE_OF(6, 2, 7, 2, 1), NONE, 0, FILE_OF(4, 0, 1)},
+    {"case 6", FILE_OF(3, 3, 1, 1, 1), FILE_OF(5, 6, 2, 1), NONE, 0, FILE_OF(3, 1, 1)},
+    {"empty in sequence with empty", FILE_OF(3, 0, 0), FILE_OF(5, 0), NONE, 0, FILE_OF(3, 0, 0)},
+    {"empty crossed to empty", FILE_OF(3, 0, 0), FILE_OF(6, 0, 0), NONE, 0, FILE_OF(0)},
+    {"all has come side by side", FILE_OF(4, 1, 2), FILE_OF(7, 2, 4, 1, 0), NONE, 0, FILE_OF(4, 0, 0)},
+    {"type cut short", FILE_OF(3, 1), FILE_OF(5, 2), NONE, 1, NONE},
+    {"unlisted type kind", FILE_OF(19), FILE_OF(1), NONE, 2, NONE},
+    {"bytes after the type", FILE_OF(1, 0), FILE_OF(1), NONE, 3, NONE},
+    {"slice cut short", FILE_OF(3, 1, 1), FILE_OF(5), NONE, 11, NONE},
+    {"unlisted slice kind", FILE_OF(1), FILE_OF(15), NONE, 12, NONE},
+    {"bytes after the slice", FILE_OF(1), FILE_OF(1, 1), NONE, 13, NONE},
+    {"case 7", FILE_OF(3, 1, 1), FILE_OF(6, 1, 1), NONE, 14, NONE},
+};
+
+static const struct writing_row join_rows[] = {
+    {"after 0", FILE_OF(0), FILE_OF(0), FILE_OF(0), 0, FILE_OF(0)},
+    {"after 2", FILE_OF(1), FILE_OF(2), FILE_OF(0), 0, FILE_OF(2)},
+    {"after 4", FILE_OF(2), FILE_OF(4, 255, 1), FILE_OF(0), 0, FILE_OF(4, 255, 1)},
+    {"after level 0 come", FILE_OF(2), FILE_OF(4, 0, 0), FILE_OF(0), 0, FILE_OF(4, 0, 0)},
+    {"after 1, nothing", FILE_OF(1), FILE_OF(1), FILE_OF(1), 0, FILE_OF(1)},
+    {"after 1", FILE_OF(1), FILE_OF(1), FILE_OF(2), 0, FILE_OF(2)},
+    {"after 3", FILE_OF(2), FILE_OF(3), FILE_OF(4, 1, 2), 0, FILE_OF(4, 1, 2)},
+    {"5 with 5", FILE_OF(3, 1, 1), FILE_OF(5, 1), FILE_OF(5, 2), 0, FILE_OF(5, 2)},
+    {"5 with 5, nothing new", FILE_OF(3, 1, 1), FILE_OF(5, 2), FILE_OF(5, 0), 0, FILE_OF(5, 2)},
+    {"5 with 6", FILE_OF(3, 1, 1), FILE_OF(5, 1), FILE_OF(6, 2, 1), 0, FILE_OF(6, 2, 1)},
+    {"case 7", FILE_OF(3, 1, 1), FILE_OF(5, 2), FILE_OF(6, 0, 1), 0, FILE_OF(6, 2, 1)},
+    {"6 with what follows", FILE_OF(3, 1, 1), FILE_OF(6, 2, 1), FILE_OF(2), 0, FILE_OF(6, 2, 2)},
+    {"7 joins each side", FILE_OF(4, 1, 2), FILE_OF(7, 2, 3), FILE_OF(7, 0, 4, 0, 9), 0, FILE_OF(7, 2, 4, 0, 9)},
+    {"the crossing of empty", FILE_OF(3, 0, 0), FILE_OF(5, 0), FILE_OF(6, 0, 0), 0, FILE_OF(6, 0, 0)},
+    {"crossed inside the first part", FILE_OF(3, 3, 1, 1, 2), FILE_OF(5, 6, 2, 1), FILE_OF(6, 2, 4, 7, 8), 0,
+     FILE_OF(6, 6, 2, 2, 4, 7, 8)},
+    {"type too short", NONE, FILE_OF(1), FILE_OF(1), 1, NONE},
+    {"unlisted type kind", FILE_OF(200), FILE_OF(1), FILE_OF(1), 2, NONE},
+    {"bytes after the type section", RAW(0, 1, 1, 1), FILE_OF(1), FILE_OF(1), 3, NONE},
+    {"no first slice", FILE_OF(1), NONE, FILE_OF(1), 11, NONE},
+    {"no second slice", FILE_OF(1), FILE_OF(1), NONE, 11, NONE},
+    {"first slice, unlisted kind", FILE_OF(1), FILE_OF(200), FILE_OF(1), 12, NONE},
+    {"second slice, unlisted kind", FILE_OF(1), FILE_OF(1), FILE_OF(200), 12, NONE},
+    {"first slice before the second", FILE_OF(1), FILE_OF(1, 1), FILE_OF(200), 13, NONE},
+    {"bytes after the second slice", FILE_OF(1), FILE_OF(2), FILE_OF(0, 0), 13, NONE},
+    {"second slice is of what is left", FILE_OF(3, 1, 1), FILE_OF(5, 2), FILE_OF(6, 2, 1), 14, NONE},
+    {"nothing of the first part is left", FILE_OF(3, 1, 1), FILE_OF(6, 2, 1), FILE_OF(6, 0, 1), 14, NONE},
+    {"a cue comes once", FILE_OF(1), FILE_OF(2), FILE_OF(2), 14, NONE},
+};
+
+static int passed, failed;
+
+static void count(bool holds, const char *operation, const char *name, size_t room)
+{
+    if (holds) {
+        passed++;
+    } else {
+        failed++;
+        printf("%s, %s, buffer of %zu: FAILED\n", operation, name, room);
+    }
+}
+
+/* A copy in memory of its exact size; NULL for no bytes. */
+static uint8_t *copy_of(struct bytes bytes)
+{
+    uint8_t *copy = NULL;
+    if (bytes.count > 0) {
+        copy = malloc(bytes.count);
+        if (copy == NULL) {
+            abort();
+        }
+        memcpy(copy, bytes.at, bytes.count);
+    }
+    return copy;
+}
+
+static bool unaltered(const uint8_t *copy, struct bytes bytes)
+{
+    return bytes.count == 0 || memcmp(copy, bytes.at, bytes.count) == 0;
+}
+
+enum { MARGIN = 16 };
+
+/* What stands at a place of the memory around and in a lent buffer before a call: no two neighbours alike, never 0. */
+static uint8_t before(size_t place)
+{
+    return (uint8_t)(place % 251 + 5);
+}
+
+/* Memory for a lent buffer of this length, with its margins. */
+static uint8_t *lent_memory(size_t room)
+{
+    uint8_t *memory = malloc(room + 2 * MARGIN);
+    if (memory == NULL) {
+        abort();
+    }
+    for (size_t place = 0; place < room + 2 * MARGIN; place++) {
+        memory[place] = before(place);
+    }
+    return memory;
+}
+
+/* The buffer holds the answer in front; it and its margins are otherwise as they were. */
+static bool holds(const uint8_t *memory, size_t room, struct bytes answer)
+{
+    for (size_t place = 0; place < room + 2 * MARGIN; place++) {
+        bool answered = place >= MARGIN && place - MARGIN < answer.count;
+        uint8_t expected = answered ? answer.at[place - MARGIN] : before(place);
+        if (memory[place] != expected) {
+            return false;
+        }
+    }
+    return true;
+}
+
+static void check_admit(const struct admit_row *row)
+{
+    uint8_t *type = copy_of(row->type);
+    uint8_t *slice = copy_of(row->slice);
+    wosthile_admitted answer = wosthile_admit(type, row->type.count, slice, row->slice.count);
+    bool right = answer.number == row->answer.number && answer.complete == row->answer.complete;
+    count(right && unaltered(type, row->type) && unaltered(slice, row->slice), "Admit", row->name, 0);
+    free(type);
+    free(slice);
+}
+
+enum writing { LEFT, JOIN };
+
+/* One call with a buffer of this length: 20 if it is too short for an answer that the row accepts. */
+static void check_room(enum writing operation, const struct writing_row *row, size_t room)
+{
+    uint8_t *type = copy_of(row->type);
+    uint8_t *first = copy_of(row->first);
+    uint8_t *second = copy_of(row->second);
+    uint8_t *memory = lent_memory(room);
+    uint8_t *buffer = room > 0 ? memory + MARGIN : NULL;
+    bool fits = row->number == WOSTHILE_ACCEPTED && room >= row->answer.count;
+    uint32_t number = row->number == WOSTHILE_ACCEPTED && !fits ? WOSTHILE_BUFFER_TOO_SHORT : row->number;
+    struct bytes expected = {fits ? row->answer.at : NULL, fits ? row->answer.count : 0};
+    wosthile_written answer =
+        operation == LEFT
+            ? wosthile_left(type, row->type.count, first, row->first.count, buffer, room)
+            : wosthile_join(type, row->type.count, first, row->first.count, second, row->second.count, buffer, room);
+    bool right = answer.number == number && answer.written == expected.count && holds(memory, room, expected);
+    right = right && unaltered(type, row->type) && unaltered(first, row->first) && unaltered(second, row->second);
+    count(right, operation == LEFT ? "Left" : "Join", row->name, room);
+    free(type);
+    free(first);
+    free(second);
+    free(memory);
+}
+
+/* Every length from none to three bytes more than the answer, and the greatest sizes. */
+static void check_writing(enum writing operation, const struct writing_row *row)
+{
+    if (row->answer.count < 100) {
+        for (size_t room = 0; room <= row->answer.count + 3; room++) {
+            check_room(operation, row, room);
+        }
+    } else {
+        check_room(operation, row, 0);
+        check_room(operation, row, row->answer.count - 1);
+        check_room(operation, row, row->answer.count);
+    }
+    check_room(operation, row, WOSTHILE_TYPE_FILE_MAX);
+    check_room(operation, row, WOSTHILE_SLICE_FILE_MAX);
+    check_room(operation, row, 1000);
+}
+
+/* A file whose contents repeat a few bytes so many times and then end in others. */
+static struct bytes repeated(struct bytes part, size_t times, struct bytes end)
+{
+    size_t contents = part.count * times + end.count;
+    uint8_t *file = malloc(contents + 2);
+    if (file == NULL) {
+        abort();
+    }
+    file[0] = (uint8_t)(contents / 256);
+    file[1] = (uint8_t)(contents % 256);
+    for (size_t time = 0; time < times; time++) {
+        memcpy(file + 2 + time * part.count, part.at, part.count);
+    }
+    if (end.count > 0) {
+        memcpy(file + 2 + part.count * times, end.at, end.count);
+    }
+    return (struct bytes){file, contents + 2};
+}
+
+/* The file with bytes behind it up to a length, whatever its count says. */
+static struct bytes lengthened(struct bytes file, size_t length)
+{
+    uint8_t *longer = calloc(length, 1);
+    if (longer == NULL) {
+        abort();
+    }
+    memcpy(longer, file.at, file.count < length ? file.count : length);
+    return (struct bytes){longer, length};
+}
+
+static void release(struct bytes *files, size_t number)
+{
+    for (size_t file = 0; file < number; file++) {
+        free((void *)(uintptr_t)files[file].at);
+    }
+}
+
+static void check_admit_of(const char *name, struct bytes type, struct bytes slice, wosthile_admitted answer)
+{
+    struct admit_row row = {name, type, slice, answer};
+    check_admit(&row);
+}
+
+/* Types about 255 nodes, and what they need. */
+static void check_limit(void)
+{
+    const struct bytes none = NONE, lane = RAW(4, 1), fork = RAW(3), cue = RAW(1), extra = RAW(4, 200), end = RAW(4);
+    const struct bytes come = RAW(7, 2), awaited = RAW(7, 1), last = RAW(2), slice = FILE_OF(1);
+    struct bytes largest = repeated(lane, 127, cue), larger = repeated(lane, 128, cue);
+    struct bytes forks = repeated(fork, 128, none), more_forks = repeated(fork, 255, none);
+    struct bytes needed = repeated(lane, 127, end), needed_unlisted = repeated(lane, 127, extra);
+    struct bytes all = repeated(come, 127, last), nothing = repeated(awaited, 127, cue);
+
+    check_admit_of("255 nodes, all has come", largest, all, (wosthile_admitted){0, 1});
+    check_admit_of("255 nodes, nothing has come", largest, nothing, (wosthile_admitted){0, 0});
+    check_admit_of("257 nodes", larger, slice, (wosthile_admitted){4, 0});
+    check_admit_of("128 forks and nothing more", forks, slice, (wosthile_admitted){1, 0});
+    check_admit_of("255 forks and nothing more", more_forks, slice, (wosthile_admitted){4, 0});
+    check_admit_of("a 256th node is needed", needed, slice, (wosthile_admitted){4, 0});
+    check_admit_of("a 256th node is needed before it is unlisted", needed_unlisted, slice, (wosthile_admitted){4, 0});
+
+    struct writing_row left = {"255 nodes, nothing has come", largest, nothing, none, 0, largest};
+    check_writing(LEFT, &left);
+
+    struct bytes files[] = {largest, larger, forks, more_forks, needed, needed_unlisted, all, nothing};
+    release(files, sizeof files / sizeof files[0]);
+}
+
+/* The longest slice file of all, and files far longer than any that is accepted. */
+static void check_long_files(void)
+{
+    const struct bytes lane = RAW(4, 2), level = RAW(2), come = RAW(7, 4, 1, 2), last = RAW(4, 255, 255);
+    const struct bytes awaited = RAW(7, 3), not_yet = RAW(3), type = FILE_OF(1), slice = FILE_OF(2);
+    const struct bytes claim = RAW(255, 255, 1), slice_claim = RAW(255, 255, 2);
+    struct bytes levels = repeated(lane, 127, level), all = repeated(come, 127, last);
+    struct bytes nothing = repeated(awaited, 127, not_yet);
+    struct bytes type_mebibyte = lengthened(type, 1 << 20), slice_mebibyte = lengthened(slice, 1 << 20);
+    struct bytes type_section = lengthened(claim, 65537), slice_section = lengthened(slice_claim, 65537);
+
+    check_admit_of("a type file of a mebibyte", type_mebibyte, slice, (wosthile_admitted){3, 0});
+    check_admit_of("a slice file of a mebibyte", type, slice_mebibyte, (wosthile_admitted){13, 0});
+    check_admit_of("a type section of 65535 bytes", type_section, slice, (wosthile_admitted){3, 0});
+    check_admit_of("a slice section of 65535 bytes", type, slice_section, (wosthile_admitted){13, 0});
+
+    struct writing_row join = {"128 levels come at once", levels, nothing, all, 0, all};
+    count(all.count == WOSTHILE_SLICE_FILE_MAX && levels.count == WOSTHILE_TYPE_FILE_MAX, "sizes", join.name, 0);
+    check_writing(JOIN, &join);
+
+    struct bytes files[] = {levels, all, nothing, type_mebibyte, slice_mebibyte, type_section, slice_section};
+    release(files, sizeof files / sizeof files[0]);
+}
+
+/* Files may be the same bytes, or lie across one another; a length of 0 is no bytes, wherever the pointer points. */
+static void check_shared_memory(void)
+{
+    /* The type of one cue, and the slice in which it has not come; then from its second byte on `1 1`, a cut file. */
+    const uint8_t cue[] = {0, 1, 1};
+    uint8_t buffer[4] = {9, 9, 9, 9};
+    wosthile_admitted seen = wosthile_admit(cue, sizeof cue, cue, sizeof cue);
+    count(seen.number == 0 && seen.complete == 0, "Admit", "type and slice are the same bytes", 0);
+    seen = wosthile_admit(cue, sizeof cue, cue + 1, sizeof cue - 1);
+    count(seen.number == 11, "Admit", "the slice file begins inside the type file", 0);
+    wosthile_written joined =
+        wosthile_join(cue, sizeof cue, cue, sizeof cue, cue, sizeof cue, buffer, sizeof buffer);
+    count(joined.number == 0 && joined.written == 3 && memcmp(buffer, cue, 3) == 0 && buffer[3] == 9, "Join",
+          "all three files are the same bytes", sizeof buffer);
+    seen = wosthile_admit(cue, 0, cue, sizeof cue);
+    count(seen.number == 1, "Admit", "a pointer with length 0", 0);
+    buffer[0] = 9;
+    wosthile_written left = wosthile_left(cue, sizeof cue, cue, sizeof cue, buffer, 0);
+    count(left.number == 20 && left.written == 0 && buffer[0] == 9, "Left", "a pointer with length 0", 0);
+}
+
+int main(void)
+{
+    for (size_t row = 0; row < sizeof admit_rows / sizeof admit_rows[0]; row++) {
+        check_admit(&admit_rows[row]);
+    }
+    for (size_t row = 0; row < sizeof left_rows / sizeof left_rows[0]; row++) {
+        check_writing(LEFT, &left_rows[row]);
+    }
+    for (size_t row = 0; row < sizeof join_rows / sizeof join_rows[0]; row++) {
+        check_writing(JOIN, &join_rows[row]);
+    }
+    check_limit();
+    check_long_files();
+    check_shared_memory();
+    printf("%d passed, %d failed\n", passed, failed);
+    return failed != 0;
+}
