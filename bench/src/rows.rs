@@ -1,0 +1,206 @@
+//! The rows of the table: one call each.
+
+use comparison::files::{section, set_count};
+use comparison::{library, Operation};
+
+use crate::streams::{slice_tree, type_tree, Shape, Share};
+
+/// The nodes of the largest type.
+pub const LARGEST: usize = 255;
+
+/// The sizes, in nodes, at which a shape is followed as it grows.
+const SIZES: [usize; 5] = [15, 31, 63, 127, LARGEST];
+
+/// What a row is there for.
+#[derive(Clone, Copy, Debug, PartialEq, Eq)]
+pub enum Group {
+    /// Small, typical and largest calls.
+    Legal,
+    /// One shape at a growing number of nodes.
+    Growing { shape: Shape, nodes: usize },
+    /// Refused calls with long files.
+    Refused,
+}
+
+/// One call that is made many times.
+#[derive(Clone, Debug)]
+pub struct Row {
+    pub group: Group,
+    pub name: String,
+    pub operation: Operation,
+    pub files: Vec<Vec<u8>>,
+}
+
+/// Which of the two is measured.
+#[derive(Clone, Copy, Debug, PartialEq, Eq)]
+pub enum Side {
+    Library,
+    Second,
+}
+
+impl Row {
+    /// The row of an operation on a type and two slices; Admit and Left take the first alone.
+    fn new(group: Group, name: &str, operation: Operation, files: &[Vec<u8>; 3]) -> Self {
+        let taken = if operation == Operation::Join { 3 } else { 2 };
+        Row {
+            group,
+            name: name.to_string(),
+            operation,
+            files: files[..taken].to_vec(),
+        }
+    }
+
+    /// The bytes of all files handed in.
+    pub fn input_bytes(&self) -> usize {
+        self.files.iter().map(Vec::len).sum()
+    }
+
+    /// Makes the call; answers its number and its length, or whether the slice is complete.
+    pub fn call(&self, side: Side, lent: &mut [u8]) -> (u32, usize) {
+        match side {
+            Side::Library => self.call_library(lent),
+            Side::Second => self.call_second(lent),
+        }
+    }
+
+    fn call_library(&self, lent: &mut [u8]) -> (u32, usize) {
+        let files = &self.files;
+        let answer = match self.operation {
+            Operation::Admit => {
+                let answer = library::admit(&files[0], &files[1]);
+                return (answer.number, answer.complete as usize);
+            }
+            Operation::Left => library::left(&files[0], &files[1], lent),
+            Operation::Join => library::join(&files[0], &files[1], &files[2], lent),
+        };
+        (answer.number, answer.written)
+    }
+
+    fn call_second(&self, lent: &mut [u8]) -> (u32, usize) {
+        let files = &self.files;
+        let answer = match self.operation {
+            Operation::Admit => second_interpreter::admit(&files[0], &files[1]).map(usize::from),
+            Operation::Left => second_interpreter::left(&files[0], &files[1], lent),
+            Operation::Join => second_interpreter::join(&files[0], &files[1], &files[2], lent),
+        };
+        answer.map_or_else(|number| (number, 0), |value| (0, value))
+    }
+}
+
+/// A type, a slice of it, and a slice of what that one leaves.
+fn stream(tree: &[u8], first: Share, second: Share) -> [Vec<u8>; 3] {
+    let (type_file, first) = (section(tree), section(&slice_tree(tree, first)));
+    let mut left = [0; 257];
+    let written = second_interpreter::left(&type_file, &first, &mut left)
+        .expect("the slice was made from the type");
+    let second = section(&slice_tree(&left[2..written], second));
+    [type_file, first, second]
+}
+
+/// Half of a stream, and then the other half.
+fn halves(shape: Shape, nodes: usize) -> [Vec<u8>; 3] {
+    stream(&type_tree(shape, nodes), Share::Half, Share::All)
+}
+
+/// Every row, in the order of the table.
+pub fn all() -> Vec<Row> {
+    let mut rows = Vec::new();
+    for operation in Operation::ALL {
+        rows.extend(legal(operation));
+    }
+    for operation in Operation::ALL {
+        rows.extend(growing(operation));
+    }
+    for operation in Operation::ALL {
+        rows.extend(refused(operation));
+    }
+    rows
+}
+
+fn legal(operation: Operation) -> Vec<Row> {
+    let small = stream(&[3, 1, 1], Share::Half, Share::All);
+    let typical = halves(Shape::Balanced, 31);
+    let mut rows = vec![
+        Row::new(Group::Legal, "small", operation, &small),
+        Row::new(Group::Legal, "typical", operation, &typical),
+    ];
+    let shares = [
+        ("nothing has come", Share::Nothing, Share::Nothing),
+        ("half has come", Share::Half, Share::All),
+        ("all has come", Share::All, Share::Nothing),
+    ];
+    for (shape, shape_name) in Shape::ALL {
+        for (share_name, first, second) in shares {
+            let name = format!("largest, {shape_name}, {share_name}");
+            let files = stream(&type_tree(shape, LARGEST), first, second);
+            rows.push(Row::new(Group::Legal, &name, operation, &files));
+        }
+    }
+    rows
+}
+
+fn growing(operation: Operation) -> Vec<Row> {
+    let mut rows = Vec::new();
+    for (shape, name) in Shape::ALL {
+        for nodes in SIZES {
+            let name = format!("{name}, {nodes} nodes, half has come");
+            let group = Group::Growing { shape, nodes };
+            rows.push(Row::new(group, &name, operation, &halves(shape, nodes)));
+        }
+    }
+    rows
+}
+
+/// A file with bytes behind it up to this length.
+fn lengthened(file: &[u8], length: usize) -> Vec<u8> {
+    let mut longer = file.to_vec();
+    longer.resize(length, 1);
+    longer
+}
+
+/// A file whose section claims 65,535 bytes.
+fn claiming(mut file: Vec<u8>) -> Vec<u8> {
+    set_count(&mut file, 65_535);
+    file
+}
+
+fn refused(operation: Operation) -> Vec<Row> {
+    let legal = stream(
+        &type_tree(Shape::Balanced, LARGEST),
+        Share::All,
+        Share::Nothing,
+    );
+    let [stream, slice, second] = &legal;
+    let with_type = |file: Vec<u8>| [file, slice.clone(), second.clone()];
+    let with_slice = |file: Vec<u8>| [stream.clone(), file, second.clone()];
+    let rows = [
+        (
+            "type file of a mebibyte",
+            with_type(lengthened(stream, 1 << 20)),
+        ),
+        (
+            "slice file of a mebibyte",
+            with_slice(lengthened(slice, 1 << 20)),
+        ),
+        (
+            "type claims 65,535 bytes, short",
+            with_type(claiming(stream.clone())),
+        ),
+        (
+            "slice claims 65,535 bytes, short",
+            with_slice(claiming(slice.clone())),
+        ),
+        (
+            "type claims 65,535 bytes, full",
+            with_type(claiming(lengthened(stream, 65_537))),
+        ),
+        (
+            "slice claims 65,535 bytes, full",
+            with_slice(claiming(lengthened(slice, 65_537))),
+        ),
+        ("65,535 forks", with_type(section(&[3; 65_535]))),
+    ];
+    rows.iter()
+        .map(|(name, files)| Row::new(Group::Refused, name, operation, files))
+        .collect()
+}

@@ -1,0 +1,123 @@
+//! The types and slices of the rows, written as the bytes of their trees; nothing here is random.
+
+use comparison::types::{type_end, BESIDE, CUE, EMPTY, LEVEL, SEQUENCE};
+
+/// Which way a tree grows.
+#[derive(Clone, Copy, Debug, PartialEq, Eq)]
+pub enum Shape {
+    DeepLeft,
+    DeepRight,
+    Balanced,
+}
+
+impl Shape {
+    /// Every shape, with its name in the table.
+    pub const ALL: [(Shape, &'static str); 3] = [
+        (Shape::DeepLeft, "deep left"),
+        (Shape::DeepRight, "deep right"),
+        (Shape::Balanced, "balanced"),
+    ];
+}
+
+/// How much of a stream has come.
+#[derive(Clone, Copy, Debug, PartialEq, Eq)]
+pub enum Share {
+    Nothing,
+    Half,
+    All,
+}
+
+/// A type of so many nodes, an odd number. Sequence and side by side take turns from the root
+/// down, cues and levels from left to right.
+pub fn type_tree(shape: Shape, nodes: usize) -> Vec<u8> {
+    let mut tree = Vec::with_capacity(nodes);
+    let mut leaves = 0;
+    write_type(shape, nodes / 2, SEQUENCE, &mut leaves, &mut tree);
+    tree
+}
+
+fn write_type(shape: Shape, forks: usize, kind: u8, leaves: &mut usize, tree: &mut Vec<u8>) {
+    if forks == 0 {
+        tree.push(if leaves.is_multiple_of(2) { CUE } else { LEVEL });
+        *leaves += 1;
+        return;
+    }
+    tree.push(kind);
+    let first = match shape {
+        Shape::DeepLeft => forks - 1,
+        Shape::DeepRight => 0,
+        Shape::Balanced => (forks - 1) / 2,
+    };
+    let below = if kind == SEQUENCE { BESIDE } else { SEQUENCE };
+    write_type(shape, first, below, leaves, tree);
+    write_type(shape, forks - 1 - first, below, leaves, tree);
+}
+
+/// The slice in which this share of the leaves has come, from left to right, and every first part
+/// that has fully come is crossed.
+pub fn slice_tree(tree: &[u8], share: Share) -> Vec<u8> {
+    let leaves = tree.iter().filter(|kind| **kind < SEQUENCE).count();
+    let mut writer = Writer {
+        tree,
+        at: 0,
+        still_come: match share {
+            Share::Nothing => 0,
+            Share::Half => leaves / 2,
+            Share::All => leaves,
+        },
+        slice: Vec::new(),
+    };
+    writer.write(share != Share::Nothing);
+    writer.slice
+}
+
+/// Walks a type once, from left to right.
+struct Writer<'a> {
+    tree: &'a [u8],
+    at: usize,
+    still_come: usize,
+    slice: Vec<u8>,
+}
+
+impl Writer<'_> {
+    /// Writes the slice of the type at hand and says whether it is complete.
+    fn write(&mut self, crossing: bool) -> bool {
+        let kind = self.tree[self.at];
+        self.at += 1;
+        match kind {
+            SEQUENCE => self.sequence(crossing),
+            BESIDE => {
+                self.slice.push(7);
+                let first = self.write(crossing);
+                let second = self.write(crossing);
+                first && second
+            }
+            leaf => self.leaf(leaf),
+        }
+    }
+
+    fn sequence(&mut self, crossing: bool) -> bool {
+        let place = self.slice.len();
+        self.slice.push(5);
+        if self.write(crossing) && crossing {
+            self.slice[place] = 6;
+            return self.write(crossing);
+        }
+        self.at = type_end(self.tree, self.at);
+        false
+    }
+
+    fn leaf(&mut self, leaf: u8) -> bool {
+        let come = self.still_come > 0;
+        self.still_come -= usize::from(come);
+        let value = self.at as u8;
+        match (leaf, come) {
+            (EMPTY, _) => self.slice.push(0),
+            (CUE, false) => self.slice.push(1),
+            (CUE, true) => self.slice.push(2),
+            (_, false) => self.slice.push(3),
+            (_, true) => self.slice.extend([4, value, !value]),
+        }
+        leaf == EMPTY || come
+    }
+}

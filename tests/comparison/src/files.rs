@@ -1,0 +1,41 @@
+//! Files as bytes. A section is a count of two bytes, the high byte first, and then its contents.
+
+/// The file of one section. Its contents have at most 65,535 bytes.
+pub fn section(contents: &[u8]) -> Vec<u8> {
+    let mut file = vec![0, 0];
+    file.extend_from_slice(contents);
+    set_count(&mut file, contents.len());
+    file
+}
+
+/// What the count of a file says; 0 where there is no whole count.
+pub fn count(file: &[u8]) -> usize {
+    match file {
+        [high, low, ..] => usize::from(*high) * 256 + usize::from(*low),
+        _ => 0,
+    }
+}
+
+/// Overwrites the count, if the file has one.
+pub fn set_count(file: &mut [u8], count: usize) {
+    let count = count.min(65_535);
+    if let [high, low, ..] = file {
+        *high = (count / 256) as u8;
+        *low = (count % 256) as u8;
+    }
+}
+
+/// The bytes in decimal. A long run of one byte is shown as `{times: byte}`.
+pub fn decimal(bytes: &[u8]) -> String {
+    let words: Vec<String> = bytes
+        .chunk_by(|before, after| before == after)
+        .flat_map(|run| {
+            if run.len() > 8 {
+                vec![format!("{{{}: {}}}", run.len(), run[0])]
+            } else {
+                vec![run[0].to_string(); run.len()]
+            }
+        })
+        .collect();
+    words.join(" ")
+}

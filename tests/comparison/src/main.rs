@@ -1,0 +1,87 @@
+//! `compare --calls N --seed S` or `compare --seconds N --seed S`: compares the library with the
+//! second interpreter.
+//!
+//! Ends with status 1 at the first difference, or if the calls did not meet what they should; with
+//! 2 on wrong options.
+
+use std::process::ExitCode;
+use std::time::{Duration, Instant};
+
+use comparison::random::Random;
+use comparison::{compare, Calls, Tally};
+
+/// How long to go on.
+enum Extent {
+    Calls(u64),
+    Time(Duration),
+}
+
+struct Options {
+    extent: Extent,
+    seed: u64,
+}
+
+fn options(mut words: impl Iterator<Item = String>) -> Option<Options> {
+    let mut extent = None;
+    let mut seed = 1;
+    while let Some(word) = words.next() {
+        let value: u64 = words.next()?.parse().ok()?;
+        match word.as_str() {
+            "--calls" => extent = Some(Extent::Calls(value)),
+            "--seconds" => extent = Some(Extent::Time(Duration::from_secs(value))),
+            "--seed" => seed = value,
+            _ => return None,
+        }
+    }
+    Some(Options {
+        extent: extent?,
+        seed,
+    })
+}
+
+fn run(options: &Options, tally: &mut Tally) -> Result<(), String> {
+    let begin = Instant::now();
+    // What stands in the buffers and beside everything comes from a generator of its own: it has
+    // no say in which calls are made.
+    let mut noise = Random::new(!options.seed);
+    for (number, call) in (1_u64..).zip(Calls::new(options.seed)) {
+        compare(&call, &mut noise)
+            .and_then(|answer| tally.add(call.operation, &answer))
+            .map_err(|text| format!("seed {}, call {number}: {text}", options.seed))?;
+        let over = match options.extent {
+            Extent::Calls(calls) => number >= calls,
+            Extent::Time(limit) => number % 256 == 0 && begin.elapsed() >= limit,
+        };
+        if over {
+            break;
+        }
+    }
+    Ok(())
+}
+
+fn main() -> ExitCode {
+    let Some(options) = options(std::env::args().skip(1)) else {
+        eprintln!("usage: compare (--calls N | --seconds N) [--seed S]");
+        return ExitCode::from(2);
+    };
+    let mut tally = Tally::default();
+    if let Err(text) = run(&options, &mut tally) {
+        println!("{text}");
+        return ExitCode::FAILURE;
+    }
+    println!("{tally}");
+    let gaps = tally.gaps();
+    for gap in &gaps {
+        println!("{gap}");
+    }
+    println!(
+        "{} calls with seed {}: no difference",
+        tally.total(),
+        options.seed
+    );
+    if gaps.is_empty() {
+        ExitCode::SUCCESS
+    } else {
+        ExitCode::FAILURE
+    }
+}
