@@ -13,7 +13,8 @@ use Rattle.files.specs.TypeReads.{TypeAt, SomeTypeAt, TypeEnds}
 use Rattle.files.specs.TypeReads.Laws.{type-before, type-width, starts-inside, ends-inside, bytes-at, first-at, second-at}
 use Rattle.files.specs.SliceReads.{width, leaf-width, PrefixAt, SomePrefixAt, PrefixEnds}
 use Rattle.files.specs.SliceReads.Laws.{prefix-kind, width-positive, prefix-inside, kind-at, in-first-at, crossed-first-at, crossed-second-at, beside-first-at, beside-second-at}
-use Rattle.files.specs.Writing.{front, leaf-left, Stands, DerivativeDue, Moves, DerivativeWritten}
+use Rattle.stream.specs.Buffers.{front}
+use Rattle.files.specs.Writing.{leaf-left, Stands, DerivativeDue, Moves, DerivativeWritten}
 use Rattle.files.specs.Writing.Laws.{part, back, byte, front-length, Begun, begins, goes-on, room-left, length-kept}
 use Rattle.files.proofs.PrefixKinds.{Case, by-kind, leaf-is}
 

@@ -7,7 +7,8 @@ use Rattle.files.specs.declared.writing.Moved.{Moved}
 use Rattle.stream.specs.Prefixes.{concat}
 use Rattle.stream.specs.SliceFiles.{prefix-bytes, slice-file-bytes}
 use Rattle.files.specs.SliceReads.Laws.{prefix-width}
-use Rattle.files.specs.Writing.{front, ConcatDue, ConcatWritten, JoinedFileDue, JoinedFileWritten}
+use Rattle.stream.specs.Buffers.{front}
+use Rattle.files.specs.Writing.{ConcatDue, ConcatWritten, JoinedFileDue, JoinedFileWritten}
 use Rattle.files.specs.Writing.Laws.{part, back, count-bytes, room-behind-count, section-written}
 
 module _ {first second : List ℕ} {at from joined : ℕ} {lent y : List ℕ} (counted : y ≡ front (count-bytes joined) lent) where

@@ -10,7 +10,8 @@ use Rattle.stream.specs.Prefixes.{derivative}
 use Rattle.stream.specs.Prefixes.Laws.{derivative-size}
 use Rattle.stream.specs.TypeFiles.{type-bytes, type-file-bytes}
 use Rattle.files.specs.TypeReads.Laws.{type-width}
-use Rattle.files.specs.Writing.{front, DerivativeDue, DerivativeWritten, LeftFileDue, LeftFileWritten}
+use Rattle.stream.specs.Buffers.{front}
+use Rattle.files.specs.Writing.{DerivativeDue, DerivativeWritten, LeftFileDue, LeftFileWritten}
 use Rattle.files.specs.Writing.Laws.{part, back, count-bytes, room-behind-count, section-written}
 
 module _ (types : List ℕ) (at : ℕ) (slice : List ℕ) (from left : ℕ) (lent : List ℕ) where

@@ -24,9 +24,9 @@ use Rattle.stream.specs.Reading.Laws.{bytes-drop}
 use Rattle.files.specs.TypeReads.{TypeAt, TypeEnds}
 use Rattle.files.specs.TypeReads.Laws.{kind-at, fork-size, leaf-size, first-at, second-at, same-type}
 use Rattle.stream.specs.SliceFiles.{owed, belongs, prefix-root, prefix-bytes}
-use Rattle.files.specs.SliceReads.{overlap, width, known, home-of, is-unfinished, belongs-at, leaf-width, first-complete, leaf-walked, first-known, both-known, beside-walked, SumsFit, read-owed, walked, Walks}
+use Rattle.files.specs.SliceReads.{overlap, width, known, type-kind-of, is-unfinished, belongs-at, leaf-width, first-complete, leaf-walked, first-known, both-known, beside-walked, SumsFit, read-owed, walked, Walks}
 use Rattle.files.specs.SliceReads.Laws.{prefix-width, behind-prefix}
-use Rattle.files.specs.SliceReads.Descent.{kind-root, home-halved, root-tested, root-unlisted, reads-fault, reads-leaf, reads-one, reads-two, read-owed-sound, overlap-size}
+use Rattle.files.specs.SliceReads.Descent.{kind-root, type-kind-halved, root-tested, root-unlisted, reads-fault, reads-leaf, reads-one, reads-two, read-owed-sound, overlap-size}
 
 -- Leaves
 
@@ -189,16 +189,16 @@ module _ {types : List ℕ} {at : ℕ} {t : Ty} {slice : List ℕ} {from : ℕ} 
   begun : prefix-root (owed t c) (drop from slice) ≡ kind-root (getD slice from 0) t c (drop (from + 1) slice)
   begun = tested (begins .stands) slice from c (begins .more) (begins .listed) true (begins .fits)
 
-  home : kind t ≡ min ((getD slice from 0 + 1) / 2) 4
-  home =
+  type-kind-is : kind t ≡ min ((getD slice from 0 + 1) / 2) 4
+  type-kind-is =
       sym (kind-at (begins .stands))
-      ∙ eqb-true (getD types at 0) (home-of (getD slice from 0))
-      (and-left (eqb (getD types at 0) (home-of (getD slice from 0))) _ (sym (begins .fits)))
-      ∙ home-halved (getD slice from 0)
+      ∙ eqb-true (getD types at 0) (type-kind-of (getD slice from 0))
+      (and-left (eqb (getD types at 0) (type-kind-of (getD slice from 0))) _ (sym (begins .fits)))
+      ∙ type-kind-halved (getD slice from 0)
 
   pub leaf-walks : getD slice from 0 < 5 → Walks types at slice from c (leaf-walked (at + 1) (length slice) from (getD slice from 0))
   leaf-walks h =
-      let one : size t ≡ 1 = leaf-size t (omega (arith, home)) in
+      let one : size t ≡ 1 = leaf-size t (omega (arith, type-kind-is)) in
       let l : length slice ≡ from + 1 + length (drop (from + 1) slice) = simp length-drop (omega (arith, begins .more)) in
       walks (begins .stands) slice from c _
       (rw one (leaf-read t c (begins .stands .small) one (at + 1) (length slice) from (drop from slice) (drop (from + 1) slice) l
@@ -212,7 +212,7 @@ pub record Forks (types : List ℕ) (at : ℕ) (t : Ty) (slice : List ℕ) (from
 
 module _ {types : List ℕ} {at : ℕ} {t : Ty} {slice : List ℕ} {from : ℕ} {c d : Bool} (forks : Forks types at t slice from c d) where
   fork : 3 ≤ kind t
-  fork = omega (arith, home (forks .begins), forks .parts)
+  fork = omega (arith, type-kind-is (forks .begins), forks .parts)
 
   pub first-stands : TypeAt types (at + 1) (first-part t)
   first-stands = first-at (forks .begins .stands) fork

@@ -69,14 +69,14 @@ pub record PrefixEnds (bytes : List ℕ) (at end : ℕ) : Type 0 where
   pub each : (p : Prefix) → PrefixAt bytes at p → end ≡ at + width p
 
 -- The kind of type that each kind of slice belongs to, by its number; the kinds that keep a slice from being complete.
-abbrev pub home-of : ℕ → ℕ
-home-of k = getD (0 ∷ 1 ∷ 1 ∷ 2 ∷ 2 ∷ 3 ∷ 3 ∷ []) k 4
+abbrev pub type-kind-of : ℕ → ℕ
+type-kind-of k = getD (0 ∷ 1 ∷ 1 ∷ 2 ∷ 2 ∷ 3 ∷ 3 ∷ []) k 4
 
 abbrev pub is-unfinished : ℕ → Bool
 is-unfinished k = getD (false ∷ true ∷ false ∷ true ∷ false ∷ true ∷ []) k false
 
 abbrev pub belongs-at : ℕ → ℕ → Bool → Bool
-belongs-at type-kind k must-complete = eqb type-kind (home-of k) && not (must-complete && is-unfinished k)
+belongs-at type-kind k must-complete = eqb type-kind (type-kind-of k) && not (must-complete && is-unfinished k)
 
 -- How many bytes a leaf of a slice takes.
 abbrev pub leaf-width : ℕ → ℕ

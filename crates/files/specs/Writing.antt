@@ -1,10 +1,11 @@
 -- What the writers of Left and Join promise and ask: contracts inside the library, which no demand rests on.
 use mathlib.Core.Path.{_≡_}
-use mathlib.Core.List.{List, [], _∷_, _++_}
+use mathlib.Core.List.{List, [], _∷_}
 use Prim.Native.Nat.{ℕ, _+_, _≤_, _<_}
-use lib.ListN.{length, getD, drop}
+use lib.ListN.{length, getD}
 use Rattle.files.specs.declared.writing.Moved.{Moved}
 use Rattle.stream.specs.Types.{Ty, size}
+use Rattle.stream.specs.Buffers.{front}
 use Rattle.stream.specs.Prefixes.{Prefix, IsPrefix, derivative, concat}
 use Rattle.stream.specs.TypeFiles.{type-bytes, type-file-bytes}
 use Rattle.stream.specs.SliceFiles.{prefix-bytes, slice-file-bytes}
@@ -12,10 +13,6 @@ use Rattle.files.specs.TypeReads.{TypeAt}
 use Rattle.files.specs.SliceReads.{width, PrefixAt}
 pub mod Laws
 pub mod Standing
-
--- The bytes stand at the front of what was lent, and what is behind them stays.
-abbrev pub front : List ℕ → List ℕ → List ℕ
-front bytes lent = bytes ++ drop (length bytes) lent
 
 -- The prefix at `at` is to be copied onto `lent`, which has room for it.
 pub record PrefixDue (bytes : List ℕ) (at : ℕ) (lent : List ℕ) : Type 0 where

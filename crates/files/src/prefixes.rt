@@ -7,7 +7,7 @@ ghost use Prim.Native.Nat.{_+_, _≤_, _<_};
 ghost use lib.ListN.{length, getD};
 ghost use Rattle.stream.specs.Types.{type-limit};
 ghost use Rattle.files.specs.TypeReads.{SomeTypeAt};
-ghost use Rattle.files.specs.SliceReads.{home-of, is-unfinished, belongs-at, leaf-width, first-complete, SomePrefixAt, PrefixEnds, leaf-walked, first-known, SumsFit, beside-walked, Walks, ReadsSlice};
+ghost use Rattle.files.specs.SliceReads.{type-kind-of, is-unfinished, belongs-at, leaf-width, first-complete, SomePrefixAt, PrefixEnds, leaf-walked, first-known, SumsFit, beside-walked, Walks, ReadsSlice};
 
 // What is known of a prefix that was read against its type: whether it is complete, how many nodes the type has that it
 // leaves, and by how many bytes its join with a later prefix is shorter than the two.
@@ -34,8 +34,8 @@ pub enum SliceRead {
 }
 
 // The kind of type that a slice's kind belongs to.
-fn home_of(kind: u8) -> u8
-    ensures { λ r. ⌜ r ≡ home-of kind ⌝ }
+fn type_kind_of(kind: u8) -> u8
+    ensures { λ r. ⌜ r ≡ type-kind-of kind ⌝ }
 {
     match kind {
         0 => 0,
@@ -68,11 +68,11 @@ pub fn leaf_width(kind: u8) -> usize
     }
 }
 
-// Whether a slice's kind may stand where a prefix of a type of kind `home` is owed, `complete` if it has to be.
-fn belongs(home: u8, kind: u8, complete: bool) -> bool
-    ensures { λ r. ⌜ r ≡ belongs-at home kind complete ⌝ }
+// Whether a slice's kind may stand where a prefix of a type of kind `ty` is owed, `complete` if it has to be.
+fn belongs(ty: u8, kind: u8, complete: bool) -> bool
+    ensures { λ r. ⌜ r ≡ belongs-at ty kind complete ⌝ }
 {
-    if home != home_of(kind) {
+    if ty != type_kind_of(kind) {
         return false;
     }
     if complete {

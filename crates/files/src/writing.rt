@@ -10,7 +10,8 @@ ghost use Prim.Native.Nat.{_+_, _-_, _/_, _%_, _≤_};
 ghost use lib.ListN.{length};
 ghost use mir.Val.{Fits};
 ghost use mir.Syntax.{w64};
-ghost use Rattle.files.specs.Writing.{front, leaf-left, PrefixDue, PrefixWritten, DerivativeDue, DerivativeWritten, LeftFileDue, LeftFileWritten, LeafConcatDue, ConcatDue, ConcatWritten, JoinedFileDue, JoinedFileWritten};
+ghost use Rattle.stream.specs.Buffers.{front};
+ghost use Rattle.files.specs.Writing.{leaf-left, PrefixDue, PrefixWritten, DerivativeDue, DerivativeWritten, LeftFileDue, LeftFileWritten, LeafConcatDue, ConcatDue, ConcatWritten, JoinedFileDue, JoinedFileWritten};
 
 // How far a writer has come: where the two trees that it goes through end, and how many bytes it has written.
 pub struct Moved {

@@ -3,6 +3,7 @@ pub mod Types
 pub mod Levels
 pub mod Prefixes
 pub mod Reading
+pub mod Buffers
 pub mod TypeFiles
 pub mod SliceFiles
 pub mod Computing

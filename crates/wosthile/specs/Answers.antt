@@ -1,13 +1,14 @@
 -- What each operation answers, from the bytes handed in (document 01, Operations).
 use mathlib.Core.Bool.{Bool, true, false, _&&_, _||_}
 use mathlib.Core.Path.{_≡_}
-use mathlib.Core.List.{List, [], _∷_, _++_}
+use mathlib.Core.List.{List, [], _∷_}
 use Prim.Native.Nat.{ℕ}
 use lib.Dec.{leb, eqb}
-use lib.ListN.{length, drop}
+use lib.ListN.{length}
 use Rattle.stream.specs.declared.Fault.{Fault}
 use Rattle.stream.specs.declared.Fault.the-variants.{NoRoom}
 use Rattle.stream.specs.Faults.{number}
+use Rattle.stream.specs.Buffers.{front}
 use Rattle.stream.specs.Prefixes.{complete, derivative, concat}
 use Rattle.stream.specs.Reading.{Result, accepted, refused, go-on, require}
 use Rattle.stream.specs.TypeFiles.{type-file, type-file-bytes}
@@ -87,9 +88,6 @@ fed r =
     record { number = number-of r; output = value-of (λ w. length (w .output)) r; patch = value-of (λ w. length (w .patch)) r }
 
 -- "These stand at the front of the lent buffer, and the bytes behind them stay. Refused: .. every lent buffer unaltered."
-abbrev pub front : List ℕ → List ℕ → List ℕ
-front file lent = file ++ drop (length file) lent
-
 unfoldable pub after : {A : Type 0} → (A → List ℕ) → Result A → List ℕ → List ℕ
 after file (accepted a) lent = front (file a) lent
 after file (refused e) lent = lent

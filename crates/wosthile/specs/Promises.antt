@@ -10,7 +10,8 @@ use Rattle.stream.specs.Faults.{number}
 use Rattle.wosthile.specs.declared.Written.{Written}
 use Rattle.wosthile.specs.declared.Admitted.{Admitted}
 use Rattle.wosthile.specs.declared.Fed.{Fed}
-use Rattle.wosthile.specs.Answers.{check, admit, left, join, feed, with-room, fits-one, fits-both, Listed, written, admitted, fed, front, after}
+use Rattle.stream.specs.Buffers.{front}
+use Rattle.wosthile.specs.Answers.{check, admit, left, join, feed, with-room, fits-one, fits-both, Listed, written, admitted, fed, after}
 pub mod Laws
 
 -- What an operation with one lent buffer promises: `outcome` is what it has to write, 20 aside.

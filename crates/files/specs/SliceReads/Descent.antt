@@ -16,7 +16,7 @@ use Rattle.stream.specs.Reading.Walking.{MakesOne, leaf-makes, one-makes, two-m
 use Rattle.stream.specs.Reading.Parts.{Descends, InFront, one-in-front, two-in-front, tree-fault, tree-leaf, tree-one, tree-two}
 use Rattle.stream.specs.SliceFiles.{Owed, owed, belongs, prefix-kinds, prefix-root, prefix-bytes}
 use Rattle.stream.specs.SliceFiles.Laws.{nodes, Fills, root-sound, owed-size, owed-positive, root-lighter}
-use Rattle.files.specs.SliceReads.{overlap, home-of, belongs-at, read-owed}
+use Rattle.files.specs.SliceReads.{overlap, type-kind-of, belongs-at, read-owed}
 
 -- What holds of a leaf, of a root with one part or two and of a fault holds of every root.
 module _ (P : Reading (Root Owed Prefix) → Type 0) (faults : (e : Fault) → P (fault e)) (leaves : (p : Prefix) (s : List ℕ) → P (leaf p s))
@@ -74,8 +74,8 @@ abbrev pub kind-root : ℕ → Ty → Bool → List ℕ → Reading (Root Owed P
 kind-root k t c = getD (kind-roots t c) k (λ r. fault SliceUnlisted)
 
 -- Each kind of type has two kinds of slice, but the first and the last, which have one.
-pub home-halved : (k : ℕ) → home-of k ≡ min ((k + 1) / 2) 4
-home-halved = every (λ k h. h ≡ min ((k + 1) / 2) 4) 4 _ (refl & refl & refl & refl & refl & refl & refl & past (λ k h. omega arith))
+pub type-kind-halved : (k : ℕ) → type-kind-of k ≡ min ((k + 1) / 2) 4
+type-kind-halved = every (λ k h. h ≡ min ((k + 1) / 2) 4) 4 _ (refl & refl & refl & refl & refl & refl & refl & past (λ k h. omega arith))
 
 finished : (b c : Bool) → b ≡ b && not (c && false)
 finished true true = refl

@@ -6,7 +6,7 @@ use native.Mathlib.Omega.{arith}
 use lib.ListN.{length, drop, take, set, length-drop, length-append, drop-of-length-le}
 use lib.Seq.{drop-drop, take-all, take-at, drop-at, set-split}
 use Rattle.stream.specs.Reading.{section-bytes}
-use Rattle.files.specs.Writing.{front}
+use Rattle.stream.specs.Buffers.{front}
 
 -- The part of x from a on, as it is lent; and x after the part has come back as y.
 abbrev pub part : ℕ → List ℕ → List ℕ

@@ -22,7 +22,8 @@ use Rattle.files.specs.TypeReads.{type-read, TypeAt}
 use Rattle.files.specs.TypeReads.Laws.{type-before}
 use Rattle.files.specs.SliceReads.{width, overlap as overlap-of, known, slice-read, PrefixAt}
 use Rattle.files.specs.SliceReads.Laws.{prefix-width, overlap-within, concat-width}
-use Rattle.files.specs.Writing.{front, Stands, DerivativeDue, LeftFileDue, JoinedFileDue}
+use Rattle.stream.specs.Buffers.{front}
+use Rattle.files.specs.Writing.{Stands, DerivativeDue, LeftFileDue, JoinedFileDue}
 
 -- Behind the two bytes of the count stands the tree.
 
