@@ -10,10 +10,11 @@ ghost use Rattle.files.specs.TypeReads.{SomeTypeAt};
 ghost use Rattle.files.specs.SliceReads.{type-kind-of, is-unfinished, belongs-at, leaf-width, first-complete, SomePrefixAt, PrefixEnds, leaf-walked, first-known, SumsFit, beside-walked, Walks, ReadsSlice};
 
 // What is known of a prefix that was read against its type: whether it is complete, how many nodes the type has that it
-// leaves, and by how many bytes its join with a later prefix is shorter than the two.
+// leaves, and by how many bytes its join with a later prefix is shorter than the two. The lengths stand apart: side by side
+// they would be loaded as one just after they were stored one by one, which costs a tenth of a small call.
 pub struct Prefix {
-    pub complete: bool,
     pub left: usize,
+    pub complete: bool,
     pub overlap: usize,
 }
 

@@ -3,4 +3,3 @@ pub mod Promises
 pub mod Runs
 pub mod Cases
 pub mod Demands
-pub mod Opening

@@ -11,8 +11,6 @@ use stream::Fault;
 use stream::number_of;
 ghost use mathlib.Core.Path.{_≡_};
 ghost use Rattle.stream.specs.Faults.{number};
-ghost use Rattle.stream.specs.TypeFiles.{type-file};
-ghost use Rattle.wosthile.specs.Opening.{slice-of-type};
 ghost use Rattle.wosthile.specs.Promises.{AdmitPromise, LeftPromise, JoinPromise};
 
 pub mod exports;
@@ -59,46 +57,42 @@ fn turn_down(fault: Fault) -> Admitted
     }
 }
 
-// Reads a type file, and then the file of a slice of that type.
-fn read_slice(ty: &[u8], slice: &[u8]) -> SliceRead
-    ensures { λ r. ⌜ r ≡ slice-of-type (type-file (now (ty .entry))) (now (slice .entry)) ⌝ }
-{
-    match read_type_file(ty) {
-        TypeRead::Refused(fault) => SliceRead::Refused(fault),
-        TypeRead::Whole(place) => read_slice_file(ty, place.start, slice),
-    }
-}
-
 // Whether the slice is complete.
 pub fn admit(ty: &[u8], slice: &[u8]) -> Admitted
     ensures { λ r. ⌜ AdmitPromise (now (ty .entry)) (now (slice .entry)) r ⌝ }
 {
-    match read_slice(ty, slice) {
-        SliceRead::Refused(fault) => turn_down(fault),
-        SliceRead::Whole(prefix) => Admitted {
-            number: 0,
-            complete: prefix.complete as u32,
+    match read_type_file(ty) {
+        TypeRead::Refused(fault) => turn_down(fault),
+        TypeRead::Whole(place) => match read_slice_file(ty, place.start, slice) {
+            SliceRead::Refused(fault) => turn_down(fault),
+            SliceRead::Whole(prefix) => Admitted {
+                number: 0,
+                complete: prefix.complete as u32,
+            },
         },
     }
 }
 
-// The file of what the slice leaves of the type. In a file of one section the tree stands behind the two bytes of the count.
+// The file of what the slice leaves of the type. A slice file has its tree behind the two bytes of the count.
 pub fn left(ty: &[u8], slice: &[u8], out: &mut [u8]) -> Written
     ensures { λ r. ⌜ LeftPromise (now (ty .entry)) (now (slice .entry)) (now (out .entry)) r (now (out .exit)) ⌝ }
 {
-    match read_slice(ty, slice) {
-        SliceRead::Refused(fault) => refuse(fault),
-        SliceRead::Whole(prefix) => {
-            let length = 2 + prefix.left;
-            if out.len() < length {
-                return refuse(Fault::NoRoom);
+    match read_type_file(ty) {
+        TypeRead::Refused(fault) => refuse(fault),
+        TypeRead::Whole(place) => match read_slice_file(ty, place.start, slice) {
+            SliceRead::Refused(fault) => refuse(fault),
+            SliceRead::Whole(prefix) => {
+                let length = 2 + prefix.left;
+                if out.len() < length {
+                    return refuse(Fault::NoRoom);
+                }
+                write_left_file(ty, place.start, slice, 2, prefix.left, out);
+                Written {
+                    number: 0,
+                    written: length,
+                }
             }
-            write_left_file(ty, 2, slice, 2, prefix.left, out);
-            Written {
-                number: 0,
-                written: length,
-            }
-        }
+        },
     }
 }
 
@@ -106,26 +100,29 @@ pub fn left(ty: &[u8], slice: &[u8], out: &mut [u8]) -> Written
 pub fn join(ty: &[u8], first: &[u8], second: &[u8], out: &mut [u8]) -> Written
     ensures { λ r. ⌜ JoinPromise (now (ty .entry)) (now (first .entry)) (now (second .entry)) (now (out .entry)) r (now (out .exit)) ⌝ }
 {
-    match read_slice(ty, first) {
-        SliceRead::Refused(fault) => refuse(fault),
-        SliceRead::Whole(prefix) => {
-            let mut remainder = [0u8; 255];
-            write_derivative(ty, 2, first, 2, &mut remainder);
-            let types: &[u8] = &remainder;
-            match read_slice_file(types, 0, second) {
-                SliceRead::Refused(fault) => refuse(fault),
-                SliceRead::Whole(_) => {
-                    let joined = first.len() - 2 + (second.len() - 2) - prefix.overlap;
-                    if out.len() < 2 + joined {
-                        return refuse(Fault::NoRoom);
-                    }
-                    write_joined_file(first, 2, second, 2, joined, out);
-                    Written {
-                        number: 0,
-                        written: 2 + joined,
+    match read_type_file(ty) {
+        TypeRead::Refused(fault) => refuse(fault),
+        TypeRead::Whole(place) => match read_slice_file(ty, place.start, first) {
+            SliceRead::Refused(fault) => refuse(fault),
+            SliceRead::Whole(prefix) => {
+                let mut remainder = [0u8; 255];
+                write_derivative(ty, place.start, first, 2, &mut remainder);
+                let types: &[u8] = &remainder;
+                match read_slice_file(types, 0, second) {
+                    SliceRead::Refused(fault) => refuse(fault),
+                    SliceRead::Whole(_) => {
+                        let joined = first.len() - 2 + (second.len() - 2) - prefix.overlap;
+                        if out.len() < 2 + joined {
+                            return refuse(Fault::NoRoom);
+                        }
+                        write_joined_file(first, 2, second, 2, joined, out);
+                        Written {
+                            number: 0,
+                            written: 2 + joined,
+                        }
                     }
                 }
             }
-        }
+        },
     }
 }

@@ -31,7 +31,7 @@ behind-count : (body : List ℕ) → drop 2 (section-bytes body []) ≡ body
 unfolding section-bytes
 behind-count body = append-nil body
 
-pub type-stands : (file : List ℕ) (t : Ty) → Bytes file → type-file file ≡ accepted t → TypeAt file 2 t
+type-stands : (file : List ℕ) (t : Ty) → Bytes file → type-file file ≡ accepted t → TypeAt file 2 t
 unfolding type-file-bytes
 type-stands file t b e =
     let f = type-file-sound file t b e in
@@ -122,19 +122,19 @@ pub overlap-less : {t : Ty} {file : List ℕ} {about : Known} → AcceptedSlice 
 overlap-less p = omega (arith, p .fills, p .overlap, overlap-within (p .prefix))
 
 -- What the writers ask for, once the readers have accepted.
-module _ {types file : List ℕ} {about : Known} (t : AcceptedType types 2) (p : AcceptedSlice (t .type) file about) where
+module _ {types file : List ℕ} {start : ℕ} {about : Known} (t : AcceptedType types start) (p : AcceptedSlice (t .type) file about) where
   pub left-small : about .left ≤ 255
   unfolding type-limit
   left-small = omega (arith, p .left, derivative-size (p .is-prefix), t .stands .small)
 
-  abbrev both-stand : Stands types 2 file 2 (t .type) (p .prefix)
+  abbrev both-stand : Stands types start file 2 (t .type) (p .prefix)
   both-stand = record { type-at = t .stands; prefix-at = p .stands; is-prefix = p .is-prefix }
 
-  abbrev pub derivative-due : (lent : List ℕ) → 255 ≤ length lent → DerivativeDue types 2 file 2 lent
+  abbrev pub derivative-due : (lent : List ℕ) → 255 ≤ length lent → DerivativeDue types start file 2 lent
   derivative-due lent room =
       record { type = t .type; prefix = p .prefix; stands = both-stand; room = omega (arith, left-small, p .left) }
 
-  abbrev pub left-file-due : (lent : List ℕ) → 2 + about .left ≤ length lent → LeftFileDue types 2 file 2 (about .left) lent
+  abbrev pub left-file-due : (lent : List ℕ) → 2 + about .left ≤ length lent → LeftFileDue types start file 2 (about .left) lent
   left-file-due lent room = record { type = t .type; prefix = p .prefix; stands = both-stand; measured = p .left; room = room }
 
 module _ {t : Ty} {first second : List ℕ} {one other : Known}

@@ -1,4 +1,4 @@
--- `join` meets its contract: `read_slice` says what the type file and the first slice file are; what the first slice leaves
+-- `join` meets its contract: the readers say what the type file and the first slice file are; what the first slice leaves
 -- stands in the work array, and the second slice file is read against it; the length of the join is that of the two slices
 -- without their overlap, and the writer is called only with room for it.
 use borrow.Author.Needs.{needs}
@@ -15,15 +15,15 @@ use Rattle.stream.specs.declared.Fault.{Fault}
 use Rattle.stream.specs.Reading.{accepted, refused}
 use Rattle.stream.specs.SliceFiles.{slice-file, slice-file-bytes}
 use Rattle.files.specs.TypeReads.{TypeAt}
-use Rattle.files.specs.Writing.Standing.{AcceptedSlice, slice-accepted, slice-refused, slice-file-size, written-stands, derivative-due, slice-short, joined-width, overlap-less, joined-file-due}
+use Rattle.files.specs.Writing.Standing.{AcceptedType, AcceptedSlice, type-placed, type-refused, slice-accepted, slice-refused, slice-file-size, written-stands, derivative-due, slice-short, joined-width, overlap-less, joined-file-due}
 use Rattle.wosthile.specs.Answers.{join}
 use Rattle.wosthile.proofs.Keeping.{refusal-keeps, shortage-keeps, file-keeps}
-use Rattle.wosthile.proofs.Opening.{Opened, goes-on, opened, stops}
+use Rattle.wosthile.proofs.Opening.{no-type, no-slice, goes-on}
 use Rattle.wosthile.proofs.join.Statement.{statement}
 use Rattle.wosthile.proofs.join.Tie as tie
 
-read-slice-requires : tie.Need-read-slice-requires
-read-slice-requires c κs = search needs
+read-type-file-requires : tie.Need-read-type-file-requires
+read-type-file-requires c κs = search needs
 
 enum-known-fault : tie.Need-enum-known-fault
 enum-known-fault c = search needs
@@ -31,49 +31,41 @@ enum-known-fault c = search needs
 refuse-requires : tie.Need-refuse-requires
 refuse-requires c κs = search needs
 
-enum-known-prefix : tie.Need-enum-known-prefix
-enum-known-prefix c = search needs
+enum-known-place : tie.Need-enum-known-place
+enum-known-place c = search needs
 
--- What was read, and what the first slice leaves of the type.
-abbrev type-file-of : tie.After-read-slice → List ℕ
+-- The type file is accepted, and then the first slice file.
+abbrev type-file-of : tie.After-read-type-file → List ℕ
 type-file-of c = c .before .before .before .before .before .args .ty .now
 
-abbrev first-file-of : tie.After-read-slice → List ℕ
+abbrev first-file-of : tie.After-read-type-file → List ℕ
 first-file-of c = c .before .before .before .before .before .args .first .now
 
-abbrev second-file-of : tie.After-read-slice → List ℕ
+abbrev second-file-of : tie.After-read-type-file → List ℕ
 second-file-of c = c .before .before .before .before .before .args .second .now
 
-files : (c : tie.After-known-told2)
-    → Opened (type-file-of (c .before .before .before)) (first-file-of (c .before .before .before)) (c .before .prefix .given .0 .0)
-files c =
+type-of : (c : tie.After-known-told2) → AcceptedType (type-file-of (c .before .before .before)) (c .before .place .given .0 .0 .start)
+type-of c =
     let read = c .before .before .before in
-    opened (type-file-of read) (first-file-of read) (read .read-slice .ensures)
-    (λ i. omega (arith, read .before .before .before .before .shared-slice-known .given i))
-    (λ i. omega (arith, read .before .before .before .shared-slice-known2 .given i)) _ (c .before .prefix .given .1)
-
-abbrev remainder-of : tie.After-known-told2 → Ty
-remainder-of c = derivative (files c .type .type) (files c .slice .prefix)
-
-slice-aggregate-write-derivative : tie.Need-slice-aggregate-write-derivative
-slice-aggregate-write-derivative c = search needs
-
-write-derivative-requires : tie.Need-write-derivative-requires
-write-derivative-requires c κs = let o = files (c .before) in derivative-due (o .type) (o .slice) _ (omega arith)
-
--- It stands in the work array.
-remainder-at : (c : tie.After-remainder3)
-    → TypeAt (c .before .before .write-derivative .last .1 .1 .1 .1 .0) 0 (remainder-of (c .before .before .before .before))
-remainder-at c =
-    let o = files (c .before .before .before .before) in
-    written-stands _ _ (c .before .before .write-derivative .ensures .each (derivative-due (o .type) (o .slice) _ (omega arith)) .buffer)
-    (le-trans (derivative-size (o .slice .is-prefix)) (o .type .stands .small))
-
-slice-aggregate-types : tie.Need-slice-aggregate-types
-slice-aggregate-types c = search needs
+    type-placed (type-file-of read) (λ i. omega (arith, read .before .before .before .before .shared-slice-known .given i)) _
+    (sym (read .read-type-file .ensures) ∙ c .before .place .given .1)
 
 read-slice-file-requires : tie.Need-read-slice-file-requires
-read-slice-file-requires c κs = record { type = _; stands = remainder-at c }
+read-slice-file-requires c κs = record { type = type-of c .type; stands = type-of c .stands }
+
+abbrev type-read : tie.After-known-told4 → tie.After-known-told2
+type-read c = c .before .before .before .before
+
+first-slice : (c : tie.After-known-told4)
+    → AcceptedSlice (type-of (type-read c) .type) (first-file-of (type-read c .before .before .before)) (c .before .prefix .given .0 .0)
+first-slice c =
+    let slice = c .before .before .before in
+    let read = type-read c .before .before .before in
+    slice-accepted _ (first-file-of read) (λ i. omega (arith, read .before .before .before .shared-slice-known2 .given i)) _
+    (sym (slice .read-slice-file .ensures .each _ (type-of (type-read c) .stands)) ∙ c .before .prefix .given .1)
+
+abbrev remainder-of : tie.After-known-told4 → Ty
+remainder-of c = derivative (type-of (type-read c) .type) (first-slice c .prefix)
 
 enum-known-fault-2 : tie.Need-enum-known-fault-2
 enum-known-fault-2 c = search needs
@@ -81,138 +73,188 @@ enum-known-fault-2 c = search needs
 refuse-requires-2 : tie.Need-refuse-requires-2
 refuse-requires-2 c κs = search needs
 
+enum-known-prefix : tie.Need-enum-known-prefix
+enum-known-prefix c = search needs
+
+slice-aggregate-write-derivative : tie.Need-slice-aggregate-write-derivative
+slice-aggregate-write-derivative c = search needs
+
+write-derivative-requires : tie.Need-write-derivative-requires
+write-derivative-requires c κs =
+    let first = c .before in
+    derivative-due (type-of (type-read first)) (first-slice first) _ (omega arith)
+
+-- It stands in the work array.
+remainder-at : (c : tie.After-remainder3)
+    → TypeAt (c .before .before .write-derivative .last .1 .1 .1 .1 .0) 0 (remainder-of (c .before .before .before .before))
+remainder-at c =
+    let first = c .before .before .before .before in
+    let t = type-of (type-read first) in
+    let p = first-slice first in
+    written-stands _ _ (c .before .before .write-derivative .ensures .each (derivative-due t p _ (omega arith)) .buffer)
+    (le-trans (derivative-size (p .is-prefix)) (t .stands .small))
+
+slice-aggregate-types : tie.Need-slice-aggregate-types
+slice-aggregate-types c = search needs
+
+read-slice-file-requires-2 : tie.Need-read-slice-file-requires-2
+read-slice-file-requires-2 c κs = record { type = _; stands = remainder-at c }
+
+enum-known-fault-3 : tie.Need-enum-known-fault-3
+enum-known-fault-3 c = search needs
+
+refuse-requires-3 : tie.Need-refuse-requires-3
+refuse-requires-3 c κs = search needs
+
 enum-told : tie.Need-enum-told
 enum-told c = search needs
 
 -- The second slice file is accepted: what has to be written, and how long it is.
-abbrev first-read : tie.After-enum-told → tie.After-known-told2
+abbrev first-read : tie.After-enum-told → tie.After-known-told4
 first-read c = c .before .before .before .before .before .before .before
 
 second-slice : (c : tie.After-enum-told)
-    → AcceptedSlice (remainder-of (first-read c)) (second-file-of (first-read c .before .before .before)) (c .enum-told .given .0 .0)
+    → AcceptedSlice (remainder-of (first-read c)) (second-file-of (type-read (first-read c) .before .before .before)) (c .enum-told .given .0 .0)
 second-slice c =
     let slice = c .before .before in
-    let read = first-read c .before .before .before in
+    let read = type-read (first-read c) .before .before .before in
     slice-accepted _ (second-file-of read) (λ i. omega (arith, read .before .before .shared-slice-known3 .given i)) _
-    (sym (slice .read-slice-file .ensures .each _ (remainder-at (slice .before))) ∙ c .enum-told .given .1)
+    (sym (slice .read-slice-file2 .ensures .each _ (remainder-at (slice .before))) ∙ c .enum-told .given .1)
 
 abbrev joined-file : tie.After-enum-told → List ℕ
-joined-file c = slice-file-bytes (concat (files (first-read c) .slice .prefix) (second-slice c .prefix))
+joined-file c = slice-file-bytes (concat (first-slice (first-read c) .prefix) (second-slice c .prefix))
 
 join-is : (c : tie.After-enum-told)
-    → (let read = first-read c .before .before .before in join (type-file-of read) (first-file-of read) (second-file-of read)) ≡ accepted (joined-file c)
+    → (let read = type-read (first-read c) .before .before .before in join (type-file-of read) (first-file-of read) (second-file-of read)) ≡ accepted (joined-file c)
 unfolding join
-join-is c = goes-on _ (files (first-read c)) ∙ rw (second-slice c .is-accepted)
+join-is c = goes-on _ _ _ (type-of (type-read (first-read c))) (first-slice (first-read c)) ∙ rw (second-slice c .is-accepted)
 
 record Measured (c : tie.After-enum-told) : Type 0 where
-  first-short : length (first-file-of (first-read c .before .before .before)) ≤ 513
-  second-short : length (second-file-of (first-read c .before .before .before)) ≤ 513
-  overlapping : first-read c .before .prefix .given .0 .0 .overlap ≤ length (first-file-of (first-read c .before .before .before)) - 2
-  joined : 2 + (length (first-file-of (first-read c .before .before .before)) - 2 + (length (second-file-of (first-read c .before .before .before)) - 2)
+  first-short : length (first-file-of (type-read (first-read c) .before .before .before)) ≤ 513
+  second-short : length (second-file-of (type-read (first-read c) .before .before .before)) ≤ 513
+  overlapping : first-read c .before .prefix .given .0 .0 .overlap ≤ length (first-file-of (type-read (first-read c) .before .before .before)) - 2
+  joined : 2 + (length (first-file-of (type-read (first-read c) .before .before .before)) - 2 + (length (second-file-of (type-read (first-read c) .before .before .before)) - 2)
       - first-read c .before .prefix .given .0 .0 .overlap) ≡ length (joined-file c)
 
 measured : (c : tie.After-enum-told) → Measured c
 measured c =
-    let o = files (first-read c) in
+    let t = type-of (type-read (first-read c)) in
+    let p = first-slice (first-read c) in
     let q = second-slice c in
     record {
-      first-short = slice-short (o .type .stands .small) (o .slice);
+      first-short = slice-short (t .stands .small) p;
       second-short = slice-short (remainder-at (c .before .before .before) .small) q;
-      overlapping = overlap-less (o .slice);
-      joined = ap (λ n. 2 + n) (joined-width (o .slice) q) ∙ sym (slice-file-size _);
+      overlapping = overlap-less p;
+      joined = ap (λ n. 2 + n) (joined-width p q) ∙ sym (slice-file-size _);
     }
 
 sub-joined : tie.Need-sub-joined
-sub-joined c = omega (arith, files (first-read c) .slice .fills)
+sub-joined c = omega (arith, first-slice (first-read c) .fills)
 
 sub-joined-2 : tie.Need-sub-joined-2
 sub-joined-2 c = omega (arith, second-slice c .fills)
 
 add-joined : tie.Need-add-joined
-add-joined c = search needs
+add-joined c = let m = measured c in omega arith
 
 sub-joined-3 : tie.Need-sub-joined-3
 sub-joined-3 c = let m = measured (c .before) in omega arith
 
 add-if1 : tie.Need-add-if1
-add-if1 c = search needs
+add-if1 c = let m = measured (c .before) in omega arith
 
-refuse-requires-3 : tie.Need-refuse-requires-3
-refuse-requires-3 c κs = search needs
+refuse-requires-4 : tie.Need-refuse-requires-4
+refuse-requires-4 c κs = search needs
 
 returns : tie.Need-returns
 returns c =
     let read = c .before .before .before in
     let m = measured read in
-    rw (c .refuse3 .ensures) (shortage-keeps _ (joined-file read) (join-is read) (omega arith))
+    rw (c .refuse4 .ensures) (shortage-keeps _ (joined-file read) (join-is read) (omega arith))
 
 write-joined-file-requires : tie.Need-write-joined-file-requires
 write-joined-file-requires c κs =
     let read = c .before .before .before in
-    let o = files (first-read read) in
+    let t = type-of (type-read (first-read read)) in
+    let p = first-slice (first-read read) in
     let q = second-slice read in
     let m = measured read in
-    joined-file-due (o .slice) q (o .type .stands .small) _ _ (joined-width (o .slice) q) (omega arith)
+    joined-file-due p q (t .stands .small) _ _ (joined-width p q) (omega arith)
 
-add-t22 : tie.Need-add-t22
-add-t22 c = let m = measured (c .before .before .before .before .before .before) in omega arith
+add-t26 : tie.Need-add-t26
+add-t26 c = let m = measured (c .before .before .before .before .before .before) in omega arith
 
 returns-2 : tie.Need-returns-2
 unfolding join
 returns-2 c =
     let read = c .before .before .before .before in
-    rw (c .refuse .ensures) (refusal-keeps _ _ (stops _ _ (read .read-slice .ensures) _ _ (c .before .before .fault .given .1)))
-
-join-stops : (c : tie.After-known-told2) (e : Fault)
-    → (let read = c .before .before .before in
-    slice-file (remainder-of c) (second-file-of read) ≡ refused e → join (type-file-of read) (first-file-of read) (second-file-of read) ≡ refused e)
-unfolding join
-join-stops c e h = goes-on _ (files c) ∙ rw h
+    let e = type-refused _ _ (sym (read .read-type-file .ensures) ∙ c .before .before .fault .given .1) in
+    rw (c .refuse .ensures) (refusal-keeps _ _ (no-type _ _ _ e))
 
 returns-3 : tie.Need-returns-3
+unfolding join
 returns-3 c =
     let slice = c .before .before .before .before in
-    let e = slice-refused _ _ _ (sym (slice .read-slice-file .ensures .each _ (remainder-at (slice .before))) ∙ c .before .before .fault2 .given .1) in
-    rw (c .refuse2 .ensures) (refusal-keeps _ _ (join-stops (slice .before .before .before .before .before) _ e))
+    let t = type-of (slice .before) in
+    let e = slice-refused _ _ _ (sym (slice .read-slice-file .ensures .each _ (t .stands)) ∙ c .before .before .fault2 .given .1) in
+    rw (c .refuse2 .ensures) (refusal-keeps _ _ (no-slice _ _ _ t e))
+
+join-stops : (c : tie.After-known-told4) (e : Fault)
+    → (let read = type-read c .before .before .before in
+    slice-file (remainder-of c) (second-file-of read) ≡ refused e → join (type-file-of read) (first-file-of read) (second-file-of read) ≡ refused e)
+unfolding join
+join-stops c e h = goes-on _ _ _ (type-of (type-read c)) (first-slice c) ∙ rw h
+
+returns-4 : tie.Need-returns-4
+returns-4 c =
+    let slice = c .before .before .before .before in
+    let e = slice-refused _ _ _ (sym (slice .read-slice-file2 .ensures .each _ (remainder-at (slice .before))) ∙ c .before .before .fault3 .given .1) in
+    rw (c .refuse3 .ensures) (refusal-keeps _ _ (join-stops (slice .before .before .before .before .before) _ e))
 
 same-length : tie.Need-same-length
 same-length c = search needs
 
-returns-4 : tie.Need-returns-4
-returns-4 c =
+returns-5 : tie.Need-returns-5
+returns-5 c =
     let read = c .before .before .before .before .before .before in
-    let o = files (first-read read) in
+    let t = type-of (type-read (first-read read)) in
+    let p = first-slice (first-read read) in
     let q = second-slice read in
     let m = measured read in
     file-keeps _ (joined-file read) (join-is read) (omega arith) (m .joined)
     (c .before .before .write-joined-file .ensures .each
-    (joined-file-due (o .slice) q (o .type .stands .small) _ _ (joined-width (o .slice) q) (omega arith)))
+    (joined-file-due p q (t .stands .small) _ _ (joined-width p q) (omega arith)))
 
 pub join-spec : {M : Type 1} → statement M
 join-spec =
     tie.close
     (tie.spec
-    read-slice-requires
+    read-type-file-requires
     enum-known-fault
     refuse-requires
+    enum-known-place
+    read-slice-file-requires
+    enum-known-fault-2
+    refuse-requires-2
     enum-known-prefix
     slice-aggregate-write-derivative
     write-derivative-requires
     slice-aggregate-types
-    read-slice-file-requires
-    enum-known-fault-2
-    refuse-requires-2
+    read-slice-file-requires-2
+    enum-known-fault-3
+    refuse-requires-3
     enum-told
     sub-joined
     sub-joined-2
     add-joined
     sub-joined-3
     add-if1
-    refuse-requires-3
+    refuse-requires-4
     returns
     write-joined-file-requires
-    add-t22
+    add-t26
     returns-2
     returns-3
+    returns-4
     same-length
-    returns-4)
+    returns-5)

@@ -1,5 +1,5 @@
--- `left` meets its contract: `read_slice` says what the files are and how long the answer is, and the writer is called only
--- with room for it.
+-- `left` meets its contract: the readers say what the type file and the slice file are, and how long the answer is; the
+-- writer is called only with room for it.
 use borrow.Author.Needs.{needs}
 use mathlib.Core.Path.{_≡_, sym, ap, _∙_}
 use mathlib.Core.List.{List}
@@ -9,15 +9,15 @@ use lib.ListN.{length}
 use Rattle.stream.specs.Prefixes.{derivative}
 use Rattle.stream.specs.Reading.{accepted}
 use Rattle.stream.specs.TypeFiles.{type-file-bytes}
-use Rattle.files.specs.Writing.Standing.{type-file-size, left-small, left-file-due}
+use Rattle.files.specs.Writing.Standing.{AcceptedType, AcceptedSlice, type-placed, type-refused, slice-accepted, slice-refused, type-file-size, left-small, left-file-due}
 use Rattle.wosthile.specs.Answers.{left}
 use Rattle.wosthile.proofs.Keeping.{refusal-keeps, shortage-keeps, file-keeps}
-use Rattle.wosthile.proofs.Opening.{Opened, goes-on, opened, stops}
+use Rattle.wosthile.proofs.Opening.{no-type, no-slice, goes-on}
 use Rattle.wosthile.proofs.left.Statement.{statement}
 use Rattle.wosthile.proofs.left.Tie as tie
 
-read-slice-requires : tie.Need-read-slice-requires
-read-slice-requires c κs = search needs
+read-type-file-requires : tie.Need-read-type-file-requires
+read-type-file-requires c κs = search needs
 
 enum-known-fault : tie.Need-enum-known-fault
 enum-known-fault c = search needs
@@ -25,78 +25,114 @@ enum-known-fault c = search needs
 refuse-requires : tie.Need-refuse-requires
 refuse-requires c κs = search needs
 
-enum-known-prefix : tie.Need-enum-known-prefix
-enum-known-prefix c = search needs
+enum-known-place : tie.Need-enum-known-place
+enum-known-place c = search needs
 
--- What was read, what has to be written, and how long it is.
-abbrev type-file-of : tie.After-read-slice → List ℕ
+-- The type file is accepted, and then the slice file.
+abbrev type-file-of : tie.After-read-type-file → List ℕ
 type-file-of c = c .before .before .before .before .args .ty .now
 
-abbrev slice-file-of : tie.After-read-slice → List ℕ
+abbrev slice-file-of : tie.After-read-type-file → List ℕ
 slice-file-of c = c .before .before .before .before .args .slice .now
 
-files : (c : tie.After-known-told2)
-    → Opened (type-file-of (c .before .before .before)) (slice-file-of (c .before .before .before)) (c .before .prefix .given .0 .0)
-files c =
+type-of : (c : tie.After-known-told2) → AcceptedType (type-file-of (c .before .before .before)) (c .before .place .given .0 .0 .start)
+type-of c =
     let read = c .before .before .before in
-    opened (type-file-of read) (slice-file-of read) (read .read-slice .ensures)
-    (λ i. omega (arith, read .before .before .before .shared-slice-known .given i))
-    (λ i. omega (arith, read .before .before .shared-slice-known2 .given i)) _ (c .before .prefix .given .1)
+    type-placed (type-file-of read) (λ i. omega (arith, read .before .before .before .shared-slice-known .given i)) _
+    (sym (read .read-type-file .ensures) ∙ c .before .place .given .1)
 
-abbrev left-file : tie.After-known-told2 → List ℕ
-left-file c = type-file-bytes (derivative (files c .type .type) (files c .slice .prefix))
+read-slice-file-requires : tie.Need-read-slice-file-requires
+read-slice-file-requires c κs = record { type = type-of c .type; stands = type-of c .stands }
 
-left-length : (c : tie.After-known-told2) → length (left-file c) ≡ 2 + c .before .prefix .given .0 .0 .left
-left-length c = type-file-size _ ∙ ap (λ n. 2 + n) (sym (files c .slice .left))
+abbrev type-read : tie.After-known-told4 → tie.After-known-told2
+type-read c = c .before .before .before .before
 
-left-is : (c : tie.After-known-told2) → left (type-file-of (c .before .before .before)) (slice-file-of (c .before .before .before)) ≡ accepted (left-file c)
+slice-of : (c : tie.After-known-told4)
+    → AcceptedSlice (type-of (type-read c) .type) (slice-file-of (type-read c .before .before .before)) (c .before .prefix .given .0 .0)
+slice-of c =
+    let slice = c .before .before .before in
+    let read = type-read c .before .before .before in
+    slice-accepted _ (slice-file-of read) (λ i. omega (arith, read .before .before .shared-slice-known2 .given i)) _
+    (sym (slice .read-slice-file .ensures .each _ (type-of (type-read c) .stands)) ∙ c .before .prefix .given .1)
+
+-- What has to be written, and how long it is.
+abbrev left-file : tie.After-known-told4 → List ℕ
+left-file c = type-file-bytes (derivative (type-of (type-read c) .type) (slice-of c .prefix))
+
+left-length : (c : tie.After-known-told4) → length (left-file c) ≡ 2 + c .before .prefix .given .0 .0 .left
+left-length c = type-file-size _ ∙ ap (λ n. 2 + n) (sym (slice-of c .left))
+
+left-is : (c : tie.After-known-told4)
+    → (let read = type-read c .before .before .before in left (type-file-of read) (slice-file-of read)) ≡ accepted (left-file c)
 unfolding left
-left-is c = goes-on _ (files c)
+left-is c = goes-on _ _ _ (type-of (type-read c)) (slice-of c)
 
-add-length : tie.Need-add-length
-add-length c = omega (arith, left-small (files (c .before) .type) (files (c .before) .slice))
+enum-known-fault-2 : tie.Need-enum-known-fault-2
+enum-known-fault-2 c = search needs
 
 refuse-requires-2 : tie.Need-refuse-requires-2
 refuse-requires-2 c κs = search needs
 
+enum-known-prefix : tie.Need-enum-known-prefix
+enum-known-prefix c = search needs
+
+add-length : tie.Need-add-length
+add-length c = omega (arith, left-small (type-of (type-read (c .before))) (slice-of (c .before)))
+
+refuse-requires-3 : tie.Need-refuse-requires-3
+refuse-requires-3 c κs = search needs
+
 returns : tie.Need-returns
 returns c =
-    let read = c .before .before .before in
-    rw (c .refuse2 .ensures) (shortage-keeps _ (left-file read) (left-is read) (omega (arith, left-length read)))
+    let slice = c .before .before .before in
+    rw (c .refuse3 .ensures) (shortage-keeps _ (left-file slice) (left-is slice) (omega (arith, left-length slice)))
 
 write-left-file-requires : tie.Need-write-left-file-requires
 write-left-file-requires c κs =
-    let o = files (c .before .before .before) in
-    left-file-due (o .type) (o .slice) _ (omega arith)
+    let slice = c .before .before .before in
+    left-file-due (type-of (type-read slice)) (slice-of slice) _ (omega arith)
 
 returns-2 : tie.Need-returns-2
 unfolding left
 returns-2 c =
     let read = c .before .before .before .before in
-    rw (c .refuse .ensures) (refusal-keeps _ _ (stops _ _ (read .read-slice .ensures) _ _ (c .before .before .fault .given .1)))
+    let e = type-refused _ _ (sym (read .read-type-file .ensures) ∙ c .before .before .fault .given .1) in
+    rw (c .refuse .ensures) (refusal-keeps _ _ (no-type _ _ _ e))
+
+returns-3 : tie.Need-returns-3
+unfolding left
+returns-3 c =
+    let slice = c .before .before .before .before in
+    let t = type-of (slice .before) in
+    let e = slice-refused _ _ _ (sym (slice .read-slice-file .ensures .each _ (t .stands)) ∙ c .before .before .fault2 .given .1) in
+    rw (c .refuse2 .ensures) (refusal-keeps _ _ (no-slice _ _ _ t e))
 
 same-length : tie.Need-same-length
 same-length c = search needs
 
-returns-3 : tie.Need-returns-3
-returns-3 c =
-    let read = c .before .before .before .before .before .before in
-    let o = files read in
-    file-keeps _ (left-file read) (left-is read) (omega (arith, left-length read)) (omega (arith, left-length read))
-    (c .before .before .write-left-file .ensures .each (left-file-due (o .type) (o .slice) _ (omega arith)))
+returns-4 : tie.Need-returns-4
+returns-4 c =
+    let slice = c .before .before .before .before .before .before in
+    file-keeps _ (left-file slice) (left-is slice) (omega (arith, left-length slice)) (omega (arith, left-length slice))
+    (c .before .before .write-left-file .ensures .each (left-file-due (type-of (type-read slice)) (slice-of slice) _ (omega arith)))
 
 pub left-spec : {M : Type 1} → statement M
 left-spec =
     tie.close
     (tie.spec
-    read-slice-requires
+    read-type-file-requires
     enum-known-fault
     refuse-requires
+    enum-known-place
+    read-slice-file-requires
+    enum-known-fault-2
+    refuse-requires-2
     enum-known-prefix
     add-length
-    refuse-requires-2
+    refuse-requires-3
     returns
     write-left-file-requires
     returns-2
+    returns-3
     same-length
-    returns-3)
+    returns-4)
