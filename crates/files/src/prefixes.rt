@@ -18,13 +18,10 @@ pub struct Prefix {
     pub overlap: usize,
 }
 
-// A type and a prefix of it, walked through: where they end, and what is known of the prefix; or the first fault.
+// A type and a prefix of it, walked through: where the type ends, where the prefix ends, and what is known of the prefix; or
+// the first fault.
 pub enum Walk {
-    Past {
-        type_end: usize,
-        prefix_end: usize,
-        prefix: Prefix,
-    },
+    Past(usize, usize, Prefix),
     Failed(Fault),
 }
 
@@ -111,15 +108,15 @@ fn walk_leaf(end: usize, slice: &[u8], from: usize) -> Walk
     if slice.len() - from < width {
         return Walk::Failed(Fault::SliceCutShort);
     }
-    Walk::Past {
-        type_end: end,
-        prefix_end: from + width,
-        prefix: Prefix {
+    Walk::Past(
+        end,
+        from + width,
+        Prefix {
             complete: !is_unfinished(kind),
             left: 1,
             overlap: 1,
         },
-    }
+    )
 }
 
 // Of a sequence whose first part is still coming, from that part and from the size `second` of the second part's type.
@@ -142,19 +139,15 @@ fn beside(first: Prefix, second: Walk) -> Walk
 {
     match second {
         Walk::Failed(fault) => Walk::Failed(fault),
-        Walk::Past {
+        Walk::Past(type_end, prefix_end, prefix) => Walk::Past(
             type_end,
             prefix_end,
-            prefix,
-        } => Walk::Past {
-            type_end,
-            prefix_end,
-            prefix: Prefix {
+            Prefix {
                 complete: first.complete && prefix.complete,
                 left: 1 + first.left + prefix.left,
                 overlap: 1 + first.overlap + prefix.overlap,
             },
-        },
+        ),
     }
 }
 
@@ -192,18 +185,10 @@ fn walk_prefix(types: &[u8], at: usize, slice: &[u8], from: usize, complete: boo
     let complete_first = first_complete(kind, complete);
     match walk_prefix(types, at + 1, slice, from + 1, complete_first) {
         Walk::Failed(fault) => Walk::Failed(fault),
-        Walk::Past {
-            type_end,
-            prefix_end,
-            prefix,
-        } => match kind {
+        Walk::Past(type_end, prefix_end, prefix) => match kind {
             5 => {
                 let end = skip_type(types, type_end);
-                Walk::Past {
-                    type_end: end,
-                    prefix_end,
-                    prefix: in_first(prefix, end - type_end),
-                }
+                Walk::Past(end, prefix_end, in_first(prefix, end - type_end))
             }
             6 => walk_prefix(types, type_end, slice, prefix_end, complete),
             _ => beside(
@@ -230,11 +215,7 @@ pub fn read_slice_file(types: &[u8], at: usize, file: &[u8]) -> SliceRead
     let end = 2 + count;
     match walk_prefix(types, at, &file[2..end], 0, false) {
         Walk::Failed(fault) => SliceRead::Refused(fault),
-        Walk::Past {
-            type_end: _,
-            prefix_end,
-            prefix,
-        } => {
+        Walk::Past(_, prefix_end, prefix) => {
             if prefix_end < count {
                 SliceRead::Refused(Fault::SliceLeftOver)
             } else if end < length {

@@ -20,16 +20,24 @@ pub struct Moved {
     pub written: usize,
 }
 
+impl Moved {
+    fn new(first: usize, second: usize, written: usize) -> Moved
+        ensures { λ r. ⌜ r ≡ record { first = first; second = second; written = written } ⌝ }
+    {
+        Moved {
+            first,
+            second,
+            written,
+        }
+    }
+}
+
 // As far as `moved`, after bytes that were written before.
 fn onward(moved: Moved, before: usize) -> Moved
     requires { ⌜ Fits w64 (before + moved .written) ⌝ }
     ensures { λ r. ⌜ r ≡ record { first = moved .first; second = moved .second; written = before + moved .written } ⌝ }
 {
-    Moved {
-        first: moved.first,
-        second: moved.second,
-        written: before + moved.written,
-    }
+    Moved::new(moved.first, moved.second, before + moved.written)
 }
 
 // Writes a section's count.
@@ -88,11 +96,7 @@ pub fn write_derivative(types: &[u8], at: usize, slice: &[u8], from: usize, out:
             let end = skip_type(types, second);
             let written = 1 + part.written;
             copy(&types[second..end], &mut out[written..]);
-            Moved {
-                first: end,
-                second: part.second,
-                written: written + (end - second),
-            }
+            Moved::new(end, part.second, written + (end - second))
         }
         6 => {
             let second = skip_type(types, at + 1);
@@ -103,18 +107,12 @@ pub fn write_derivative(types: &[u8], at: usize, slice: &[u8], from: usize, out:
             out[0] = 4;
             let part = write_derivative(types, at + 1, slice, from + 1, &mut out[1..]);
             let written = 1 + part.written;
-            onward(
-                write_derivative(types, part.first, slice, part.second, &mut out[written..]),
-                written,
-            )
+            let rest = write_derivative(types, part.first, slice, part.second, &mut out[written..]);
+            onward(rest, written)
         }
         _ => {
             out[0] = leaf_left(kind);
-            Moved {
-                first: at + 1,
-                second: from + leaf_width(kind),
-                written: 1,
-            }
+            Moved::new(at + 1, from + leaf_width(kind), 1)
         }
     }
 }
@@ -142,18 +140,10 @@ fn write_leaf_concat(first: &[u8], at: usize, second: &[u8], from: usize, out: &
 {
     if is_unfinished(first[at]) {
         let written = copy_prefix(second, from, out);
-        Moved {
-            first: at + 1,
-            second: from + written,
-            written,
-        }
+        Moved::new(at + 1, from + written, written)
     } else {
         let written = copy_prefix(first, at, out);
-        Moved {
-            first: at + written,
-            second: from + 1,
-            written,
-        }
+        Moved::new(at + written, from + 1, written)
     }
 }
 
@@ -173,28 +163,20 @@ pub fn write_concat(first: &[u8], at: usize, second: &[u8], from: usize, out: &m
             // The second prefix brings the crossing: what it has of the second part follows as it is.
             let written = 1 + part.written;
             let copied = copy_prefix(second, part.second, &mut out[written..]);
-            Moved {
-                first: part.first,
-                second: part.second + copied,
-                written: written + copied,
-            }
+            Moved::new(part.first, part.second + copied, written + copied)
         }
         6 => {
             out[0] = 6;
             let written = 1 + copy_prefix(first, at + 1, &mut out[1..]);
-            onward(
-                write_concat(first, at + written, second, from, &mut out[written..]),
-                written,
-            )
+            let rest = write_concat(first, at + written, second, from, &mut out[written..]);
+            onward(rest, written)
         }
         7 => {
             out[0] = 7;
             let part = write_concat(first, at + 1, second, from + 1, &mut out[1..]);
             let written = 1 + part.written;
-            onward(
-                write_concat(first, part.first, second, part.second, &mut out[written..]),
-                written,
-            )
+            let rest = write_concat(first, part.first, second, part.second, &mut out[written..]);
+            onward(rest, written)
         }
         _ => write_leaf_concat(first, at, second, from, out),
     }

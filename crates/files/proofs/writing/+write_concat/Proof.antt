@@ -5,13 +5,14 @@ use borrow.Fn.Kinds.{In}
 use borrow.Fn.PlainCycle.{Measures, is, falls, and}
 use native.Mathlib.Omega.{arith}
 use mathlib.Core.Path.{refl}
-use Prim.Native.Nat.{ℕ, _+_, _-_, _<_}
+use Prim.Native.Nat.{ℕ, _+_, _-_, _≤_, _<_}
 use lib.ListN.{length, length-set}
 use Rattle.files.proofs.JoiningLeaf.{leaf-due}
 use Rattle.files.proofs.JoiningParts.{inside, settled, joins-first, started, coming-written, crossing-due, crossing-written, aside-due, aside-written, copies-first, copied, behind-due, behind-written}
 use Rattle.files.proofs.writing.write_concat.Reads as write-concat
 use Rattle.files.proofs.writing.write_concat.Kinds as write-concat-kinds
 use Rattle.files.proofs.writing.+write_concat.Lts-write_concat as write-concat-lts
+use Rattle.files.proofs.writing.Moved.new.Reads as new-reads
 use Rattle.files.proofs.writing.copy_prefix.Reads as copy-prefix-reads
 use Rattle.files.proofs.writing.onward.Reads as onward-reads
 use Rattle.files.proofs.writing.write_leaf_concat.Reads as write-leaf-concat-reads
@@ -38,6 +39,8 @@ calls t = (
   onward-reads.Learnt,
   copy-prefix-reads.Asked,
   copy-prefix-reads.Learnt,
+  new-reads.Asked,
+  new-reads.Learnt,
   write-leaf-concat-reads.Asked,
   write-leaf-concat-reads.Learnt,
 )
@@ -117,26 +120,40 @@ write-concat-copy-prefix-requires t c κs =
     let kind = c .before .before .before .before .before .before .before .before .match .keys1 in
     crossing-due _ _ _ _ _ _ (c .before .before .before .before .before .write-concat .ensures) refl kind (c .before .before .if1 .left) due
 
-write-concat-returns-2 : (t : ℕ) → write-concat-lts.Need-returns-2 (calls t) (write-concat-at t) write-concat.Post
-write-concat-returns-2 t c =
+-- With the second part copied, both sums are within the bytes that there are.
+crossing-sums : (t : ℕ) (c : write-concat-lts.After-struct-known2 (calls t) (write-concat-at t) write-concat.Post)
+    → (let entry = c .before .before .before .before .before .before .before .before .before .before .before .before .before .before .before .before .before in
+    let part = c .before .before .before .before .before .before .before .before .before .write-concat .result in
+    let copied = c .before .before .before .copy-prefix .result in
+    (part .second + copied ≤ length (entry .args .second .now)) × (1 + part .written + copied ≤ length (entry .args .out .now)))
+crossing-sums t c =
     let kind = c .before .before .before .before .before .before .before .before .before .before .before .before .match .keys1 in
     let test = c .before .before .before .before .before .before .if1 .left in
-    crossing-written _ _ _ _ _ _ (c .before .before .before .before .before .before .before .before .before .write-concat .ensures) refl kind test
-    (c .before .before .before .copy-prefix .ensures)
+    let s =
+    settled _ _ _ _ _ (c .before .before .before .before .before .before .before .before .before .before .before .before .before .before .before .before .before .pre .1)
+    (crossing-written _ _ _ _ _ _ (c .before .before .before .before .before .before .before .before .before .write-concat .ensures) refl kind test (c .before .before .before .copy-prefix .ensures)) in
+    (s .second-inside, s .within)
 
-write-concat-add-t21 : (t : ℕ) → write-concat-lts.Need-add-t21 (calls t) (write-concat-at t) write-concat.Post
-write-concat-add-t21 t c =
-    let due = c .before .before .before .before .before .before .before .before .before .before .before .before .before .before .before .before .before .pre .1 in
-    omega (arith, settled _ _ _ _ _ due (write-concat-returns-2 t c))
+write-concat-add-new : (t : ℕ) → write-concat-lts.Need-add-new (calls t) (write-concat-at t) write-concat.Post
+write-concat-add-new t c = omega (arith, crossing-sums t c .0)
 
-write-concat-add-t20 : (t : ℕ) → write-concat-lts.Need-add-t20 (calls t) (write-concat-at t) write-concat.Post
-write-concat-add-t20 t c =
-    let due = c .before .before .before .before .before .before .before .before .before .before .before .before .before .before .before .before .before .pre .1 in
-    omega (arith, settled _ _ _ _ _ due (write-concat-returns-2 t c))
+write-concat-add-new-2 : (t : ℕ) → write-concat-lts.Need-add-new-2 (calls t) (write-concat-at t) write-concat.Post
+write-concat-add-new-2 t c = omega (arith, crossing-sums t c .1)
+
+write-concat-new-requires : (t : ℕ) → write-concat-lts.Need-new-requires (calls t) (write-concat-at t) write-concat.Post
+write-concat-new-requires t c κs = search needs
+
+write-concat-returns-2 : (t : ℕ) → write-concat-lts.Need-returns-2 (calls t) (write-concat-at t) write-concat.Post
+write-concat-returns-2 t c =
+    let kind = c .before .before .before .before .before .before .before .before .before .before .before .before .before .match .keys1 in
+    let test = c .before .before .before .before .before .before .before .if1 .left in
+    rw (c .new .ensures)
+    (crossing-written _ _ _ _ _ _ (c .before .before .before .before .before .before .before .before .before .before .write-concat .ensures) refl kind test
+    (c .before .before .before .before .copy-prefix .ensures))
 
 write-concat-same-length-2 : (t : ℕ) → write-concat-lts.Need-same-length-2 (calls t) (write-concat-at t) write-concat.Post
 write-concat-same-length-2 t c =
-    let due = c .before .before .before .before .before .before .before .before .before .before .before .before .before .before .before .before .before .pre .1 in
+    let due = c .before .before .before .before .before .before .before .before .before .before .before .before .before .before .before .before .before .before .pre .1 in
     settled _ _ _ _ _ due (write-concat-returns-2 t c) .kept
 
 -- A first prefix that has crossed.
@@ -323,8 +340,9 @@ pub +write-concat-spec : {M : Type 1} → statement M
     (write-concat-part-copy-prefix-start t)
     (write-concat-part-copy-prefix-end t)
     (write-concat-copy-prefix-requires t)
-    (write-concat-add-t21 t)
-    (write-concat-add-t20 t)
+    (write-concat-add-new t)
+    (write-concat-add-new-2 t)
+    (write-concat-new-requires t)
     (write-concat-slice-write-out-2 t)
     (write-concat-add-copy-prefix t)
     (write-concat-sub-copy-prefix-2 t)

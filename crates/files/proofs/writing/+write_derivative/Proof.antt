@@ -14,6 +14,7 @@ use Rattle.files.proofs.writing.+write_derivative.Lts-write_derivative 
 use Rattle.files.proofs.prefixes.leaf_width.Reads as leaf-width-reads
 use Rattle.files.proofs.prefixes.skip_prefix.Reads as skip-prefix-reads
 use Rattle.files.proofs.types.skip_type.Reads as skip-type-reads
+use Rattle.files.proofs.writing.Moved.new.Reads as new-reads
 use Rattle.files.proofs.writing.copy.Reads as copy-reads
 use Rattle.files.proofs.writing.leaf_left.Reads as leaf-left-reads
 use Rattle.files.proofs.writing.onward.Reads as onward-reads
@@ -39,6 +40,8 @@ module _ (t : ℕ) where
     skip-type-reads.Learnt,
     copy-reads.Asked,
     copy-reads.Learnt,
+    new-reads.Asked,
+    new-reads.Learnt,
     skip-prefix-reads.Asked,
     skip-prefix-reads.Learnt,
     onward-reads.Asked,
@@ -165,11 +168,14 @@ module _ (t : ℕ) where
       copy-room _ _ _ _ _ (first .before .before .match .keys1) (first .write-derivative .ensures) (end .skip-type .ensures)
       (entry-coming first .pre .1)
 
-  sub-t20 : lts.Need-sub-t20 calls here write-derivative.Post
-  sub-t20 c = ended (c .before .before .before .before .before .before) .forward
+  sub-new : lts.Need-sub-new calls here write-derivative.Post
+  sub-new c = ended (c .before .before .before .before .before .before) .forward
 
-  add-t22 : lts.Need-add-t22 calls here write-derivative.Post
-  add-t22 c = omega (arith, ended (c .before .before .before .before .before .before))
+  add-new : lts.Need-add-new calls here write-derivative.Post
+  add-new c = omega (arith, ended (c .before .before .before .before .before .before))
+
+  new-requires : lts.Need-new-requires calls here write-derivative.Post
+  new-requires c κs = search needs
 
   add-skip-type : lts.Need-add-skip-type calls here write-derivative.Post
   add-skip-type c = omega (arith, entered (c .before .before .before .before .before))
@@ -245,14 +251,14 @@ module _ (t : ℕ) where
   slice-write-out-3 : lts.Need-slice-write-out-3 calls here write-derivative.Post
   slice-write-out-3 c = entered (c .before .before .before .before .before .before) .some-room
 
-  add-t48 : lts.Need-add-t48 calls here write-derivative.Post
-  add-t48 c = omega (arith, entered (c .before .before .before .before .before .before))
+  add-new-2 : lts.Need-add-new-2 calls here write-derivative.Post
+  add-new-2 c = omega (arith, entered (c .before .before .before .before .before .before))
 
   leaf-width-requires : lts.Need-leaf-width-requires calls here write-derivative.Post
   leaf-width-requires c κs = search needs
 
-  add-t50 : lts.Need-add-t50 calls here write-derivative.Post
-  add-t50 c =
+  add-new-3 : lts.Need-add-new-3 calls here write-derivative.Post
+  add-new-3 c =
       let none = c .before .before .match .rest in
       omega (
         arith,
@@ -260,16 +266,20 @@ module _ (t : ℕ) where
             (c .before .before .before .before .before .before .before .pre .1),
       )
 
+  new-requires-2 : lts.Need-new-requires-2 calls here write-derivative.Post
+  new-requires-2 c κs = search needs
+
   returns : lts.Need-returns calls here write-derivative.Post
   returns c =
-      let end = c .before .before .before .before .before .before in
+      let end = c .before .before .before .before .before .before .before in
       let first = coming-ended end in
-      coming-written _ _ _ _ _ (first .before .before .match .keys1) (first .write-derivative .ensures) (end .skip-type .ensures)
-      (c .before .before .copy .ensures)
+      rw (c .new .ensures)
+      (coming-written _ _ _ _ _ (first .before .before .match .keys1) (first .write-derivative .ensures) (end .skip-type .ensures)
+      (c .before .before .before .copy .ensures))
 
   same-length : lts.Need-same-length calls here write-derivative.Post
   same-length c =
-      let end = c .before .before .before .before .before .before in
+      let end = c .before .before .before .before .before .before .before in
       length-stays _ _ _ _ _ (entry-coming (coming-ended end) .pre .1) (returns c)
 
   returns-2 : lts.Need-returns-2 calls here write-derivative.Post
@@ -296,11 +306,12 @@ module _ (t : ℕ) where
 
   returns-4 : lts.Need-returns-4 calls here write-derivative.Post
   returns-4 c =
-      let none = c .before .before .match .rest in
-      leaf-written _ _ _ _ _ (none .0 .0 .1) (none .0 .1) (none .1) (c .before .leaf-left .ensures) (c .leaf-width .ensures)
+      let none = c .before .before .before .match .rest in
+      rw (c .new2 .ensures)
+      (leaf-written _ _ _ _ _ (none .0 .0 .1) (none .0 .1) (none .1) (c .before .before .leaf-left .ensures) (c .before .leaf-width .ensures))
 
   same-length-4 : lts.Need-same-length-4 calls here write-derivative.Post
-  same-length-4 c = length-stays _ _ _ _ _ (c .before .before .before .before .before .before .before .pre .1) (returns-4 c)
+  same-length-4 c = length-stays _ _ _ _ _ (c .before .before .before .before .before .before .before .before .pre .1) (returns-4 c)
 
 pub +write-derivative-spec : {M : Type 1} → statement M
 +write-derivative-spec =
@@ -327,8 +338,9 @@ pub +write-derivative-spec : {M : Type 1} → statement M
     (part-copy-start-2 t)
     (part-copy-end-2 t)
     (copy-requires t)
-    (sub-t20 t)
-    (add-t22 t)
+    (sub-new t)
+    (add-new t)
+    (new-requires t)
     (add-skip-type t)
     (skip-type-requires-2 t)
     (add-skip-prefix t)
@@ -349,9 +361,10 @@ pub +write-derivative-spec : {M : Type 1} → statement M
     (onward-requires t)
     (leaf-left-requires t)
     (slice-write-out-3 t)
-    (add-t48 t)
+    (add-new-2 t)
     (leaf-width-requires t)
-    (add-t50 t)
+    (add-new-3 t)
+    (new-requires-2 t)
     (same-length t)
     (returns t)
     (same-length-2 t)

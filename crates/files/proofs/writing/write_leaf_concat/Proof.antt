@@ -23,21 +23,29 @@ copy-prefix-requires c κs =
     let pre = asked .before .before .before .before .before .pre in
     awaited-due (pre .leaf) (sym (asked .is-unfinished .ensures) ∙ c .before .if1 .taken) (pre .due)
 
-returns : tie.Need-returns
-returns c =
-    let asked = c .before .before .before .before .before in
-    let pre = asked .before .before .before .before .before .pre in
-    awaited-written (pre .leaf) (sym (asked .is-unfinished .ensures) ∙ c .before .before .before .before .if1 .taken) (c .before .before .copy-prefix .ensures)
-
-add-t14 : tie.Need-add-t14
-add-t14 c =
+add-new : tie.Need-add-new
+add-new c =
     let due = c .before .before .before .before .before .before .before .before .before .before .pre .due in
     omega (arith, prefix-inside (due .follows .first-at), width-positive (due .one))
 
-add-t15 : tie.Need-add-t15
-add-t15 c =
-    let due = c .before .before .before .before .before .before .before .before .before .before .pre .due in
-    omega (arith, prefix-inside (due .follows .second-at), returns c .each due .second)
+add-new-2 : tie.Need-add-new-2
+add-new-2 c =
+    let asked = c .before .before .before .before .before in
+    let pre = asked .before .before .before .before .before .pre in
+    let written =
+    awaited-written (pre .leaf) (sym (asked .is-unfinished .ensures) ∙ c .before .before .before .before .if1 .taken) (c .before .before .copy-prefix .ensures) in
+    omega (arith, prefix-inside (pre .due .follows .second-at), written .each (pre .due) .second)
+
+new-requires : tie.Need-new-requires
+new-requires c κs = search needs
+
+returns : tie.Need-returns
+returns c =
+    let asked = c .before .before .before .before .before .before in
+    let pre = asked .before .before .before .before .before .pre in
+    rw (c .new .ensures)
+    (awaited-written (pre .leaf) (sym (asked .is-unfinished .ensures) ∙ c .before .before .before .before .before .if1 .taken)
+    (c .before .before .before .copy-prefix .ensures))
 
 copy-prefix-requires-2 : tie.Need-copy-prefix-requires-2
 copy-prefix-requires-2 c κs =
@@ -45,21 +53,29 @@ copy-prefix-requires-2 c κs =
     let pre = asked .before .before .before .before .before .pre in
     come-due (pre .leaf) (sym (asked .is-unfinished .ensures) ∙ c .before .if1 .left) (pre .due)
 
-returns-2 : tie.Need-returns-2
-returns-2 c =
+add-new-3 : tie.Need-add-new-3
+add-new-3 c =
     let asked = c .before .before .before .before .before in
     let pre = asked .before .before .before .before .before .pre in
-    come-written (pre .leaf) (sym (asked .is-unfinished .ensures) ∙ c .before .before .before .before .if1 .left) (c .before .before .copy-prefix2 .ensures)
+    let written =
+    come-written (pre .leaf) (sym (asked .is-unfinished .ensures) ∙ c .before .before .before .before .if1 .left) (c .before .before .copy-prefix2 .ensures) in
+    omega (arith, prefix-inside (pre .due .follows .first-at), written .each (pre .due) .first)
 
-add-t18 : tie.Need-add-t18
-add-t18 c =
-    let due = c .before .before .before .before .before .before .before .before .before .before .pre .due in
-    omega (arith, prefix-inside (due .follows .first-at), returns-2 c .each due .first)
-
-add-t19 : tie.Need-add-t19
-add-t19 c =
+add-new-4 : tie.Need-add-new-4
+add-new-4 c =
     let due = c .before .before .before .before .before .before .before .before .before .before .pre .due in
     omega (arith, prefix-inside (due .follows .second-at), width-positive (due .other))
+
+new-requires-2 : tie.Need-new-requires-2
+new-requires-2 c κs = search needs
+
+returns-2 : tie.Need-returns-2
+returns-2 c =
+    let asked = c .before .before .before .before .before .before in
+    let pre = asked .before .before .before .before .before .pre in
+    rw (c .new2 .ensures)
+    (come-written (pre .leaf) (sym (asked .is-unfinished .ensures) ∙ c .before .before .before .before .before .if1 .left)
+    (c .before .before .before .copy-prefix2 .ensures))
 
 same-length : tie.Need-same-length
 same-length c = search needs
@@ -74,11 +90,13 @@ write-leaf-concat-spec =
     shared-slice-read-is-unfinished
     is-unfinished-requires
     copy-prefix-requires
-    add-t14
-    add-t15
+    add-new
+    add-new-2
+    new-requires
     copy-prefix-requires-2
-    add-t18
-    add-t19
+    add-new-3
+    add-new-4
+    new-requires-2
     same-length
     returns
     same-length-2
