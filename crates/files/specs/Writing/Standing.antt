@@ -7,8 +7,10 @@ use native.Mathlib.Omega.{arith}
 use lib.ListN.{length, drop}
 use Rattle.stream.specs.declared.Fault.{Fault}
 use Rattle.files.specs.declared.types.Ty.{Ty as Place}
+use Rattle.files.specs.declared.types.TypeRead.{TypeRead}
 use Rattle.files.specs.declared.types.TypeRead.the-variants.{Whole as WholeType, Refused as RefusedType}
 use Rattle.files.specs.declared.prefixes.Prefix.{Prefix as Known}
+use Rattle.files.specs.declared.prefixes.SliceRead.{SliceRead}
 use Rattle.files.specs.declared.prefixes.SliceRead.the-variants.{Whole, Refused}
 use Rattle.stream.specs.Types.{Ty, size, type-limit}
 use Rattle.stream.specs.Prefixes.{Prefix, IsPrefix, complete, derivative, concat}
@@ -20,7 +22,7 @@ use Rattle.stream.specs.SliceFiles.{prefix-bytes, slice-file-bytes, slice-file}
 use Rattle.stream.specs.SliceFiles.Laws.{prefix-length, slice-file-sound}
 use Rattle.files.specs.TypeReads.{type-read, TypeAt}
 use Rattle.files.specs.TypeReads.Laws.{type-before}
-use Rattle.files.specs.SliceReads.{width, overlap as overlap-of, known, slice-read, PrefixAt}
+use Rattle.files.specs.SliceReads.{width, overlap as overlap-of, known, slice-read, ReadsSlice, PrefixAt}
 use Rattle.files.specs.SliceReads.Laws.{prefix-width, overlap-within, concat-width}
 use Rattle.stream.specs.Buffers.{front}
 use Rattle.files.specs.Writing.{Stands, DerivativeDue, LeftFileDue, JoinedFileDue}
@@ -43,20 +45,24 @@ pub record AcceptedType (file : List ℕ) (start : ℕ) : Type 0 where
   pub is-accepted : type-file file ≡ accepted type
   pub stands : TypeAt file start type
 
-pub type-placed : (file : List ℕ) → Bytes file → (place : Place) → type-read (type-file file) ≡ WholeType place → AcceptedType file (place .start)
-unfolding type-read
-type-placed file bytes place = go (type-file file) refl
-  where
-    go : (g : Result Ty) → type-file file ≡ g → type-read g ≡ WholeType place → AcceptedType file (place .start)
-    go (accepted t) h w =
-        let start : place .start ≡ 2 = cc in
-        record { type = t; is-accepted = h; stands = rw start (type-stands file t bytes h) }
-    go (refused x) h w = let z : _≡_ {A = ℕ} 0 1 = cc in absurd (omega arith)
+module _ (file : List ℕ) {answer : TypeRead} (told : answer ≡ type-read (type-file file)) where
+  pub type-accepted : Bytes file → (place : Place) → answer ≡ WholeType place → AcceptedType file (place .start)
+  unfolding type-read
+  type-accepted bytes place e = go (type-file file) refl (sym told ∙ e)
+    where
+      go : (g : Result Ty) → type-file file ≡ g → type-read g ≡ WholeType place → AcceptedType file (place .start)
+      go (accepted t) h w =
+          let start : place .start ≡ 2 = cc in
+          record { type = t; is-accepted = h; stands = rw start (type-stands file t bytes h) }
+      go (refused x) h w = let z : _≡_ {A = ℕ} 0 1 = cc in absurd (omega arith)
 
-pub type-refused : (g : Result Ty) (e : Fault) → type-read g ≡ RefusedType e → g ≡ refused e
-unfolding type-read
-type-refused (accepted t) e w = let z : _≡_ {A = ℕ} 0 1 = cc in absurd (omega arith)
-type-refused (refused x) e w = let z : x ≡ e = cc in ap refused z
+  pub type-refused : (e : Fault) → answer ≡ RefusedType e → type-file file ≡ refused e
+  unfolding type-read
+  type-refused e h = go (type-file file) (sym told ∙ h)
+    where
+      go : (g : Result Ty) → type-read g ≡ RefusedType e → g ≡ refused e
+      go (accepted t) w = let z : _≡_ {A = ℕ} 0 1 = cc in absurd (omega arith)
+      go (refused x) w = let z : x ≡ e = cc in ap refused z
 
 -- How long the files are that Left and Join write.
 
@@ -95,18 +101,23 @@ slice-stands t file about p bytes e k =
       fills = ap length (sym (f .0)) ∙ slice-file-size p;
     }
 
-pub slice-accepted : (t : Ty) (file : List ℕ) → Bytes file → (about : Known) → slice-read t (slice-file t file) ≡ Whole about → AcceptedSlice t file about
-unfolding slice-read
-slice-accepted t file bytes about = go (slice-file t file) refl
-  where
-    go : (g : Result Prefix) → slice-file t file ≡ g → slice-read t g ≡ Whole about → AcceptedSlice t file about
-    go (accepted p) h w = let k : known t p ≡ about = cc in slice-stands t file about p bytes h (sym k)
-    go (refused x) h w = let z : _≡_ {A = ℕ} 0 1 = cc in absurd (omega arith)
+module _ {types : List ℕ} {at : ℕ} {file : List ℕ} {answer : SliceRead} (told : ReadsSlice types at file answer)
+    {t : Ty} (stands : TypeAt types at t) where
+  pub slice-accepted : Bytes file → (about : Known) → answer ≡ Whole about → AcceptedSlice t file about
+  unfolding slice-read
+  slice-accepted bytes about e = go (slice-file t file) refl (sym (told .each t stands) ∙ e)
+    where
+      go : (g : Result Prefix) → slice-file t file ≡ g → slice-read t g ≡ Whole about → AcceptedSlice t file about
+      go (accepted p) h w = let k : known t p ≡ about = cc in slice-stands t file about p bytes h (sym k)
+      go (refused x) h w = let z : _≡_ {A = ℕ} 0 1 = cc in absurd (omega arith)
 
-pub slice-refused : (t : Ty) (g : Result Prefix) (e : Fault) → slice-read t g ≡ Refused e → g ≡ refused e
-unfolding slice-read
-slice-refused t (accepted p) e w = let z : _≡_ {A = ℕ} 0 1 = cc in absurd (omega arith)
-slice-refused t (refused x) e w = let z : x ≡ e = cc in ap refused z
+  pub slice-refused : (e : Fault) → answer ≡ Refused e → slice-file t file ≡ refused e
+  unfolding slice-read
+  slice-refused e h = go (slice-file t file) (sym (told .each t stands) ∙ h)
+    where
+      go : (g : Result Prefix) → slice-read t g ≡ Refused e → g ≡ refused e
+      go (accepted p) w = let z : _≡_ {A = ℕ} 0 1 = cc in absurd (omega arith)
+      go (refused x) w = let z : x ≡ e = cc in ap refused z
 
 -- A type written at the front of some bytes stands there.
 pub written-stands : (t : Ty) (lent : List ℕ) {bytes : List ℕ} → bytes ≡ front (type-bytes t []) lent → size t ≤ type-limit → TypeAt bytes 0 t

@@ -1,10 +1,9 @@
 -- `admit` meets its contract: the readers say what the type file and the slice file are, the first before the second.
 use borrow.Author.Needs.{needs}
-use mathlib.Core.Path.{sym, _∙_}
 use mathlib.Core.List.{List}
 use Prim.Native.Nat.{ℕ}
 use native.Mathlib.Omega.{arith}
-use Rattle.files.specs.Writing.Standing.{AcceptedType, type-placed, type-refused, slice-accepted, slice-refused}
+use Rattle.files.specs.Writing.Standing.{AcceptedType, type-accepted, type-refused, slice-accepted, slice-refused}
 use Rattle.wosthile.specs.Answers.{admit}
 use Rattle.wosthile.proofs.Keeping.{turned-down, taken-in}
 use Rattle.wosthile.proofs.Opening.{no-type, no-slice, goes-on}
@@ -29,8 +28,7 @@ type-file-of c = c .before .before .before .args .ty .now
 type-of : (c : tie.After-known-told2) → AcceptedType (type-file-of (c .before .before .before)) (c .before .place .given .0 .0 .start)
 type-of c =
     let read = c .before .before .before in
-    type-placed (type-file-of read) (λ i. omega (arith, read .before .before .shared-slice-known .given i)) _
-    (sym (read .read-type-file .ensures) ∙ c .before .place .given .1)
+    type-accepted (type-file-of read) (read .read-type-file .ensures) (λ i. omega (arith, read .before .before .shared-slice-known .given i)) _ (c .before .place .given .1)
 
 read-slice-file-requires : tie.Need-read-slice-file-requires
 read-slice-file-requires c κs = record { type = type-of c .type; stands = type-of c .stands }
@@ -51,7 +49,7 @@ returns : tie.Need-returns
 unfolding admit
 returns c =
     let read = c .before .before .before .before in
-    let e = type-refused _ _ (sym (read .read-type-file .ensures) ∙ c .before .before .fault .given .1) in
+    let e = type-refused (type-file-of read) (read .read-type-file .ensures) _ (c .before .before .fault .given .1) in
     rw (c .turn-down .ensures) (turned-down _ (no-type _ _ _ e))
 
 returns-2 : tie.Need-returns-2
@@ -59,7 +57,7 @@ unfolding admit
 returns-2 c =
     let slice = c .before .before .before .before in
     let t = type-of (slice .before) in
-    let e = slice-refused _ _ _ (sym (slice .read-slice-file .ensures .each _ (t .stands)) ∙ c .before .before .fault2 .given .1) in
+    let e = slice-refused (slice .read-slice-file .ensures) (t .stands) _ (c .before .before .fault2 .given .1) in
     rw (c .turn-down2 .ensures) (turned-down _ (no-slice _ _ _ t e))
 
 returns-3 : tie.Need-returns-3
@@ -69,8 +67,8 @@ returns-3 c =
     let read = slice .before .before .before .before in
     let t = type-of (slice .before) in
     let p =
-    slice-accepted _ (read .before .before .before .args .slice .now) (λ i. omega (arith, read .before .shared-slice-known2 .given i)) _
-    (sym (slice .read-slice-file .ensures .each _ (t .stands)) ∙ c .before .before .prefix .given .1) in
+    slice-accepted (slice .read-slice-file .ensures) (t .stands) (λ i. omega (arith, read .before .shared-slice-known2 .given i)) _
+    (c .before .before .prefix .given .1) in
     taken-in _ (goes-on _ _ _ t p) (p .completeness)
 
 pub admit-spec : {M : Type 1} → statement M

@@ -15,7 +15,7 @@ use Rattle.stream.specs.declared.Fault.{Fault}
 use Rattle.stream.specs.Reading.{accepted, refused}
 use Rattle.stream.specs.SliceFiles.{slice-file, slice-file-bytes}
 use Rattle.files.specs.TypeReads.{TypeAt}
-use Rattle.files.specs.Writing.Standing.{AcceptedType, AcceptedSlice, type-placed, type-refused, slice-accepted, slice-refused, slice-file-size, written-stands, derivative-due, slice-short, joined-width, overlap-less, joined-file-due}
+use Rattle.files.specs.Writing.Standing.{AcceptedType, AcceptedSlice, type-accepted, type-refused, slice-accepted, slice-refused, slice-file-size, written-stands, derivative-due, slice-short, joined-width, overlap-less, joined-file-due}
 use Rattle.wosthile.specs.Answers.{join}
 use Rattle.wosthile.proofs.Keeping.{refusal-keeps, shortage-keeps, file-keeps}
 use Rattle.wosthile.proofs.Opening.{no-type, no-slice, goes-on}
@@ -47,8 +47,7 @@ second-file-of c = c .before .before .before .before .before .args .second .now
 type-of : (c : tie.After-known-told2) → AcceptedType (type-file-of (c .before .before .before)) (c .before .place .given .0 .0 .start)
 type-of c =
     let read = c .before .before .before in
-    type-placed (type-file-of read) (λ i. omega (arith, read .before .before .before .before .shared-slice-known .given i)) _
-    (sym (read .read-type-file .ensures) ∙ c .before .place .given .1)
+    type-accepted (type-file-of read) (read .read-type-file .ensures) (λ i. omega (arith, read .before .before .before .before .shared-slice-known .given i)) _ (c .before .place .given .1)
 
 read-slice-file-requires : tie.Need-read-slice-file-requires
 read-slice-file-requires c κs = record { type = type-of c .type; stands = type-of c .stands }
@@ -61,8 +60,8 @@ first-slice : (c : tie.After-known-told4)
 first-slice c =
     let slice = c .before .before .before in
     let read = type-read c .before .before .before in
-    slice-accepted _ (first-file-of read) (λ i. omega (arith, read .before .before .before .shared-slice-known2 .given i)) _
-    (sym (slice .read-slice-file .ensures .each _ (type-of (type-read c) .stands)) ∙ c .before .prefix .given .1)
+    slice-accepted (slice .read-slice-file .ensures) (type-of (type-read c) .stands)
+    (λ i. omega (arith, read .before .before .before .shared-slice-known2 .given i)) _ (c .before .prefix .given .1)
 
 abbrev remainder-of : tie.After-known-told4 → Ty
 remainder-of c = derivative (type-of (type-read c) .type) (first-slice c .prefix)
@@ -118,8 +117,8 @@ second-slice : (c : tie.After-enum-told)
 second-slice c =
     let slice = c .before .before in
     let read = type-read (first-read c) .before .before .before in
-    slice-accepted _ (second-file-of read) (λ i. omega (arith, read .before .before .shared-slice-known3 .given i)) _
-    (sym (slice .read-slice-file2 .ensures .each _ (remainder-at (slice .before))) ∙ c .enum-told .given .1)
+    slice-accepted (slice .read-slice-file2 .ensures) (remainder-at (slice .before))
+    (λ i. omega (arith, read .before .before .shared-slice-known3 .given i)) _ (c .enum-told .given .1)
 
 abbrev joined-file : tie.After-enum-told → List ℕ
 joined-file c = slice-file-bytes (concat (first-slice (first-read c) .prefix) (second-slice c .prefix))
@@ -188,7 +187,7 @@ returns-2 : tie.Need-returns-2
 unfolding join
 returns-2 c =
     let read = c .before .before .before .before in
-    let e = type-refused _ _ (sym (read .read-type-file .ensures) ∙ c .before .before .fault .given .1) in
+    let e = type-refused (type-file-of read) (read .read-type-file .ensures) _ (c .before .before .fault .given .1) in
     rw (c .refuse .ensures) (refusal-keeps _ _ (no-type _ _ _ e))
 
 returns-3 : tie.Need-returns-3
@@ -196,7 +195,7 @@ unfolding join
 returns-3 c =
     let slice = c .before .before .before .before in
     let t = type-of (slice .before) in
-    let e = slice-refused _ _ _ (sym (slice .read-slice-file .ensures .each _ (t .stands)) ∙ c .before .before .fault2 .given .1) in
+    let e = slice-refused (slice .read-slice-file .ensures) (t .stands) _ (c .before .before .fault2 .given .1) in
     rw (c .refuse2 .ensures) (refusal-keeps _ _ (no-slice _ _ _ t e))
 
 join-stops : (c : tie.After-known-told4) (e : Fault)
@@ -208,7 +207,7 @@ join-stops c e h = goes-on _ _ _ (type-of (type-read c)) (first-slice c) ∙ rw 
 returns-4 : tie.Need-returns-4
 returns-4 c =
     let slice = c .before .before .before .before in
-    let e = slice-refused _ _ _ (sym (slice .read-slice-file2 .ensures .each _ (remainder-at (slice .before))) ∙ c .before .before .fault3 .given .1) in
+    let e = slice-refused (slice .read-slice-file2 .ensures) (remainder-at (slice .before)) _ (c .before .before .fault3 .given .1) in
     rw (c .refuse3 .ensures) (refusal-keeps _ _ (join-stops (slice .before .before .before .before .before) _ e))
 
 same-length : tie.Need-same-length

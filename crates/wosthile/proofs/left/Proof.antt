@@ -9,7 +9,7 @@ use lib.ListN.{length}
 use Rattle.stream.specs.Prefixes.{derivative}
 use Rattle.stream.specs.Reading.{accepted}
 use Rattle.stream.specs.TypeFiles.{type-file-bytes}
-use Rattle.files.specs.Writing.Standing.{AcceptedType, AcceptedSlice, type-placed, type-refused, slice-accepted, slice-refused, type-file-size, left-small, left-file-due}
+use Rattle.files.specs.Writing.Standing.{AcceptedType, AcceptedSlice, type-accepted, type-refused, slice-accepted, slice-refused, type-file-size, left-small, left-file-due}
 use Rattle.wosthile.specs.Answers.{left}
 use Rattle.wosthile.proofs.Keeping.{refusal-keeps, shortage-keeps, file-keeps}
 use Rattle.wosthile.proofs.Opening.{no-type, no-slice, goes-on}
@@ -38,8 +38,7 @@ slice-file-of c = c .before .before .before .before .args .slice .now
 type-of : (c : tie.After-known-told2) → AcceptedType (type-file-of (c .before .before .before)) (c .before .place .given .0 .0 .start)
 type-of c =
     let read = c .before .before .before in
-    type-placed (type-file-of read) (λ i. omega (arith, read .before .before .before .shared-slice-known .given i)) _
-    (sym (read .read-type-file .ensures) ∙ c .before .place .given .1)
+    type-accepted (type-file-of read) (read .read-type-file .ensures) (λ i. omega (arith, read .before .before .before .shared-slice-known .given i)) _ (c .before .place .given .1)
 
 read-slice-file-requires : tie.Need-read-slice-file-requires
 read-slice-file-requires c κs = record { type = type-of c .type; stands = type-of c .stands }
@@ -52,8 +51,8 @@ slice-of : (c : tie.After-known-told4)
 slice-of c =
     let slice = c .before .before .before in
     let read = type-read c .before .before .before in
-    slice-accepted _ (slice-file-of read) (λ i. omega (arith, read .before .before .shared-slice-known2 .given i)) _
-    (sym (slice .read-slice-file .ensures .each _ (type-of (type-read c) .stands)) ∙ c .before .prefix .given .1)
+    slice-accepted (slice .read-slice-file .ensures) (type-of (type-read c) .stands)
+    (λ i. omega (arith, read .before .before .shared-slice-known2 .given i)) _ (c .before .prefix .given .1)
 
 -- What has to be written, and how long it is.
 abbrev left-file : tie.After-known-told4 → List ℕ
@@ -96,7 +95,7 @@ returns-2 : tie.Need-returns-2
 unfolding left
 returns-2 c =
     let read = c .before .before .before .before in
-    let e = type-refused _ _ (sym (read .read-type-file .ensures) ∙ c .before .before .fault .given .1) in
+    let e = type-refused (type-file-of read) (read .read-type-file .ensures) _ (c .before .before .fault .given .1) in
     rw (c .refuse .ensures) (refusal-keeps _ _ (no-type _ _ _ e))
 
 returns-3 : tie.Need-returns-3
@@ -104,7 +103,7 @@ unfolding left
 returns-3 c =
     let slice = c .before .before .before .before in
     let t = type-of (slice .before) in
-    let e = slice-refused _ _ _ (sym (slice .read-slice-file .ensures .each _ (t .stands)) ∙ c .before .before .fault2 .given .1) in
+    let e = slice-refused (slice .read-slice-file .ensures) (t .stands) _ (c .before .before .fault2 .given .1) in
     rw (c .refuse2 .ensures) (refusal-keeps _ _ (no-slice _ _ _ t e))
 
 same-length : tie.Need-same-length
