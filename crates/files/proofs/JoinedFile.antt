@@ -11,8 +11,8 @@ use Rattle.stream.specs.Buffers.{front}
 use Rattle.files.specs.Writing.{ConcatDue, ConcatWritten, JoinedFileDue, JoinedFileWritten}
 use Rattle.files.specs.Writing.Laws.{part, back, count-bytes, room-behind-count, section-written}
 
-module _ {first second : List ℕ} {at from joined : ℕ} {lent y : List ℕ} (counted : y ≡ front (count-bytes joined) lent) where
-  abbrev pub body-due : JoinedFileDue first at second from joined lent → ConcatDue first at second from (part 2 y)
+module _ {first second : List ℕ} {joined : ℕ} {lent y : List ℕ} (counted : y ≡ front (count-bytes joined) lent) where
+  abbrev pub body-due : JoinedFileDue first second joined lent → ConcatDue first 2 second 2 (part 2 y)
   body-due due =
       record {
         type = due .type;
@@ -22,12 +22,12 @@ module _ {first second : List ℕ} {at from joined : ℕ} {lent y : List ℕ} (c
         room = omega (arith, room-behind-count joined lent y counted, due .measured, due .room);
       }
 
-  pub joined-file-written : {z : List ℕ} {moved : Moved} → ConcatWritten first at second from (part 2 y) z moved
-      → JoinedFileWritten first at second from joined lent (back 2 y z)
+  pub joined-file-written : {z : List ℕ} {moved : Moved} → ConcatWritten first 2 second 2 (part 2 y) z moved
+      → JoinedFileWritten first second joined lent (back 2 y z)
   unfolding slice-file-bytes
   joined-file-written {z} written = record { each = go }
     where
-      go : (due : JoinedFileDue first at second from joined lent) → back 2 y z ≡ front (slice-file-bytes (concat (due .one) (due .other))) lent
+      go : (due : JoinedFileDue first second joined lent) → back 2 y z ≡ front (slice-file-bytes (concat (due .one) (due .other))) lent
       go due =
           section-written joined lent y counted (prefix-bytes (concat (due .one) (due .other)) []) z
           (omega (arith, due .measured, prefix-width (concat (due .one) (due .other)) []))

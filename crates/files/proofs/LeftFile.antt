@@ -14,8 +14,8 @@ use Rattle.stream.specs.Buffers.{front}
 use Rattle.files.specs.Writing.{DerivativeDue, DerivativeWritten, LeftFileDue, LeftFileWritten}
 use Rattle.files.specs.Writing.Laws.{part, back, count-bytes, room-behind-count, section-written}
 
-module _ (types : List ℕ) (at : ℕ) (slice : List ℕ) (from left : ℕ) (lent : List ℕ) where
-  pub countable : LeftFileDue types at slice from left lent → (left ≤ 65535) × (2 ≤ length lent)
+module _ (types : List ℕ) (at : ℕ) (slice : List ℕ) (left : ℕ) (lent : List ℕ) where
+  pub countable : LeftFileDue types at slice left lent → (left ≤ 65535) × (2 ≤ length lent)
   unfolding type-limit
   countable due = (
     omega (arith, due .measured, derivative-size (due .stands .is-prefix), due .stands .type-at .small),
@@ -23,7 +23,7 @@ module _ (types : List ℕ) (at : ℕ) (slice : List ℕ) (from left : ℕ) (len
   )
 
   module _ {y : List ℕ} (counted : y ≡ front (count-bytes left) lent) where
-    abbrev pub body-due : LeftFileDue types at slice from left lent → DerivativeDue types at slice from (part 2 y)
+    abbrev pub body-due : LeftFileDue types at slice left lent → DerivativeDue types at slice 2 (part 2 y)
     body-due due =
         record {
           type = due .type;
@@ -32,12 +32,12 @@ module _ (types : List ℕ) (at : ℕ) (slice : List ℕ) (from left : ℕ) (len
           room = rw (room-behind-count left lent y counted) (omega (arith, due .measured, due .room));
         }
 
-    pub left-file-written : {z : List ℕ} {moved : Moved} → DerivativeWritten types at slice from (part 2 y) z moved
-        → LeftFileWritten types at slice from left lent (back 2 y z)
+    pub left-file-written : {z : List ℕ} {moved : Moved} → DerivativeWritten types at slice 2 (part 2 y) z moved
+        → LeftFileWritten types at slice left lent (back 2 y z)
     unfolding type-file-bytes
     left-file-written {z} {moved} written = record { each = go }
       where
-        go : (due : LeftFileDue types at slice from left lent) → back 2 y z ≡ front (type-file-bytes (derivative (due .type) (due .prefix))) lent
+        go : (due : LeftFileDue types at slice left lent) → back 2 y z ≡ front (type-file-bytes (derivative (due .type) (due .prefix))) lent
         go due =
             section-written left lent y counted (type-bytes (derivative (due .type) (due .prefix)) []) z
             (due .measured ∙ sym (type-width (derivative (due .type) (due .prefix))))

@@ -51,16 +51,17 @@ pub record DerivativeWritten (types : List ℕ) (at : ℕ) (slice : List ℕ) (f
   pub each : (due : DerivativeDue types at slice from lent)
       → Moves (at + size (due .type)) (from + width (due .prefix)) (type-bytes (derivative (due .type) (due .prefix)) []) lent lent-after moved
 
--- The same with the section's count before it; `left` is how many nodes the type left has.
-pub record LeftFileDue (types : List ℕ) (at : ℕ) (slice : List ℕ) (from left : ℕ) (lent : List ℕ) : Type 0 where
+-- The same for a slice file, whose tree stands behind the two bytes of its count, and with a count before what is written;
+-- `left` is how many nodes the type left has.
+pub record LeftFileDue (types : List ℕ) (at : ℕ) (slice : List ℕ) (left : ℕ) (lent : List ℕ) : Type 0 where
   pub type : Ty
   pub prefix : Prefix
-  pub stands : Stands types at slice from type prefix
+  pub stands : Stands types at slice 2 type prefix
   pub measured : left ≡ size (derivative type prefix)
   pub room : 2 + left ≤ length lent
 
-pub record LeftFileWritten (types : List ℕ) (at : ℕ) (slice : List ℕ) (from left : ℕ) (lent lent-after : List ℕ) : Type 0 where
-  pub each : (due : LeftFileDue types at slice from left lent) → lent-after ≡ front (type-file-bytes (derivative (due .type) (due .prefix))) lent
+pub record LeftFileWritten (types : List ℕ) (at : ℕ) (slice : List ℕ) (left : ℕ) (lent lent-after : List ℕ) : Type 0 where
+  pub each : (due : LeftFileDue types at slice left lent) → lent-after ≡ front (type-file-bytes (derivative (due .type) (due .prefix))) lent
 
 -- A prefix, and one of what it leaves, in their bytes.
 pub record Follows (first : List ℕ) (at : ℕ) (second : List ℕ) (from : ℕ) (t : Ty) (p q : Prefix) : Type 0 where
@@ -86,15 +87,15 @@ pub record ConcatWritten (first : List ℕ) (at : ℕ) (second : List ℕ) (from
   pub each : (due : ConcatDue first at second from lent)
       → Moves (at + width (due .one)) (from + width (due .other)) (prefix-bytes (concat (due .one) (due .other)) []) lent lent-after moved
 
--- The same with the section's count before it; `joined` is how many bytes the join has.
-pub record JoinedFileDue (first : List ℕ) (at : ℕ) (second : List ℕ) (from joined : ℕ) (lent : List ℕ) : Type 0 where
+-- The same for two slice files, and with a count before what is written; `joined` is how many bytes the join has.
+pub record JoinedFileDue (first second : List ℕ) (joined : ℕ) (lent : List ℕ) : Type 0 where
   pub type : Ty
   pub one : Prefix
   pub other : Prefix
-  pub follows : Follows first at second from type one other
+  pub follows : Follows first 2 second 2 type one other
   pub measured : joined ≡ width (concat one other)
   pub countable : joined ≤ 65535
   pub room : 2 + joined ≤ length lent
 
-pub record JoinedFileWritten (first : List ℕ) (at : ℕ) (second : List ℕ) (from joined : ℕ) (lent lent-after : List ℕ) : Type 0 where
-  pub each : (due : JoinedFileDue first at second from joined lent) → lent-after ≡ front (slice-file-bytes (concat (due .one) (due .other))) lent
+pub record JoinedFileWritten (first second : List ℕ) (joined : ℕ) (lent lent-after : List ℕ) : Type 0 where
+  pub each : (due : JoinedFileDue first second joined lent) → lent-after ≡ front (slice-file-bytes (concat (due .one) (due .other))) lent

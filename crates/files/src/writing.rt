@@ -117,20 +117,14 @@ pub fn write_derivative(types: &[u8], at: usize, slice: &[u8], from: usize, out:
     }
 }
 
-// Writes the file of what the prefix at `from` leaves of the type at `at`: a type of `left` nodes.
-pub fn write_left_file(
-    types: &[u8],
-    at: usize,
-    slice: &[u8],
-    from: usize,
-    left: usize,
-    out: &mut [u8],
-)
-    requires { ⌜ LeftFileDue (now types) at (now slice) from left (now out) ⌝ }
-    ensures { λ _. ⌜ LeftFileWritten (now (types .entry)) at (now (slice .entry)) from left (now (out .entry)) (now (out .exit)) ⌝ }
+// Writes the file of what the slice file's prefix leaves of the type at `at`: a type of `left` nodes. In a file of one section
+// the tree stands behind the two bytes of the count.
+pub fn write_left_file(types: &[u8], at: usize, slice: &[u8], left: usize, out: &mut [u8])
+    requires { ⌜ LeftFileDue (now types) at (now slice) left (now out) ⌝ }
+    ensures { λ _. ⌜ LeftFileWritten (now (types .entry)) at (now (slice .entry)) left (now (out .entry)) (now (out .exit)) ⌝ }
 {
     put_count(left, out);
-    write_derivative(types, at, slice, from, &mut out[2..]);
+    write_derivative(types, at, slice, 2, &mut out[2..]);
 }
 
 // The join where the first prefix is a leaf: a leaf still awaited gives way to the second prefix, one that has come stays.
@@ -182,18 +176,11 @@ pub fn write_concat(first: &[u8], at: usize, second: &[u8], from: usize, out: &m
     }
 }
 
-// Writes the file of the join, which has `joined` bytes.
-pub fn write_joined_file(
-    first: &[u8],
-    at: usize,
-    second: &[u8],
-    from: usize,
-    joined: usize,
-    out: &mut [u8],
-)
-    requires { ⌜ JoinedFileDue (now first) at (now second) from joined (now out) ⌝ }
-    ensures { λ _. ⌜ JoinedFileWritten (now (first .entry)) at (now (second .entry)) from joined (now (out .entry)) (now (out .exit)) ⌝ }
+// Writes the file of the join of two slice files' prefixes, which has `joined` bytes.
+pub fn write_joined_file(first: &[u8], second: &[u8], joined: usize, out: &mut [u8])
+    requires { ⌜ JoinedFileDue (now first) (now second) joined (now out) ⌝ }
+    ensures { λ _. ⌜ JoinedFileWritten (now (first .entry)) (now (second .entry)) joined (now (out .entry)) (now (out .exit)) ⌝ }
 {
     put_count(joined, out);
-    write_concat(first, at, second, from, &mut out[2..]);
+    write_concat(first, 2, second, 2, &mut out[2..]);
 }

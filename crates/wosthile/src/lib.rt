@@ -73,7 +73,7 @@ pub fn admit(ty: &[u8], slice: &[u8]) -> Admitted
     }
 }
 
-// The file of what the slice leaves of the type. A slice file has its tree behind the two bytes of the count.
+// The file of what the slice leaves of the type.
 pub fn left(ty: &[u8], slice: &[u8], out: &mut [u8]) -> Written
     ensures { λ r. ⌜ LeftPromise (now (ty .entry)) (now (slice .entry)) (now (out .entry)) r (now (out .exit)) ⌝ }
 {
@@ -86,7 +86,7 @@ pub fn left(ty: &[u8], slice: &[u8], out: &mut [u8]) -> Written
                 if out.len() < length {
                     return refuse(Fault::NoRoom);
                 }
-                write_left_file(ty, place.start, slice, 2, prefix.left, out);
+                write_left_file(ty, place.start, slice, prefix.left, out);
                 Written {
                     number: 0,
                     written: length,
@@ -96,7 +96,8 @@ pub fn left(ty: &[u8], slice: &[u8], out: &mut [u8]) -> Written
     }
 }
 
-// The file of the two slices' join; the second is read against what the first leaves of the type.
+// The file of the two slices' join; the second is read against what the first leaves of the type. A slice file has its tree
+// behind the two bytes of the count.
 pub fn join(ty: &[u8], first: &[u8], second: &[u8], out: &mut [u8]) -> Written
     ensures { λ r. ⌜ JoinPromise (now (ty .entry)) (now (first .entry)) (now (second .entry)) (now (out .entry)) r (now (out .exit)) ⌝ }
 {
@@ -115,7 +116,7 @@ pub fn join(ty: &[u8], first: &[u8], second: &[u8], out: &mut [u8]) -> Written
                         if out.len() < 2 + joined {
                             return refuse(Fault::NoRoom);
                         }
-                        write_joined_file(first, 2, second, 2, joined, out);
+                        write_joined_file(first, second, joined, out);
                         Written {
                             number: 0,
                             written: 2 + joined,

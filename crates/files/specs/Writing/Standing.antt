@@ -145,7 +145,7 @@ module _ {types file : List ℕ} {start : ℕ} {about : Known} (t : AcceptedType
   derivative-due lent room =
       record { type = t .type; prefix = p .prefix; stands = both-stand; room = omega (arith, left-small, p .left) }
 
-  abbrev pub left-file-due : (lent : List ℕ) → 2 + about .left ≤ length lent → LeftFileDue types start file 2 (about .left) lent
+  abbrev pub left-file-due : (lent : List ℕ) → 2 + about .left ≤ length lent → LeftFileDue types start file (about .left) lent
   left-file-due lent room = record { type = t .type; prefix = p .prefix; stands = both-stand; measured = p .left; room = room }
 
 module _ {t : Ty} {first second : List ℕ} {one other : Known}
@@ -160,7 +160,7 @@ module _ {t : Ty} {first second : List ℕ} {one other : Known}
       omega (arith, prefix-length [] (concat-is-prefix (q .prefix) (p .is-prefix) (q .is-prefix)), prefix-width (concat (p .prefix) (q .prefix)) [])
 
   abbrev pub joined-file-due : size t ≤ type-limit → (joined : ℕ) (lent : List ℕ) → joined ≡ width (concat (p .prefix) (q .prefix))
-      → 2 + joined ≤ length lent → JoinedFileDue first 2 second 2 joined lent
+      → 2 + joined ≤ length lent → JoinedFileDue first second joined lent
   joined-file-due small joined lent measured room =
       record {
         type = t;

@@ -5,7 +5,7 @@ use Rattle.files.proofs.writing.write_left_file.Statement.{statement}
 use Rattle.files.proofs.writing.write_left_file.Tie as tie
 
 put-count-requires : tie.Need-put-count-requires
-put-count-requires c κs = countable _ _ _ _ _ _ (c .before .before .before .before .pre)
+put-count-requires c κs = countable _ _ _ _ _ (c .before .before .before .before .pre)
 
 sub-write-derivative : tie.Need-sub-write-derivative
 sub-write-derivative c = search needs
@@ -19,7 +19,7 @@ part-write-derivative-end c = search needs
 write-derivative-requires : tie.Need-write-derivative-requires
 write-derivative-requires c κs =
     let counted = c .before .before .before in
-    body-due _ _ _ _ _ _ (counted .put-count .ensures) (counted .before .before .before .before .before .pre)
+    body-due _ _ _ _ _ (counted .put-count .ensures) (counted .before .before .before .before .before .pre)
 
 same-length : tie.Need-same-length
 same-length c = search needs
@@ -27,7 +27,7 @@ same-length c = search needs
 returns : tie.Need-returns
 returns c =
     let written = c .before .before in
-    left-file-written _ _ _ _ _ _ (written .before .before .before .before .put-count .ensures) (written .write-derivative .ensures)
+    left-file-written _ _ _ _ _ (written .before .before .before .before .put-count .ensures) (written .write-derivative .ensures)
 
 pub write-left-file-spec : {M : Type 1} → statement M
 write-left-file-spec =
