@@ -1,6 +1,5 @@
 pub mod TypeWalk
 pub mod SectionFile
-pub mod TypeFile
 pub mod TypeSkip
 pub mod PrefixWalk
 pub mod PrefixKinds

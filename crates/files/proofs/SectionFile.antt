@@ -1,16 +1,13 @@
 -- A file that is one section, by its counts: what reading it comes to, by where the tree in the section ends.
-use mathlib.Core.Path.{_≡_, refl, ap, _∙_}
-use mathlib.Core.List.{List, [], _∷_}
+use mathlib.Core.Path.{_≡_, ap, _∙_}
+use mathlib.Core.List.{List}
 use Prim.Native.Nat.{ℕ, _+_, _-_, _≤_, _<_}
 use native.Mathlib.Omega.{arith}
-use lib.ListN.{length, drop, length-drop, drop-of-length-le}
-use lib.Seq.{length-take-le}
+use lib.ListN.{length, drop}
 use Rattle.stream.specs.declared.Fault.{Fault}
-use Rattle.stream.specs.Reading.{Reading, read, fault, Result, accepted, refused, whole, before, section}
-use Rattle.stream.specs.Reading.Walking.{count, body, no-count, body-short, body-whole}
-
-pub body-length : (s : List ℕ) → 2 ≤ length s → count s ≤ length s - 2 → length (body s) ≡ count s
-body-length s two fits = let h : count s ≤ length (drop 2 s) = simp length-drop fits in length-take-le (count s) (drop 2 s) h
+use Rattle.stream.specs.Reading.{Reading, read, fault, Result, accepted, refused, whole, section}
+use Rattle.stream.specs.Reading.Walking.{count, body, no-count, body-short}
+use Rattle.files.specs.Sections.Laws as sections
 
 module _ {A : Type 0} (cut-short left-over : Fault) (contents : List ℕ → Reading A) where
   -- What becomes of the file.
@@ -32,41 +29,21 @@ module _ {A : Type 0} (cut-short left-over : Fault) (contents : List ℕ → Rea
     section-short h = rw (body-short cut-short left-over contents s h)
 
     module _ (two : 2 ≤ length s) (fits : count s ≤ length s - 2) where
-      in-section : file s ≡ whole left-over (before (drop (2 + count s) s) (whole left-over (contents (body s))))
-      in-section = ap (whole left-over) (body-whole cut-short left-over contents s two fits)
-
       pub tree-failed : (e : Fault) → contents (body s) ≡ fault e → file s ≡ refused e
-      tree-failed e h = rw (in-section, h)
+      tree-failed e h = rw (sections.tree-failed cut-short left-over contents s two fits e h)
 
       module _ {k : ℕ} (holds : Holds s k) where
         pub left-inside : k < count s → file s ≡ refused left-over
-        left-inside l = rw (in-section, holds .reads) (go (holds .rest) (omega (arith, holds .place)))
-          where
-            go : (r : List ℕ) → 0 < length r
-                → whole left-over (before (drop (2 + count s) s) (whole left-over (read (holds .tree) r))) ≡ refused left-over
-            go [] n = absurd (omega arith)
-            go (b ∷ r) n = refl
+        left-inside l =
+            rw (sections.left-inside cut-short left-over contents s two fits (holds .reads) (omega (arith, holds .place)))
 
         module _ (filled : count s ≤ k) where
           behind : file s ≡ whole left-over (read (holds .tree) (drop (2 + count s) s))
-          behind = rw (in-section, holds .reads) (go (holds .rest) (omega (arith, holds .place)))
-            where
-              go : (r : List ℕ) → length r ≤ 0
-                  → whole left-over (before (drop (2 + count s) s) (whole left-over (read (holds .tree) r)))
-                  ≡ whole left-over (read (holds .tree) (drop (2 + count s) s))
-              go [] n = refl
-              go (b ∷ r) n = absurd (omega arith)
+          behind =
+              ap (whole left-over) (sections.section-read cut-short left-over contents s two fits (holds .reads) (omega (arith, holds .place)))
 
           pub left-behind : 2 + count s < length s → file s ≡ refused left-over
-          left-behind l =
-              let n : 0 < length (drop (2 + count s) s) = simp length-drop (omega arith) in
-              behind ∙ go (drop (2 + count s) s) n
-            where
-              go : (r : List ℕ) → 0 < length r → whole left-over (read (holds .tree) r) ≡ refused left-over
-              go [] n = absurd (omega arith)
-              go (b ∷ r) n = refl
+          left-behind l = behind ∙ sections.byte-behind left-over (holds .tree) s (2 + count s) l
 
           pub file-whole : length s ≤ 2 + count s → file s ≡ accepted (holds .tree)
-          file-whole l =
-              let z : drop (2 + count s) s ≡ [] = drop-of-length-le s l in
-              behind ∙ rw z
+          file-whole l = behind ∙ sections.none-behind left-over (holds .tree) s (2 + count s) l

@@ -17,6 +17,7 @@ use Rattle.stream.specs.Reading.Walking.{count, body}
 use Rattle.files.specs.TypeReads.{TypeAt}
 use Rattle.stream.specs.SliceFiles.{read-prefix, slice-file}
 use Rattle.files.specs.SliceReads.{known, slice-read, ReadsSlice, read-owed, Walks}
+use Rattle.files.specs.Sections.Laws.{body-length}
 use Rattle.files.proofs.SectionFile as section
 use Rattle.files.proofs.SliceWalk.{failed, came}
 
@@ -47,7 +48,7 @@ module _ {types : List ℕ} {at : ℕ} (s : List ℕ) where
           let b = bytes-take (count s) (drop 2 s) (bytes-drop 2 s bytes) in
           let c = came stands (body s) 0 false b (omega arith) walked in
           let n = simp length-drop at (ap length (c .behind)) in
-          (record { tree = c .prefix; rest = c .rest; reads = c .reads; place = omega (arith, n, c .inside, section.body-length s two fits) }, c .knows)
+          (record { tree = c .prefix; rest = c .rest; reads = c .reads; place = omega (arith, n, c .inside, body-length s two fits) }, c .knows)
 
       pub left-inside : k < count s → ReadsSlice types at s (Refused SliceLeftOver)
       unfolding slice-file

@@ -1,15 +1,19 @@
--- A type passed byte by byte: the types that are still to be passed, and how far they reach.
-use mathlib.Core.Path.{_≡_, refl, ap, _∙_}
-use mathlib.Core.List.{List, [], _∷_}
+-- A type passed byte by byte: the types that are still to be passed, and how far they reach. Each kind byte makes way for
+-- the parts of its type.
+use mathlib.Core.Path.{_≡_, refl, sym, ap, _∙_}
+use mathlib.Core.Bool.{Bool, true, false, _&&_, and-true, and-assoc}
+use mathlib.Core.Logic.{_⊎_, ⊎-elim}
+use mathlib.Core.List.{List, [], _∷_, _++_}
 use Prim.Native.Nat.{ℕ, _+_, _-_, _≤_, _<_}
 use native.Mathlib.Omega.{arith}
-use lib.ListN.{length, getD, drop, length-drop}
-use Rattle.stream.specs.Types.{Ty, size, type-limit, kind, first-part, second-part}
+use lib.ListN.{length, getD, drop, length-drop, length-append}
+use lib.Seq.{drop-cons, drop-drop}
+use Rattle.stream.specs.Types.{Ty, empty, cue, level, seq, par, nullable, size, type-limit, kind}
 use Rattle.stream.specs.Types.Laws.{size-positive}
 use Rattle.stream.specs.TypeFiles.{type-bytes}
 use Rattle.stream.specs.TypeFiles.Laws.{type-length}
-use Rattle.files.specs.TypeReads.{TypeAt, SomeTypeAt, TypeEnds}
-use Rattle.files.specs.TypeReads.Laws.{kind-at, behind, under-root, fork-size, leaf-size, same-type}
+use Rattle.files.specs.TypeReads.{type-arity, TypeAt, SomeTypeAt, TypeEnds, NullableIs}
+use Rattle.files.specs.TypeReads.Laws.{kind-at, same-type}
 
 -- The bytes of several types, and then r; and how many they are.
 abbrev several : List Ty → List ℕ → List ℕ
@@ -27,6 +31,35 @@ several-length (t ∷ ts) r = omega (arith, type-length t (several ts r), severa
 sizes-many : (ts : List Ty) → length ts ≤ sizes ts
 sizes-many [] = omega arith
 sizes-many (t ∷ ts) = omega (arith, size-positive t, sizes-many ts)
+
+several-append : (ts us : List Ty) (r : List ℕ) → several (ts ++ us) r ≡ several ts (several us r)
+several-append [] us r = refl
+several-append (t ∷ ts) us r = ap (type-bytes t) (several-append ts us r)
+
+sizes-append : (ts us : List Ty) → sizes (ts ++ us) ≡ sizes ts + sizes us
+sizes-append [] us = omega arith
+sizes-append (t ∷ ts) us = omega (arith, sizes-append ts us)
+
+-- A type is its kind byte and its parts.
+abbrev parts : Ty → List Ty
+parts empty = []
+parts cue = []
+parts level = []
+parts (seq s t) = s ∷ t ∷ []
+parts (par s t) = s ∷ t ∷ []
+
+record Apart (t : Ty) : Type 0 where
+  bytes : (r : List ℕ) → type-bytes t r ≡ kind t ∷ several (parts t) r
+  many : length (parts t) ≡ type-arity (kind t)
+  total : size t ≡ 1 + sizes (parts t)
+
+apart : (t : Ty) → Apart t
+unfolding type-bytes size
+apart empty = record { bytes = λ r. refl; many = refl; total = refl }
+apart cue = record { bytes = λ r. refl; many = refl; total = refl }
+apart level = record { bytes = λ r. refl; many = refl; total = refl }
+apart (seq s t) = record { bytes = λ r. refl; many = refl; total = omega arith }
+apart (par s t) = record { bytes = λ r. refl; many = refl; total = omega arith }
 
 -- At `end`, `owed` types are still to be passed, and behind them the type at `at` ends.
 pub record Passing (bytes : List ℕ) (at owed end : ℕ) : Type 0 where
@@ -49,12 +82,18 @@ starts some =
     }
 
 module _ {bytes : List ℕ} {at owed end : ℕ} (passing : Passing bytes at owed end) where
-  pub ends : owed ≡ 0 → TypeEnds bytes at end
-  ends none = record { each = λ t h. go (passing .types) (passing .many) (passing .far t h) }
+  none : owed ≡ 0 → passing .types ≡ []
+  none z = go (passing .types) (passing .many)
     where
-      go : {n : ℕ} (ts : List Ty) → length ts ≡ owed → n ≡ end + sizes ts → end ≡ n
-      go [] m f = omega arith
-      go (t ∷ ts) m f = absurd (omega arith)
+      go : (ts : List Ty) → length ts ≡ owed → ts ≡ []
+      go [] m = refl
+      go (t ∷ ts) m = absurd (omega arith)
+
+  pub ends : owed ≡ 0 → TypeEnds bytes at end
+  ends z = record { each = λ t h. omega (arith, passing .far t h, ap sizes (none z)) }
+
+  pub few : owed ≤ type-limit
+  few = omega (arith, sizes-many (passing .types), passing .many, passing .small)
 
   module _ (wanted : 0 < owed) where
     pub inside : end + owed ≤ length bytes
@@ -68,54 +107,99 @@ module _ {bytes : List ℕ} {at owed end : ℕ} (passing : Passing bytes at owed
           passing .many,
         )
 
-    -- The first of the types, at `end`.
-    record First : Type 0 where
-      type : Ty
-      others : List Ty
-      stands : TypeAt bytes end type
-      behind-it : stands .rest ≡ several others (passing .rest)
-      many : 1 + length others ≡ owed
-      small : size type + sizes others ≤ type-limit
-      far : (t : Ty) → TypeAt bytes at t → at + size t ≡ end + (size type + sizes others)
+    -- The first of the types, at `end`, and the others.
+    abbrev first : Ty
+    first = getD (passing .types) 0 empty
 
-    first : First
-    first = go (passing .types) (passing .here) (passing .many) (passing .small) (passing .far)
-      where
-        go : (ts : List Ty) → drop end bytes ≡ several ts (passing .rest) → length ts ≡ owed → sizes ts ≤ type-limit
-            → ((t : Ty) → TypeAt bytes at t → at + size t ≡ end + sizes ts) → First
-        go [] here many small far = absurd (omega arith)
-        go (t ∷ ts) here many small far =
-            record {
-              type = t;
-              others = ts;
-              stands = record { rest = several ts (passing .rest); here = here; small = omega arith };
-              behind-it = refl;
-              many = omega arith;
-              small = small;
-              far = far;
-            }
+    abbrev others : List Ty
+    others = drop 1 (passing .types)
 
-    -- The kind byte takes it apart.
-    pub leaf-passed : getD bytes end 0 < 3 → Passing bytes at (owed - 1) (end + 1)
-    leaf-passed leaf =
-        let one : size (first .type) ≡ 1 = leaf-size (first .type) (omega (arith, kind-at (first .stands))) in
+    split : passing .types ≡ first ∷ others
+    split = drop-cons (passing .types) 0 empty (omega (arith, passing .many))
+
+    first-here : drop end bytes ≡ type-bytes first (several others (passing .rest))
+    first-here = passing .here ∙ ap (λ ts. several ts (passing .rest)) split
+
+    stands : TypeAt bytes end first
+    stands =
         record {
-          types = first .others;
-          rest = passing .rest;
-          here = rw (one) at (behind (first .stands)) ∙ first .behind-it;
-          many = omega (arith, first .many);
-          small = omega (arith, first .small);
-          far = λ t h. omega (arith, first .far t h);
+          rest = several others (passing .rest);
+          here = first-here;
+          small = omega (arith, passing .small, ap sizes split);
         }
 
-    pub fork-passed : 3 ≤ getD bytes end 0 → Passing bytes at (owed + 1) (end + 1)
-    fork-passed fork =
-        let k : 3 ≤ kind (first .type) = omega (arith, kind-at (first .stands)) in
+    -- Its kind byte makes way for its parts.
+    pub passed : Passing bytes at (owed - 1 + type-arity (getD bytes end 0)) (end + 1)
+    passed =
         record {
-          types = first-part (first .type) ∷ second-part (first .type) ∷ first .others;
+          types = parts first ++ others;
           rest = passing .rest;
-          here = rw (first .behind-it) at (under-root (first .stands) k);
-          many = omega (arith, first .many);
-          small = omega (arith, first .small, fork-size (first .type) k);
-          far = λ t h. omega (arith, first .far t h, fork-size (first .type) k);
+          here =
+              rw (← drop-drop 1 end bytes, first-here, apart first .bytes (several others (passing .rest)))
+              (sym (several-append (parts first) others (passing .rest)));
+          many = rw (kind-at stands) (omega (arith, length-append (parts first) others, apart first .many, passing .many, ap length split));
+          small = omega (arith, sizes-append (parts first) others, apart first .total, passing .small, ap sizes split);
+          far = λ t h. omega (arith, sizes-append (parts first) others, apart first .total, passing .far t h, ap sizes split);
+        }
+
+-- Whether all of some types are nullable. One of kind 0 or 4 is if its parts are; another is not.
+abbrev all-nullable : List Ty → Bool
+all-nullable [] = true
+all-nullable (t ∷ ts) = nullable t && all-nullable ts
+
+all-nullable-append : (ts us : List Ty) → all-nullable (ts ++ us) ≡ (all-nullable ts && all-nullable us)
+all-nullable-append [] us = refl
+all-nullable-append (t ∷ ts) us =
+    ap (λ b. nullable t && b) (all-nullable-append ts us) ∙ sym (and-assoc (nullable t) (all-nullable ts) (all-nullable us))
+
+by-parts : (t : Ty) → (kind t ≡ 0) ⊎ (kind t ≡ 4) → nullable t ≡ all-nullable (parts t)
+unfolding nullable
+by-parts empty h = refl
+by-parts cue h = absurd (⊎-elim (λ e. omega arith) (λ e. omega arith) h)
+by-parts level h = absurd (⊎-elim (λ e. omega arith) (λ e. omega arith) h)
+by-parts (seq s t) h = absurd (⊎-elim (λ e. omega arith) (λ e. omega arith) h)
+by-parts (par s t) h = ap (λ b. nullable s && b) (sym (and-true (nullable t)))
+
+not-nullable : (t : Ty) → (kind t ≡ 0 → ⊥) → (kind t ≡ 4 → ⊥) → nullable t ≡ false
+unfolding nullable
+not-nullable empty h k = absurd (h refl)
+not-nullable cue h k = refl
+not-nullable level h k = refl
+not-nullable (seq s t) h k = refl
+not-nullable (par s t) h k = absurd (k refl)
+
+-- While only kinds 0 and 4 are passed, the type at `at` is nullable if the types still to be passed are.
+pub record Nullables (bytes : List ℕ) (at owed end : ℕ) : Type 0 where
+  pub passing : Passing bytes at owed end
+  pub same : (t : Ty) → TypeAt bytes at t → nullable t ≡ all-nullable (passing .types)
+
+pub begins : {bytes : List ℕ} {at : ℕ} → SomeTypeAt bytes at → Nullables bytes at 1 at
+unfolding starts
+begins some =
+    record { passing = starts some; same = λ t h. ap nullable (same-type h (some .stands)) ∙ sym (and-true (nullable (some .type))) }
+
+module _ {bytes : List ℕ} {at owed end : ℕ} (nullables : Nullables bytes at owed end) where
+  pub all-passed : owed ≡ 0 → NullableIs bytes at true
+  all-passed z = record { each = λ t h. sym (nullables .same t h ∙ ap all-nullable (none (nullables .passing) z)) }
+
+  module _ (wanted : 0 < owed) where
+    pub other-kind : (getD bytes end 0 ≡ 0 → ⊥) → (getD bytes end 0 ≡ 4 → ⊥) → NullableIs bytes at false
+    other-kind h k =
+        let p = nullables .passing in
+        let e = kind-at (stands p wanted) in
+        let n = not-nullable (first p wanted) (λ z. h (e ∙ z)) (λ z. k (e ∙ z)) in
+        record { each = λ t s. sym (nullables .same t s ∙ ap all-nullable (split p wanted) ∙ rw n) }
+
+    pub nullable-kind : (getD bytes end 0 ≡ 0) ⊎ (getD bytes end 0 ≡ 4) → Nullables bytes at (owed - 1 + type-arity (getD bytes end 0)) (end + 1)
+    unfolding passed
+    nullable-kind k =
+        let p = nullables .passing in
+        let n : nullable (first p wanted) ≡ all-nullable (parts (first p wanted)) = by-parts (first p wanted) (rw (kind-at (stands p wanted)) at k) in
+        record {
+          passing = passed p wanted;
+          same = λ t s.
+              nullables .same t s
+              ∙ ap all-nullable (split p wanted)
+              ∙ ap (λ b. b && all-nullable (others p wanted)) n
+              ∙ sym (all-nullable-append (parts (first p wanted)) (others p wanted));
         }

@@ -1,22 +1,20 @@
 -- What the readers of types tell their callers: where a type stands, or the first fault.
 use mathlib.Core.Path.{_≡_}
-use mathlib.Core.List.{List}
-use Prim.Native.Nat.{ℕ, _+_, _-_, _≤_}
-use lib.ListN.{length, drop}
+use mathlib.Core.Bool.{Bool}
+use mathlib.Core.List.{List, [], _∷_}
+use Prim.Native.Nat.{ℕ, _+_, _≤_}
+use lib.ListN.{getD, drop}
 use Rattle.files.specs.declared.types.Ty.{Ty as Place}
-use Rattle.files.specs.declared.types.TreeEnd.{TreeEnd}
-use Rattle.files.specs.declared.types.TreeEnd.the-variants.{At, Failed}
 use Rattle.files.specs.declared.types.TypeRead.{TypeRead}
 use Rattle.files.specs.declared.types.TypeRead.the-variants.{Whole, Refused}
-use Rattle.stream.specs.Types.{Ty, size, type-limit}
-use Rattle.stream.specs.Reading.{Reading, read, fault, Result, accepted, refused}
+use Rattle.stream.specs.Types.{Ty, nullable, size, type-limit}
+use Rattle.stream.specs.Reading.{Result, accepted, refused}
 use Rattle.stream.specs.TypeFiles.{type-bytes}
 pub mod Laws
 
--- Where a tree ends in the n bytes that it was read from.
-unfoldable pub end-of : {A : Type 0} → ℕ → Reading A → TreeEnd
-end-of n (read a r) = At (n - length r)
-end-of n (fault e) = Failed e
+-- How many parts a type's kind has.
+abbrev pub type-arity : ℕ → ℕ
+type-arity k = getD (0 ∷ 0 ∷ 0 ∷ 2 ∷ 2 ∷ []) k 0
 
 -- The type of a file stands behind the two bytes of its section's count.
 abbrev pub in-file : Ty → Place
@@ -39,3 +37,6 @@ pub record SomeTypeAt (bytes : List ℕ) (at : ℕ) : Type 0 where
 -- `end` is where the type at `at` ends, whichever it is.
 pub record TypeEnds (bytes : List ℕ) (at end : ℕ) : Type 0 where
   pub each : (t : Ty) → TypeAt bytes at t → end ≡ at + size t
+
+pub record NullableIs (bytes : List ℕ) (at : ℕ) (answer : Bool) : Type 0 where
+  pub each : (t : Ty) → TypeAt bytes at t → answer ≡ nullable t

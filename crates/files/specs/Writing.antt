@@ -1,4 +1,4 @@
--- What the writers of Left and Join promise and ask: contracts inside the library, which no demand rests on.
+-- What the writers promise and ask: contracts inside the library, which no demand rests on.
 use mathlib.Core.Path.{_≡_}
 use mathlib.Core.List.{List, [], _∷_}
 use Prim.Native.Nat.{ℕ, _+_, _≤_, _<_}
@@ -99,3 +99,13 @@ pub record JoinedFileDue (first second : List ℕ) (joined : ℕ) (lent : List �
 
 pub record JoinedFileWritten (first second : List ℕ) (joined : ℕ) (lent lent-after : List ℕ) : Type 0 where
   pub each : (due : JoinedFileDue first second joined lent) → lent-after ≡ front (slice-file-bytes (concat (due .one) (due .other))) lent
+
+-- The file of a type, whose bytes are all of `bytes`, is to be written on `lent`, which has room for it.
+pub record TypeFileDue (bytes lent : List ℕ) : Type 0 where
+  pub type : Ty
+  pub here : bytes ≡ type-bytes type []
+  pub countable : size type ≤ 65535
+  pub room : 2 + size type ≤ length lent
+
+pub record TypeFileWritten (bytes lent lent-after : List ℕ) : Type 0 where
+  pub each : (due : TypeFileDue bytes lent) → lent-after ≡ front (type-file-bytes (due .type)) lent

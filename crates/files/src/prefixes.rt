@@ -1,5 +1,5 @@
 // Slices as bytes: whether a file is a slice of a type, and what Left and Join have to know of one.
-use crate::types::count_of;
+use crate::sections::count_of;
 use crate::types::skip_type;
 use stream::Fault;
 ghost use mathlib.Core.Path.{_≡_};

@@ -1,10 +1,13 @@
 // Types as bytes: where one ends, and whether a file is one.
+use crate::sections::TreeEnd;
+use crate::sections::fill;
+use crate::sections::section_end;
 use stream::Fault;
 ghost use mathlib.Core.Path.{_≡_};
-ghost use Prim.Native.Nat.{_+_, _*_, _<_};
 ghost use lib.ListN.{length};
-ghost use Rattle.stream.specs.TypeFiles.{read-type, type-file};
-ghost use Rattle.files.specs.TypeReads.{end-of, type-read, SomeTypeAt, TypeEnds};
+ghost use Rattle.stream.specs.TypeFiles.{read-type, type-section, type-file};
+ghost use Rattle.files.specs.Sections.{end-of};
+ghost use Rattle.files.specs.TypeReads.{type-arity, type-read, SomeTypeAt, TypeEnds, NullableIs};
 
 // Where a type stands in some bytes: from `start` up to, not including, `end`.
 pub struct Ty {
@@ -24,10 +27,14 @@ impl Ty {
     }
 }
 
-// Where a tree ends in the bytes that it starts, or why none starts them.
-pub enum TreeEnd {
-    At(usize),
-    Failed(Fault),
+// How many parts a type's kind has; this is asked here alone.
+pub fn type_arity(kind: u8) -> usize
+    ensures { λ r. ⌜ r ≡ type-arity kind ⌝ }
+{
+    match kind {
+        3..=4 => 2,
+        _ => 0,
+    }
 }
 
 // Where the type at the front of the bytes ends. What stands behind the type is not looked at.
@@ -45,27 +52,23 @@ pub fn type_end(bytes: &[u8]) -> TreeEnd
             return TreeEnd::Failed(Fault::CutShort);
         }
         let kind = bytes[at];
-        match kind {
-            0..=2 => {
-                owed -= 1;
-            }
-            3..=4 => {
-                owed += 1;
-            }
-            _ => {
-                return TreeEnd::Failed(Fault::Unlisted);
-            }
+        if 4 < kind {
+            return TreeEnd::Failed(Fault::Unlisted);
         }
+        owed = owed - 1 + type_arity(kind);
         at += 1;
     }
     TreeEnd::At(at)
 }
 
-// A section's count: two bytes, the high one first.
-pub fn count_of(high: u8, low: u8) -> usize
-    ensures { λ r. ⌜ (r ≡ high * 256 + low) × (r < 65536) ⌝ }
+// Where the section at the front of the bytes ends, if a type fills it.
+pub fn type_section_end(bytes: &[u8]) -> TreeEnd
+    ensures { λ r. ⌜ r ≡ end-of (length (now (bytes .entry))) (type-section (now (bytes .entry))) ⌝ }
 {
-    high as usize * 256 + low as usize
+    match section_end(bytes) {
+        TreeEnd::Failed(fault) => TreeEnd::Failed(fault),
+        TreeEnd::At(end) => fill(end, type_end(&bytes[2..end])),
+    }
 }
 
 // What became of a type file: where its type stands in it, or why it is refused.
@@ -78,21 +81,10 @@ pub enum TypeRead {
 pub fn read_type_file(file: &[u8]) -> TypeRead
     ensures { λ r. ⌜ r ≡ type-read (type-file (now (file .entry))) ⌝ }
 {
-    let length = file.len();
-    if length < 2 {
-        return TypeRead::Refused(Fault::CutShort);
-    }
-    let count = count_of(file[0], file[1]);
-    if length - 2 < count {
-        return TypeRead::Refused(Fault::CutShort);
-    }
-    let end = 2 + count;
-    match type_end(&file[2..end]) {
+    match type_section_end(file) {
         TreeEnd::Failed(fault) => TypeRead::Refused(fault),
-        TreeEnd::At(read) => {
-            if read < count {
-                TypeRead::Refused(Fault::LeftOver)
-            } else if end < length {
+        TreeEnd::At(end) => {
+            if end < file.len() {
                 TypeRead::Refused(Fault::LeftOver)
             } else {
                 TypeRead::Whole(Ty::new(2, end))
@@ -109,12 +101,26 @@ pub fn skip_type(types: &[u8], at: usize) -> usize
     let mut owed: usize = 1;
     let mut end = at;
     while 0 < owed {
-        if types[end] < 3 {
-            owed -= 1;
-        } else {
-            owed += 1;
-        }
+        owed = owed - 1 + type_arity(types[end]);
         end += 1;
     }
     end
+}
+
+// Whether the type that stands at `at` is nullable: only kinds 0 and 4 stand in one that is.
+pub fn is_nullable(types: &[u8], at: usize) -> bool
+    requires { ⌜ SomeTypeAt (now types) at ⌝ }
+    ensures { λ r. ⌜ NullableIs (now (types .entry)) at r ⌝ }
+{
+    let mut owed: usize = 1;
+    let mut end = at;
+    while 0 < owed {
+        let kind = types[end];
+        if kind != 0 && kind != 4 {
+            return false;
+        }
+        owed = owed - 1 + type_arity(kind);
+        end += 1;
+    }
+    true
 }

@@ -1,4 +1,4 @@
-// The writers of Left and Join. Each is handed the part of the lent buffer where it has to write, with room that was measured
+// The writers. Each is handed the part of the lent buffer where it has to write, with room that was measured
 // before, and hands the later parts on.
 use crate::prefixes::is_unfinished;
 use crate::prefixes::leaf_width;
@@ -11,7 +11,7 @@ ghost use lib.ListN.{length};
 ghost use mir.Val.{Fits};
 ghost use mir.Syntax.{w64};
 ghost use Rattle.stream.specs.Buffers.{front};
-ghost use Rattle.files.specs.Writing.{leaf-left, PrefixDue, PrefixWritten, DerivativeDue, DerivativeWritten, LeftFileDue, LeftFileWritten, LeafConcatDue, ConcatDue, ConcatWritten, JoinedFileDue, JoinedFileWritten};
+ghost use Rattle.files.specs.Writing.{leaf-left, PrefixDue, PrefixWritten, DerivativeDue, DerivativeWritten, LeftFileDue, LeftFileWritten, LeafConcatDue, ConcatDue, ConcatWritten, JoinedFileDue, JoinedFileWritten, TypeFileDue, TypeFileWritten};
 
 // How far a writer has come: where the two trees that it goes through end, and how many bytes it has written.
 pub struct Moved {
@@ -50,7 +50,7 @@ fn put_count(count: usize, out: &mut [u8])
 }
 
 // Copies all of `source`.
-fn copy(source: &[u8], out: &mut [u8])
+pub fn copy(source: &[u8], out: &mut [u8])
     requires { ⌜ length (now source) ≤ length (now out) ⌝ }
     ensures { λ _. ⌜ now (out .exit) ≡ front (now (source .entry)) (now (out .entry)) ⌝ }
 {
@@ -183,4 +183,13 @@ pub fn write_joined_file(first: &[u8], second: &[u8], joined: usize, out: &mut [
 {
     put_count(joined, out);
     write_concat(first, 2, second, 2, &mut out[2..]);
+}
+
+// Writes the file of the type whose bytes are all of `ty`.
+pub fn write_type_file(ty: &[u8], out: &mut [u8])
+    requires { ⌜ TypeFileDue (now ty) (now out) ⌝ }
+    ensures { λ _. ⌜ TypeFileWritten (now (ty .entry)) (now (out .entry)) (now (out .exit)) ⌝ }
+{
+    put_count(ty.len(), out);
+    copy(ty, &mut out[2..]);
 }

@@ -1,17 +1,26 @@
 -- A type that stands at a place of some bytes: its kind byte, its parts, and where it ends.
 use mathlib.Core.Path.{_≡_, refl, sym, ap, _∙_}
 use mathlib.Core.List.{List, [], _∷_, _++_}
-use Prim.Native.Nat.{ℕ, suc, _+_, _≤_, _<_}
+use Prim.Native.Nat.{ℕ, suc, _+_, _-_, _≤_, _<_}
 use native.Mathlib.Omega.{arith}
 use native.Mathlib.Nat.{add-zero}
 use lib.ListN.{length, getD, take, drop, length-drop}
-use lib.Seq.{getD-drop, drop-drop, take-at}
-use Rattle.stream.specs.Types.{Ty, empty, cue, level, seq, par, size, kind, first-part, second-part}
+use lib.Seq.{getD-drop, drop-drop, take-at, length-take-le}
+use Rattle.stream.specs.declared.Fault.the-variants.{Unlisted, TypeTooLarge}
+use Rattle.files.specs.declared.sections.TreeEnd.the-variants.{At}
+use Rattle.stream.specs.Types.{Ty, empty, cue, level, seq, par, size, kind, first-part, second-part, type-limit}
 use Rattle.stream.specs.Types.Laws.{size-positive}
-use Rattle.stream.specs.Reading.{read}
-use Rattle.stream.specs.TypeFiles.{type-bytes}
-use Rattle.stream.specs.TypeFiles.Laws.{type-length, read-type-reads}
-use Rattle.files.specs.TypeReads.{TypeAt}
+use Rattle.stream.specs.Reading.{Bytes, read, fault}
+use Rattle.stream.specs.Reading.Laws.{bytes-drop, bytes-take, _&_, past, every}
+use Rattle.stream.specs.TypeFiles.{type-bytes, type-kinds, type-root, read-type, type-section}
+use Rattle.stream.specs.TypeFiles.Laws.{type-length, read-type-reads, read-type-sound}
+use Rattle.files.specs.Sections.{end-of}
+use Rattle.files.specs.Sections.Laws.{inside, section-ended, Within, tree-within}
+use Rattle.files.specs.TypeReads.{type-arity, TypeAt}
+
+-- No kind has more than two parts.
+pub arity-small : (k : ℕ) → type-arity k ≤ 2
+arity-small = every (λ k n. n ≤ 2) 0 _ (omega arith & omega arith & omega arith & omega arith & omega arith & past (λ k h. omega arith))
 
 -- Behind a type stands what was put there.
 pub type-drop : (t : Ty) (r : List ℕ) → drop (size t) (type-bytes t r) ≡ r
@@ -117,3 +126,35 @@ same-type {s = s} {t = t} h k =
     let e : read s (h .rest) ≡ read t (k .rest)
     = sym (read-type-reads s (h .rest) (h .small)) ∙ rw (← h .here) (rw (k .here) (read-type-reads t (k .rest) (k .small))) in
     cc
+
+-- A type leaves no more bytes than there were.
+root-within : (w : Unit {0}) (s : List ℕ) → Within s (type-root w s)
+unfolding type-root
+root-within w [] = tt
+root-within w (k ∷ s) =
+    every (λ j f. Within (j ∷ s) (f s)) (λ r. fault Unlisted) type-kinds
+    (omega arith & omega arith & omega arith & omega arith & omega arith & past (λ j h. tt)) k
+
+pub read-type-within : (s : List ℕ) → Within s (read-type s)
+unfolding read-type
+read-type-within s = tree-within TypeTooLarge type-root root-within type-limit tt s
+
+-- The section at the front of s ends at `end`, and a type fills it.
+pub record TypeSectionEnds (s : List ℕ) (end : ℕ) : Type 0 where
+  pub type : Ty
+  pub place : end ≡ 2 + size type
+  pub fits : end ≤ length s
+  pub reads : type-section s ≡ read type (drop end s)
+
+pub type-section-ended : (s : List ℕ) (end : ℕ) → Bytes s → end-of (length s) (type-section s) ≡ At end → TypeSectionEnds s end
+unfolding type-section
+type-section-ended s end bytes told =
+    let e = section-ended read-type s end told in
+    let f = read-type-sound (inside end s) (e .tree) [] (bytes-take (end - 2) (drop 2 s) (bytes-drop 2 s bytes)) (e .fills) in
+    let h : end - 2 ≤ length (drop 2 s) = simp length-drop (omega (arith, e .fits)) in
+    record {
+      type = e .tree;
+      place = omega (arith, e .place, type-length (e .tree) [], ap length (f .bytes), length-take-le (end - 2) (drop 2 s) h);
+      fits = e .fits;
+      reads = e .reads;
+    }

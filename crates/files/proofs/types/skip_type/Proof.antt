@@ -1,10 +1,12 @@
--- `skip_type` meets its contract: at `end`, `owed` types are still to be passed (`Passing`), and the byte there says whether
--- the first of them is passed with it or makes way for its two parts.
+-- `skip_type` meets its contract: at `end`, `owed` types are still to be passed (`Passing`), and the byte there makes way for
+-- the parts of the first of them.
+use borrow.Author.Needs.{needs}
 use Prim.Native.Nat.{_-_}
 use native.Mathlib.Omega.{arith}
-use mathlib.Core.Logic.{⊎-elim}
-use lib.ListN.{length}
-use Rattle.files.proofs.TypeSkip.{Passing, starts, inside, leaf-passed, fork-passed, ends}
+use lib.ListN.{length, getD}
+use Rattle.stream.specs.Types.Laws.{limit-is}
+use Rattle.files.specs.TypeReads.Laws.{arity-small}
+use Rattle.files.proofs.TypeSkip.{Passing, starts, few, inside, passed, ends}
 use Rattle.files.proofs.types.skip_type.Statement.{statement}
 use Rattle.files.proofs.types.skip_type.Tie as tie
 
@@ -15,18 +17,21 @@ abbrev μ-loop : tie.MeasureT-loop
 μ-loop types at owed₀ end₀ owed end = length types - end
 
 loop-holds : tie.Need-loop-holds Inv-loop μ-loop
-loop-holds c = starts (c .pre)
-
-shared-slice-read-if1 : tie.Need-shared-slice-read-if1 Inv-loop μ-loop
-shared-slice-read-if1 c = omega (arith, inside (c .before .before .loop .inv) (omega arith))
+loop-holds c = starts (c .before .pre)
 
 sub-owed : tie.Need-sub-owed Inv-loop μ-loop
 sub-owed c = omega arith
 
+shared-slice-read-type-arity : tie.Need-shared-slice-read-type-arity Inv-loop μ-loop
+shared-slice-read-type-arity c = omega (arith, inside (c .before .before .loop .inv) (omega arith))
+
+type-arity-requires : tie.Need-type-arity-requires Inv-loop μ-loop
+type-arity-requires c κs = search needs
+
 add-owed : tie.Need-add-owed Inv-loop μ-loop
 add-owed c =
-    let passing = c .before .before .before .loop .inv in
-    omega (arith, inside (fork-passed passing (omega arith) (omega arith)) (omega arith))
+    let l = c .before .before .before in
+    omega (arith, limit-is, few (l .loop .inv), arity-small (getD (l .before .before .args .types .now) (l .loop .end) 0), c .type-arity .ensures)
 
 add-end : tie.Need-add-end Inv-loop μ-loop
 add-end c = omega (arith, inside (c .before .before .before .loop .inv) (omega arith))
@@ -35,12 +40,7 @@ loop-less : tie.Need-loop-less Inv-loop μ-loop
 loop-less c = omega (arith, inside (c .before .before .before .loop .inv) (omega arith))
 
 loop-again : tie.Need-loop-again Inv-loop μ-loop
-loop-again c =
-    let passing = c .before .before .before .loop .inv in
-    ⊎-elim
-    (λ w. rw (w .1) (leaf-passed passing (omega arith) (omega arith)))
-    (λ w. rw (w .1) (fork-passed passing (omega arith) (omega arith)))
-    (c .if1 .came)
+loop-again c = rw (c .type-arity .ensures) (passed (c .before .before .before .loop .inv) (omega arith))
 
 returns : tie.Need-returns Inv-loop μ-loop
 returns c = ends (c .before .loop .inv) (omega arith)
@@ -52,8 +52,9 @@ skip-type-spec =
     Inv-loop
     μ-loop
     loop-holds
-    shared-slice-read-if1
     sub-owed
+    shared-slice-read-type-arity
+    type-arity-requires
     add-owed
     add-end
     loop-less
