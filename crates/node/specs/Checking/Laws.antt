@@ -53,14 +53,14 @@ types-carries types-front f = tt
 
 -- The steps of the pass
 
-gives-accepted : (u t : Ty) → gives u ≡ accepted t → (u ≡ t) × Small t
+pub gives-accepted : (u t : Ty) → gives u ≡ accepted t → (u ≡ t) × Small t
 unfolding gives
 gives-accepted u t e =
     let r = require-accepted (leb (size u) type-limit) TypeTooLarge (accepted u) t e in
     let h : u ≡ t = let d = r .1 in cc in
     (h, rw (← h) (leb-true (size u) type-limit (r .0)))
 
-gives-small : {t : Ty} → Small t → gives t ≡ accepted t
+pub gives-small : {t : Ty} → Small t → gives t ≡ accepted t
 unfolding gives
 gives-small {t} h = rw (le-leb (size t) type-limit h)
 

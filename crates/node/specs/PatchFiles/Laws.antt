@@ -191,13 +191,13 @@ node-section-sound s n r b e =
     let g = tree-sound TooManyNodes node-root IsNode node-bytes count root-sound node-limit tt (f .body) n [] (f .body-bytes) (f .inside) in
     record { bytes = rw (g .bytes) (f .bytes); carries = g .is; few = g .few }
 
-record FoundPatch (s : List ℕ) (p : Patch) : Type 0 where
-  bytes : patch-file-bytes (p .input) (p .node) ≡ s
-  input-small : Small (p .input)
-  carries : Carries (p .node)
-  few : count (p .node) ≤ node-limit
+pub record FoundPatch (s : List ℕ) (p : Patch) : Type 0 where
+  pub bytes : patch-file-bytes (p .input) (p .node) ≡ s
+  pub input-small : Small (p .input)
+  pub carries : Carries (p .node)
+  pub few : count (p .node) ≤ node-limit
 
-first-pass-sound : (s : List ℕ) (p : Patch) → Bytes s → first-pass s ≡ accepted p → FoundPatch s p
+pub first-pass-sound : (s : List ℕ) (p : Patch) → Bytes s → first-pass s ≡ accepted p → FoundPatch s p
 unfolding first-pass patch-sections patch-file-bytes
 first-pass-sound s p b e =
     let w = whole-sound LeftOver (patch-sections s) p e in
