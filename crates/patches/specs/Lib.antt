@@ -1,0 +1,2 @@
+pub mod PatchReads
+pub mod Typing

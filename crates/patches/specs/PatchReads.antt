@@ -1,0 +1,38 @@
+-- What the reader of patch files tells its caller: where a patch stands, or the first fault.
+use mathlib.Core.Path.{_≡_}
+use mathlib.Core.List.{List, [], _∷_}
+use Prim.Native.Nat.{ℕ, _+_}
+use lib.ListN.{length, getD, drop}
+use Rattle.files.specs.TypeReads.{in-file}
+use Rattle.stream.specs.Types.{size}
+use Rattle.stream.specs.Reading.{Result, accepted, refused}
+use Rattle.node.specs.Nodes.{Node}
+use Rattle.node.specs.Checking.Laws.{Carries}
+use Rattle.node.specs.PatchFiles.{Patch, node-bytes}
+use Rattle.patches.specs.declared.reading.Patch.{Patch as Place}
+use Rattle.patches.specs.declared.reading.PatchRead.{PatchRead}
+use Rattle.patches.specs.declared.reading.PatchRead.the-variants.{Whole, Refused}
+pub mod Laws
+pub mod Standing
+
+-- How many parts a node's kind has.
+abbrev pub node-arity : ℕ → ℕ
+node-arity k = getD (0 ∷ 0 ∷ 0 ∷ 0 ∷ 2 ∷ 0 ∷ 0 ∷ 0 ∷ 0 ∷ 2 ∷ 2 ∷ []) k 0
+
+-- The input type of a patch file stands behind the two bytes of its section's count, and the nodes behind those of theirs.
+abbrev pub in-patch-file : Patch → Place
+in-patch-file p = record { input = in-file (p .input); nodes = 2 + size (p .input) + 2 }
+
+unfoldable pub patch-read : Result Patch → PatchRead
+patch-read (accepted p) = Whole (in-patch-file p)
+patch-read (refused e) = Refused e
+
+-- The number of a node's bytes.
+abbrev pub width : Node → ℕ
+width n = length (node-bytes n [])
+
+-- A node stands at a place of some bytes, and what it carries is within the limits; what stands behind it is free.
+pub record NodeAt (bytes : List ℕ) (at : ℕ) (n : Node) : Type 0 where
+  pub rest : List ℕ
+  pub here : drop at bytes ≡ node-bytes n rest
+  pub carries : Carries n
