@@ -1,2 +1,3 @@
+mod CheckOutcome
 pub mod Keeping
 pub mod Opening

@@ -2,9 +2,17 @@
 use crate::Admitted;
 use crate::Written;
 use crate::admit;
+use crate::check;
 use crate::join;
 use crate::left;
-ghost use Rattle.wosthile.specs.Promises.{AdmitPromise, LeftPromise, JoinPromise};
+ghost use Rattle.wosthile.specs.Promises.{CheckPromise, AdmitPromise, LeftPromise, JoinPromise};
+
+#[no_mangle]
+pub extern "C" fn wosthile_check(patch: &[u8], out: &mut [u8]) -> Written
+    ensures { λ r. ⌜ CheckPromise (now (patch .entry)) (now (out .entry)) r (now (out .exit)) ⌝ }
+{
+    check(patch, out)
+}
 
 #[no_mangle]
 pub extern "C" fn wosthile_admit(ty: &[u8], slice: &[u8]) -> Admitted

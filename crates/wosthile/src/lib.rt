@@ -7,11 +7,16 @@ use files::types::read_type_file;
 use files::writing::write_derivative;
 use files::writing::write_joined_file;
 use files::writing::write_left_file;
+use files::writing::write_type_file;
+use patches::reading::PatchRead;
+use patches::reading::read_patch_file;
+use patches::typing::Typed;
+use patches::typing::type_node;
 use stream::Fault;
 use stream::number_of;
 ghost use mathlib.Core.Path.{_≡_};
 ghost use Rattle.stream.specs.Faults.{number};
-ghost use Rattle.wosthile.specs.Promises.{AdmitPromise, LeftPromise, JoinPromise};
+ghost use Rattle.wosthile.specs.Promises.{CheckPromise, AdmitPromise, LeftPromise, JoinPromise};
 
 pub mod exports;
 
@@ -54,6 +59,32 @@ fn turn_down(fault: Fault) -> Admitted
     Admitted {
         number: number_of(fault),
         complete: 0,
+    }
+}
+
+// The file of the type that the patch gives.
+pub fn check(patch: &[u8], out: &mut [u8]) -> Written
+    ensures { λ r. ⌜ CheckPromise (now (patch .entry)) (now (out .entry)) r (now (out .exit)) ⌝ }
+{
+    match read_patch_file(patch) {
+        PatchRead::Refused(fault) => refuse(fault),
+        PatchRead::Whole(place) => {
+            let mut given = [0u8; 255];
+            match type_node(patch, place.input.start, patch, place.nodes, &mut given) {
+                Typed::Failed(fault) => refuse(fault),
+                Typed::Gives(_, size) => {
+                    let needed = 2 + size;
+                    if out.len() < needed {
+                        return refuse(Fault::NoRoom);
+                    }
+                    write_type_file(&given[..size], out);
+                    Written {
+                        number: 0,
+                        written: needed,
+                    }
+                }
+            }
+        }
     }
 }
 

@@ -1,0 +1,71 @@
+-- What Check comes to, by its two passes, and what it has to write.
+use mathlib.Core.Path.{_≡_, sym, _∙_}
+use mathlib.Core.List.{List, []}
+use Prim.Native.Nat.{ℕ, _+_, _≤_}
+use native.Mathlib.Omega.{arith}
+use lib.ListN.{length, take}
+use Rattle.stream.specs.declared.Fault.{Fault}
+use Rattle.stream.specs.Types.{Ty}
+use Rattle.stream.specs.Types.Laws.{limit-is}
+use Rattle.stream.specs.Reading.{accepted, refused}
+use Rattle.stream.specs.TypeFiles.{type-bytes, type-file-bytes}
+use Rattle.files.specs.TypeReads.Laws.{bytes-at, type-width}
+use Rattle.files.specs.Writing.{TypeFileDue}
+use Rattle.files.specs.Writing.Standing.{type-file-size, written-stands}
+use Rattle.node.specs.Checking.{typing}
+use Rattle.node.specs.PatchFiles.{first-pass, second-pass, patch-file}
+use Rattle.patches.specs.declared.reading.Patch.{Patch as Place}
+use Rattle.patches.specs.declared.typing.Typed.{Typed}
+use Rattle.patches.specs.declared.typing.Typed.the-variants.{Gives, Failed}
+use Rattle.patches.specs.PatchReads.Standing.{AcceptedPatch}
+use Rattle.patches.specs.Typing.{Answers}
+use Rattle.patches.specs.Typing.Laws.{IsGiven, is-given, is-refused, typing-small}
+use Rattle.wosthile.specs.Answers.{check}
+
+pub not-read : (file : List ℕ) {e : Fault} → first-pass file ≡ refused e → check file ≡ refused e
+unfolding check patch-file
+not-read file h = rw h
+
+-- A type of `many` nodes is given, and its bytes stand at the front of the work array `given`.
+pub record TypeGiven (file given : List ℕ) (many : ℕ) : Type 0 where
+  pub output : Ty
+  pub is-typed : check file ≡ accepted (type-file-bytes output)
+  pub small : many ≤ 255
+  pub inside : many ≤ length given
+  pub long : length (type-file-bytes output) ≡ 2 + many
+  pub bytes : take many given ≡ type-bytes output []
+
+module _ {file : List ℕ} {place : Place} (read : AcceptedPatch file place) {end-due : ℕ} {lent given : List ℕ} {answer : Typed}
+    (answers : Answers end-due (typing (read .patch .input) (read .patch .node)) lent given answer) where
+  pub not-typed : {e : Fault} → answer ≡ Failed e → check file ≡ refused e
+  unfolding check patch-file second-pass
+  not-typed h = rw (read .is-accepted, is-refused end-due _ (sym h ∙ answers .answers))
+
+  -- The work array has room for every type within the limit.
+  pub type-given : {end many : ℕ} → 255 ≤ length lent → answer ≡ Gives end many → TypeGiven file given many
+  unfolding check patch-file second-pass
+  type-given {end} {many} room h = go (is-given end-due (typing (read .patch .input) (read .patch .node)) (sym h ∙ answers .answers))
+    where
+      go : IsGiven end-due end many (typing (read .patch .input) (read .patch .node)) → TypeGiven file given many
+      go gives =
+          let t = gives .type in
+          let small = typing-small _ _ (read .node-at .carries) (gives .given) in
+          let front = answers .writes t (gives .given) .in-front (omega (arith, type-width t, small, limit-is)) in
+          record {
+            output = t;
+            is-typed = rw (read .is-accepted, gives .given);
+            small = omega (arith, gives .sized, small, limit-is);
+            inside = omega (arith, gives .sized, small, limit-is, answers .long);
+            long = omega (arith, gives .sized, type-file-size t);
+            bytes = rw (gives .sized) (bytes-at (written-stands t lent front small));
+          }
+
+abbrev pub type-file-due : {file given : List ℕ} {many : ℕ} → TypeGiven file given many → (out : List ℕ) → 2 + many ≤ length out
+    → TypeFileDue (take many given) out
+type-file-due {given} t out room =
+    record {
+      type = t .output;
+      here = t .bytes;
+      countable = omega (arith, t .small, t .long, type-file-size (t .output));
+      room = omega (arith, t .long, type-file-size (t .output));
+    }

@@ -1,0 +1,130 @@
+-- `check` meets its contract: the reader says where the patch stands in the file; the type that it gives is written in the work
+-- array, which has room for every type that the second pass accepts; it is copied only where there is room for its file.
+use borrow.Author.Needs.{needs}
+use mathlib.Core.Path.{sym}
+use mathlib.Core.List.{List}
+use Prim.Native.Nat.{ℕ}
+use native.Mathlib.Omega.{arith}
+use lib.Seq.{length-take-le}
+use Rattle.stream.specs.TypeFiles.{type-file-bytes}
+use Rattle.patches.specs.PatchReads.Standing.{AcceptedPatch, patch-accepted, patch-refused}
+use Rattle.patches.specs.Typing.{TypingDue}
+use Rattle.wosthile.proofs.Keeping.{refusal-keeps, shortage-keeps, file-keeps}
+use Rattle.wosthile.proofs.CheckOutcome.{not-read, TypeGiven, not-typed, type-given, type-file-due}
+use Rattle.wosthile.proofs.check.Statement.{statement}
+use Rattle.wosthile.proofs.check.Tie as tie
+
+read-patch-file-requires : tie.Need-read-patch-file-requires
+read-patch-file-requires c κs = search needs
+
+enum-known-fault : tie.Need-enum-known-fault
+enum-known-fault c = search needs
+
+refuse-requires : tie.Need-refuse-requires
+refuse-requires c κs = search needs
+
+enum-known-place : tie.Need-enum-known-place
+enum-known-place c = search needs
+
+-- The first pass accepts the patch.
+abbrev file-of : tie.After-read-patch-file → List ℕ
+file-of c = c .before .before .before .args .patch .now
+
+patch-of : (c : tie.After-known-told2) → AcceptedPatch (file-of (c .before .before .before)) (c .before .place .given .0 .0)
+patch-of c =
+    let read = c .before .before .before in
+    patch-accepted (file-of read) (read .read-patch-file .ensures) (λ i. omega (arith, read .before .before .shared-slice-known .given i)) _ (c .before .place .given .1)
+
+abbrev due : (c : tie.After-known-told2)
+    → (let file = file-of (c .before .before .before) in
+    TypingDue file (c .before .place .given .0 .0 .input .start) file (c .before .place .given .0 .0 .nodes))
+due c = let p = patch-of c in record { type = p .patch .input; node = p .patch .node; type-at = p .type-at; node-at = p .node-at }
+
+slice-aggregate-type-node : tie.Need-slice-aggregate-type-node
+slice-aggregate-type-node c = search needs
+
+type-node-requires : tie.Need-type-node-requires
+type-node-requires c κs = due (c .before)
+
+enum-known-fault-2 : tie.Need-enum-known-fault-2
+enum-known-fault-2 c = search needs
+
+refuse-requires-2 : tie.Need-refuse-requires-2
+refuse-requires-2 c κs = search needs
+
+enum-known-size : tie.Need-enum-known-size
+enum-known-size c = search needs
+
+-- The second pass gives a type, which stands in the work array.
+type-of : (c : tie.After-known-told4)
+    → (let typed = c .before .before .before .before in
+    TypeGiven (file-of (typed .before .before .before .before .before)) (typed .type-node .last .1 .1 .1 .1 .0) (c .before .size .given .0 .1 .0))
+type-of c =
+    let typed = c .before .before .before .before in
+    let patch = typed .before .before in
+    type-given (patch-of patch) (typed .type-node .ensures .each (due patch)) (omega arith) (c .before .size .given .1)
+
+add-needed : tie.Need-add-needed
+add-needed c = omega (arith, type-of c .small)
+
+refuse-requires-3 : tie.Need-refuse-requires-3
+refuse-requires-3 c κs = search needs
+
+returns : tie.Need-returns
+returns c =
+    let t = type-of (c .before .before) in
+    rw (c .refuse3 .ensures) (shortage-keeps _ (type-file-bytes (t .output)) (t .is-typed) (omega (arith, t .long)))
+
+array-share-prefix-given : tie.Need-array-share-prefix-given
+array-share-prefix-given c = type-of (c .before) .inside
+
+slice-aggregate-write-type-file : tie.Need-slice-aggregate-write-type-file
+slice-aggregate-write-type-file c = sym (length-take-le _ _ (type-of (c .before .before) .inside))
+
+write-type-file-requires : tie.Need-write-type-file-requires
+write-type-file-requires c κs = type-file-due (type-of (c .before .before .before)) _ (omega arith)
+
+returns-2 : tie.Need-returns-2
+returns-2 c =
+    let read = c .before .before .before .before in
+    let e = patch-refused (file-of read) (read .read-patch-file .ensures) _ (c .before .before .fault .given .1) in
+    rw (c .refuse .ensures) (refusal-keeps _ _ (not-read _ e))
+
+returns-3 : tie.Need-returns-3
+returns-3 c =
+    let typed = c .before .before .before .before .before in
+    let patch = typed .before .before in
+    rw (c .refuse2 .ensures) (refusal-keeps _ _ (not-typed (patch-of patch) (typed .type-node .ensures .each (due patch)) (c .before .before .fault2 .given .1)))
+
+same-length : tie.Need-same-length
+same-length c = search needs
+
+returns-4 : tie.Need-returns-4
+returns-4 c =
+    let t = type-of (c .before .before .before .before .before .before) in
+    file-keeps _ (type-file-bytes (t .output)) (t .is-typed) (omega (arith, t .long)) (sym (t .long))
+    (c .before .before .write-type-file .ensures .each (type-file-due t _ (omega arith)))
+
+pub check-spec : {M : Type 1} → statement M
+check-spec =
+    tie.close
+    (tie.spec
+    read-patch-file-requires
+    enum-known-fault
+    refuse-requires
+    enum-known-place
+    slice-aggregate-type-node
+    type-node-requires
+    enum-known-fault-2
+    refuse-requires-2
+    enum-known-size
+    add-needed
+    refuse-requires-3
+    returns
+    array-share-prefix-given
+    slice-aggregate-write-type-file
+    write-type-file-requires
+    returns-2
+    returns-3
+    same-length
+    returns-4)
