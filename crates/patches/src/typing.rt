@@ -245,7 +245,15 @@ pub fn type_node(types: &[u8], at: usize, nodes: &[u8], from: usize, out: &mut [
 }
 
 // The type of the kind `kind` that the two nodes at `from` give together, one on the type at `first`, one on that at `second`.
-fn type_parts(kind: u8, types: &[u8], first: usize, second: usize, nodes: &[u8], from: usize, out: &mut [u8]) -> Typed
+fn type_parts(
+    kind: u8,
+    types: &[u8],
+    first: usize,
+    second: usize,
+    nodes: &[u8],
+    from: usize,
+    out: &mut [u8],
+) -> Typed
     requires { ⌜ PartsDue kind (now types) first second (now nodes) from ⌝ }
     ensures { λ r. ⌜ TypesParts kind (now (types .entry)) first second (now (nodes .entry)) from (now (out .entry)) (now (out .exit)) r ⌝ }
 {
