@@ -1,15 +1,18 @@
 /*
- * Wosthile: type files and slice files, for C and C++ on x86-64.
+ * Wosthile: patch files, type files and slice files, for C and C++ on x86-64.
  *
  * A stream has a type: a tree of cues and 16-bit levels, of parts that follow one another and of parts that run side
- * by side. A slice says what has come of a stream so far. Three operations work on the files of both:
+ * by side. A slice says what has come of a stream so far. A patch is a tree of nodes that takes a stream of one type to
+ * a stream of another. Four operations work on the files of all three:
  *
+ *   wosthile_check   is this a patch, and which type has the stream that it sends?
  *   wosthile_admit   is this a slice of that type, and has everything come?
  *   wosthile_left    what the slice leaves of the type: what is still to come
  *   wosthile_join    two slices, the second of what the first leaves, as one slice
  *
- * Files. A file is one section: a count of two bytes, the high byte first, and then that many bytes. They hold one
- * tree in preorder: the root, then its parts from left to right. All values below are decimal.
+ * Files. A section is a count of two bytes, the high byte first, and then that many bytes. They hold one tree in
+ * preorder: the root, then its parts from left to right. A type file and a slice file are one section; a patch file is
+ * two, the type of its input and then its nodes. All values below are decimal.
  *
  *   type     0 empty    1 cue    2 level    3 sequence, two types    4 side by side, two types
  *   slice    of 0:  0
@@ -18,6 +21,22 @@
  *            of 3:  5 and a slice of the first part; or 6, crossed, and a complete slice of the first part and a
  *                   slice of the second
  *            of 4:  7 and a slice of each part
+ *   node     0 pass                       gives the type of its input
+ *            1 silent, then a type        gives that type, which has to be nullable
+ *            2 cue                        gives cue
+ *            3 level, then two bytes      gives level
+ *            4 both, two nodes            each on the whole input; gives what they give, side by side
+ *            5 left, 6 right              of an input side by side, gives that part
+ *            7 first, 8 second            of a sequence, gives that part
+ *            9 then, two nodes            one on each part of a sequence; gives what they give, in sequence
+ *            10 chain, two nodes          the second on what the first gives; gives what the second gives
+ *            11 regroup right             of 3 3 s t r gives 3 s 3 t r
+ *            12 regroup left              of 3 s 3 t r gives 3 3 s t r
+ *            13 spread                    of 3 s 4 t r gives 4 3 s t 3 s r
+ *            14 front                     of s gives 3 0 s
+ *
+ * A type is nullable if it is 0, or a 4 with both parts nullable; a sequence never is. A type has at most 255 nodes,
+ * wherever it arises, and a patch at most 63; the nodes of a type that silent carries count for that type alone.
  *
  * A slice is complete if it is 0, 2 or 4, or a 6 whose second slice is complete, or a 7 with both complete. A first
  * part that has fully come is not crossed yet: of type 3 1 1 the slices 5 2 and 6 2 1 differ.
@@ -64,9 +83,9 @@ extern "C" {
 #endif
 
 /*
- * The number in every answer. 1 to 4 speak of a type, 11 to 14 of a slice, 20 of the lent buffer; 5 to 7 speak of a
- * patch and are never answered by the operations in this header. Where one place has several faults, 4 and 5 come
- * before 1 and 1 before 2; in a slice 11 comes before 12 and 12 before 14.
+ * The number in every answer. 1 to 4 speak of a type or a patch, 5 to 7 of a patch alone, 11 to 14 of a slice, 20 of
+ * the lent buffer. Where one place has several faults, 4 and 5 come before 1 and 1 before 2; in a slice 11 comes before
+ * 12 and 12 before 14.
  */
 enum wosthile_number {
     /* The call was accepted. */
@@ -108,6 +127,15 @@ typedef struct {
     uint32_t number;   /* 0, or the number of the first fault */
     uint32_t complete; /* 1 if the slice is complete, 0 if it is not; 0 on a refusal */
 } wosthile_admitted;
+
+/*
+ * Writes to type the file of the type that the patch gives, at most WOSTHILE_TYPE_FILE_MAX bytes; the patch file may be
+ * shorter than that. Refuses the patch with 1 to 7, then with 20.
+ *
+ * The whole file is read first, from left to right, and refused with 1 to 5. Then the nodes are tried in preorder: at a
+ * node 7, then 6, then the faults of its parts, then 4 if the type that it gives needs a 256th node.
+ */
+wosthile_written wosthile_check(const uint8_t *patch, size_t patch_len, uint8_t *type, size_t type_len);
 
 /*
  * Is the file at slice a slice of the type whose file stands at type, and is it complete?

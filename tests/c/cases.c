@@ -1,5 +1,5 @@
 /*
- * Calls of Admit, Left and Join through the header alone, each with the answer that document 01 gives for it.
+ * Calls of Check, Admit, Left and Join through the header alone, each with the answer that document 01 gives for it.
  * Every file stands in memory of its exact size, where a sanitizer sees a byte too many. Every lent buffer stands
  * between two margins, which show a byte written beside it: the archive itself has no sanitizer in it.
  */
@@ -15,11 +15,119 @@ struct bytes {
     size_t count;
 };
 
-/* RAW is a file byte by byte; FILE_OF is the file of one section, given by its contents. */
+/*
+ * RAW is a file byte by byte; FILE_OF is the file of one section, given by its contents; PATCH_OF is the file of two,
+ * each given by its contents in parentheses.
+ */
 #define LENGTH(...) sizeof((const uint8_t[]){__VA_ARGS__})
 #define RAW(...) {(const uint8_t[]){__VA_ARGS__}, LENGTH(__VA_ARGS__)}
 #define FILE_OF(...) {(const uint8_t[]){0, LENGTH(__VA_ARGS__), __VA_ARGS__}, 2 + LENGTH(__VA_ARGS__)}
+#define PATCH_OF(type, nodes) RAW(0, LENGTH type, CONTENTS type, 0, LENGTH nodes, CONTENTS nodes)
+#define CONTENTS(...) __VA_ARGS__
 #define NONE {NULL, 0}
+
+/* Check; the answer counts if the number is 0. */
+struct check_row {
+    const char *name;
+    struct bytes patch;
+    uint32_t number;
+    struct bytes answer;
+};
+
+static const struct check_row check_rows[] = {
+    {"pass", PATCH_OF((3, 1, 2), (0)), 0, FILE_OF(3, 1, 2)},
+    {"silent", PATCH_OF((3, 1, 2), (1, 0)), 0, FILE_OF(0)},
+    {"case 9, a nullable silent", PATCH_OF((1), (1, 4, 0, 0)), 0, FILE_OF(4, 0, 0)},
+    {"case 8, cue", PATCH_OF((1), (2)), 0, FILE_OF(1)},
+    {"cue on a sequence", PATCH_OF((3, 2, 2), (2)), 0, FILE_OF(1)},
+    {"level", PATCH_OF((4, 1, 1), (3, 1, 44)), 0, FILE_OF(2)},
+    {"value bytes are no kinds", PATCH_OF((1), (4, 3, 200, 255, 3, 4, 4)), 0, FILE_OF(4, 2, 2)},
+    {"both, each on the whole", PATCH_OF((2), (4, 0, 2)), 0, FILE_OF(4, 2, 1)},
+    {"case 1, swap", PATCH_OF((4, 1, 2), (4, 6, 5)), 0, FILE_OF(4, 2, 1)},
+    {"left", PATCH_OF((4, 3, 1, 2, 0), (5)), 0, FILE_OF(3, 1, 2)},
+    {"right", PATCH_OF((4, 3, 1, 2, 0), (6)), 0, FILE_OF(0)},
+    {"first", PATCH_OF((3, 4, 1, 2, 0), (7)), 0, FILE_OF(4, 1, 2)},
+    {"second", PATCH_OF((3, 4, 1, 2, 0), (8)), 0, FILE_OF(0)},
+    {"then", PATCH_OF((3, 1, 2), (9, 14, 0)), 0, FILE_OF(3, 3, 0, 1, 2)},
+    {"chain, the second on what the first gives", PATCH_OF((3, 4, 1, 2, 0), (10, 7, 6)), 0, FILE_OF(2)},
+    {"case 2, prepend", PATCH_OF((1), (10, 14, 9, 2, 0)), 0, FILE_OF(3, 1, 1)},
+    {"regroup right", PATCH_OF((3, 3, 0, 1, 2), (11)), 0, FILE_OF(3, 0, 3, 1, 2)},
+    {"regroup left", PATCH_OF((3, 0, 3, 1, 2), (12)), 0, FILE_OF(3, 3, 0, 1, 2)},
+    {"spread", PATCH_OF((3, 0, 4, 1, 2), (13)), 0, FILE_OF(4, 3, 0, 1, 3, 0, 2)},
+    {"spread of larger parts", PATCH_OF((3, 3, 1, 1, 4, 2, 4, 0, 0), (13)), 0,
+     FILE_OF(4, 3, 3, 1, 1, 2, 3, 3, 1, 1, 4, 0, 0)},
+    {"front", PATCH_OF((4, 1, 2), (14)), 0, FILE_OF(3, 0, 4, 1, 2)},
+
+    {"no file", NONE, 1, NONE},
+    {"half a count", RAW(0), 1, NONE},
+    {"type section without contents", RAW(0, 0), 1, NONE},
+    {"type section without contents, then nodes", RAW(0, 0, 0, 1, 0), 1, NONE},
+    {"type section longer than the file", RAW(0, 2, 1), 1, NONE},
+    {"the length of the type before its contents", RAW(0, 2, 200), 1, NONE},
+    {"type section that claims 65535 bytes", RAW(255, 255, 1, 0, 1, 0), 1, NONE},
+    {"type tree cut short", PATCH_OF((3, 1), (0)), 1, NONE},
+    {"no second section", FILE_OF(1), 1, NONE},
+    {"half a second count", RAW(0, 1, 1, 0), 1, NONE},
+    {"node section without contents", RAW(0, 1, 1, 0, 0), 1, NONE},
+    {"node section longer than the file", RAW(0, 1, 1, 0, 2, 0), 1, NONE},
+    {"the length of the nodes before their contents", RAW(0, 1, 1, 0, 2, 200), 1, NONE},
+    {"node tree cut short", PATCH_OF((1), (4, 0)), 1, NONE},
+    {"silent without its type", PATCH_OF((1), (1)), 1, NONE},
+    {"silent with half its type", PATCH_OF((1), (1, 4, 0)), 1, NONE},
+    {"level without its value", PATCH_OF((1), (3)), 1, NONE},
+    {"level with half its value", PATCH_OF((1), (3, 1)), 1, NONE},
+    {"the section ends before the byte behind it", RAW(0, 1, 1, 0, 2, 10, 0, 0), 1, NONE},
+
+    {"unlisted type kind", PATCH_OF((200), (0)), 2, NONE},
+    {"unlisted type kind before the next section", RAW(0, 1, 19, 0, 9), 2, NONE},
+    {"unlisted node kind", PATCH_OF((1), (19)), 2, NONE},
+    {"unlisted node kind below", PATCH_OF((1), (4, 0, 255)), 2, NONE},
+    {"unlisted kind in a carried type", PATCH_OF((1), (1, 4, 0, 19)), 2, NONE},
+    {"a node kind in a carried type", PATCH_OF((1), (1, 14)), 2, NONE},
+    {"unlisted kind before a byte behind", RAW(0, 1, 1, 0, 1, 77, 0), 2, NONE},
+    {"the first fault from the left", PATCH_OF((1), (4, 19, 3, 1)), 2, NONE},
+
+    {"bytes after the type", PATCH_OF((1, 1), (0)), 3, NONE},
+    {"bytes after the type are not looked at", PATCH_OF((1, 200), (0)), 3, NONE},
+    {"bytes after the type before the next section", FILE_OF(1, 1), 3, NONE},
+    {"bytes after the nodes", PATCH_OF((1), (0, 0)), 3, NONE},
+    {"bytes after the nodes are not looked at", PATCH_OF((1), (0, 200)), 3, NONE},
+    {"bytes after a carried type", PATCH_OF((1), (1, 0, 0)), 3, NONE},
+    {"bytes after the last section", RAW(0, 1, 1, 0, 1, 0, 0), 3, NONE},
+
+    {"case 9, a silent that is not nullable", PATCH_OF((1), (1, 3, 0, 0)), 6, NONE},
+    {"silent cue", PATCH_OF((1), (1, 1)), 6, NONE},
+    {"silent level", PATCH_OF((1), (1, 2)), 6, NONE},
+    {"silent, one side not nullable", PATCH_OF((1), (1, 4, 4, 0, 0, 1)), 6, NONE},
+
+    {"case 9, left on a sequence", PATCH_OF((3, 1, 1), (5)), 7, NONE},
+    {"right on a cue", PATCH_OF((1), (6)), 7, NONE},
+    {"first on side by side", PATCH_OF((4, 1, 1), (7)), 7, NONE},
+    {"second on a level", PATCH_OF((2), (8)), 7, NONE},
+    {"then on side by side", PATCH_OF((4, 1, 1), (9, 0, 0)), 7, NONE},
+    {"regroup right on side by side", PATCH_OF((4, 3, 1, 1, 1), (11)), 7, NONE},
+    {"regroup right, the first part is no sequence", PATCH_OF((3, 4, 1, 1, 1), (11)), 7, NONE},
+    {"regroup right, only the second part is a sequence", PATCH_OF((3, 1, 3, 1, 1), (11)), 7, NONE},
+    {"regroup left on side by side", PATCH_OF((4, 1, 3, 1, 1), (12)), 7, NONE},
+    {"regroup left, the second part is no sequence", PATCH_OF((3, 1, 4, 1, 1), (12)), 7, NONE},
+    {"regroup left, only the first part is a sequence", PATCH_OF((3, 3, 1, 1, 1), (12)), 7, NONE},
+    {"spread on side by side", PATCH_OF((4, 1, 4, 1, 1), (13)), 7, NONE},
+    {"spread, the second part is a sequence", PATCH_OF((3, 1, 3, 1, 1), (13)), 7, NONE},
+    {"spread, only the first part is side by side", PATCH_OF((3, 4, 1, 1, 1), (13)), 7, NONE},
+    {"the second of a chain takes what the first gives", PATCH_OF((3, 1, 1), (10, 7, 7)), 7, NONE},
+
+    {"reading before typing, 1", PATCH_OF((1), (10, 5)), 1, NONE},
+    {"reading before typing, 2", PATCH_OF((1), (10, 5, 99)), 2, NONE},
+    {"reading before typing, 3", RAW(0, 1, 1, 0, 1, 5, 0), 3, NONE},
+    {"reading before typing, silent", PATCH_OF((1), (4, 1, 1, 99)), 2, NONE},
+    {"preorder, 7 and then 6", PATCH_OF((1), (4, 5, 1, 1)), 7, NONE},
+    {"preorder, 6 and then 7", PATCH_OF((1), (4, 1, 1, 5)), 6, NONE},
+    {"then before its parts", PATCH_OF((1), (9, 1, 1, 0)), 7, NONE},
+    {"the first part of then before the second", PATCH_OF((3, 1, 1), (9, 1, 1, 5)), 6, NONE},
+    {"the second part of then is tried", PATCH_OF((3, 1, 1), (9, 0, 5)), 7, NONE},
+    {"the first part of chain before the second, 6", PATCH_OF((1), (10, 1, 1, 5)), 6, NONE},
+    {"the first part of chain before the second, 7", PATCH_OF((1), (10, 5, 1, 1)), 7, NONE},
+};
 
 struct admit_row {
     const char *name;
@@ -81,10 +189,10 @@ static const struct admit_row admit_rows[] = {
     {"side by side on a sequence", FILE_OF(3, 1, 1), FILE_OF(7, 2, 1), {14, 0}},
 };
 
-/* Left, and Join where a second slice is given; the answer counts if the number is 0. */
+/* An operation that writes: Check of a patch, Left of a type and a slice, Join of a type and two slices. */
 struct writing_row {
     const char *name;
-    struct bytes type, first, second;
+    struct bytes file, first, second; /* the patch or the type, and the slices; none where it takes fewer */
     uint32_t number;
     struct bytes answer;
 };
@@ -220,29 +328,41 @@ static void check_admit(const struct admit_row *row)
     free(slice);
 }
 
-enum writing { LEFT, JOIN };
+enum writing { CHECK, LEFT, JOIN };
+
+static const char *const writing_names[] = {"Check", "Left", "Join"};
+
+/* The call, on copies of the row's files. */
+static wosthile_written call(enum writing operation, const struct writing_row *row, uint8_t *const copies[3],
+                             uint8_t *buffer, size_t room)
+{
+    size_t file = row->file.count, first = row->first.count, second = row->second.count;
+    switch (operation) {
+    case CHECK:
+        return wosthile_check(copies[0], file, buffer, room);
+    case LEFT:
+        return wosthile_left(copies[0], file, copies[1], first, buffer, room);
+    default:
+        return wosthile_join(copies[0], file, copies[1], first, copies[2], second, buffer, room);
+    }
+}
 
 /* One call with a buffer of this length: 20 if it is too short for an answer that the row accepts. */
 static void check_room(enum writing operation, const struct writing_row *row, size_t room)
 {
-    uint8_t *type = copy_of(row->type);
-    uint8_t *first = copy_of(row->first);
-    uint8_t *second = copy_of(row->second);
+    uint8_t *copies[] = {copy_of(row->file), copy_of(row->first), copy_of(row->second)};
     uint8_t *memory = lent_memory(room);
     uint8_t *buffer = room > 0 ? memory + MARGIN : NULL;
     bool fits = row->number == WOSTHILE_ACCEPTED && room >= row->answer.count;
     uint32_t number = row->number == WOSTHILE_ACCEPTED && !fits ? WOSTHILE_BUFFER_TOO_SHORT : row->number;
     struct bytes expected = {fits ? row->answer.at : NULL, fits ? row->answer.count : 0};
-    wosthile_written answer =
-        operation == LEFT
-            ? wosthile_left(type, row->type.count, first, row->first.count, buffer, room)
-            : wosthile_join(type, row->type.count, first, row->first.count, second, row->second.count, buffer, room);
+    wosthile_written answer = call(operation, row, copies, buffer, room);
     bool right = answer.number == number && answer.written == expected.count && holds(memory, room, expected);
-    right = right && unaltered(type, row->type) && unaltered(first, row->first) && unaltered(second, row->second);
-    count(right, operation == LEFT ? "Left" : "Join", row->name, room);
-    free(type);
-    free(first);
-    free(second);
+    right = right && unaltered(copies[0], row->file) && unaltered(copies[1], row->first);
+    count(right && unaltered(copies[2], row->second), writing_names[operation], row->name, room);
+    for (size_t copy = 0; copy < 3; copy++) {
+        free(copies[copy]);
+    }
     free(memory);
 }
 
@@ -263,23 +383,49 @@ static void check_writing(enum writing operation, const struct writing_row *row)
     check_room(operation, row, 1000);
 }
 
-/* A file whose contents repeat a few bytes so many times and then end in others. */
-static struct bytes repeated(struct bytes part, size_t times, struct bytes end)
+static void check_patch(const struct check_row *row)
 {
-    size_t contents = part.count * times + end.count;
+    const struct bytes none = NONE;
+    struct writing_row written = {row->name, row->patch, none, none, row->number, row->answer};
+    check_writing(CHECK, &written);
+}
+
+/* A section that begins with a few bytes, then repeats others so many times, and ends in a few more. */
+struct section {
+    struct bytes front, part;
+    size_t times;
+    struct bytes end;
+};
+
+static uint8_t *append(uint8_t *to, struct bytes bytes)
+{
+    if (bytes.count > 0) {
+        memcpy(to, bytes.at, bytes.count);
+    }
+    return to + bytes.count;
+}
+
+/* The file of one section. */
+static struct bytes file_of(struct section section)
+{
+    size_t contents = section.front.count + section.part.count * section.times + section.end.count;
     uint8_t *file = malloc(contents + 2);
     if (file == NULL) {
         abort();
     }
     file[0] = (uint8_t)(contents / 256);
     file[1] = (uint8_t)(contents % 256);
-    for (size_t time = 0; time < times; time++) {
-        memcpy(file + 2 + time * part.count, part.at, part.count);
+    uint8_t *next = append(file + 2, section.front);
+    for (size_t time = 0; time < section.times; time++) {
+        next = append(next, section.part);
     }
-    if (end.count > 0) {
-        memcpy(file + 2 + part.count * times, end.at, end.count);
-    }
+    append(next, section.end);
     return (struct bytes){file, contents + 2};
+}
+
+static struct bytes repeated(struct bytes part, size_t times, struct bytes end)
+{
+    return file_of((struct section){NONE, part, times, end});
 }
 
 /* The file with bytes behind it up to a length, whatever its count says. */
@@ -331,6 +477,135 @@ static void check_limit(void)
     release(files, sizeof files / sizeof files[0]);
 }
 
+/* Check of patches about the limits of 63 and 255 nodes. */
+struct limit_row {
+    const char *name;
+    struct section type, nodes;
+    uint32_t number;
+    struct section answer;
+};
+
+/* SECTION is given by its contents; LANES is a type of one node more than twice its number. */
+#define SECTION(...) {RAW(__VA_ARGS__), NONE, 0, NONE}
+#define LANES(times) {NONE, RAW(4, 1), times, RAW(1)}
+#define NO_SECTION {NONE, NONE, 0, NONE}
+
+static const struct limit_row limit_rows[] = {
+    {"case 10, 63 nodes", SECTION(1), {NONE, RAW(10, 0), 31, RAW(0)}, 0, SECTION(1)},
+    {"case 10, 65 nodes", SECTION(1), {NONE, RAW(10, 0), 32, RAW(0)}, 5, NO_SECTION},
+    {"a 64th node is needed", SECTION(1), {NONE, RAW(10, 0), 31, RAW(10)}, 5, NO_SECTION},
+    {"a 64th node is needed before it is unlisted", SECTION(1), {NONE, RAW(10, 0), 31, RAW(10, 200)}, 5, NO_SECTION},
+    {"62 chains and nothing more", SECTION(1), {NONE, RAW(10), 62, NONE}, 1, NO_SECTION},
+    {"63 chains and nothing more", SECTION(1), {NONE, RAW(10), 63, NONE}, 5, NO_SECTION},
+    {"a byte after 63 nodes", SECTION(1), {NONE, RAW(10, 0), 31, RAW(0, 0)}, 3, NO_SECTION},
+    {"the limit of nodes before a wrong shape", SECTION(1), {NONE, RAW(10, 5), 32, RAW(0)}, 5, NO_SECTION},
+    {"65535 chains", SECTION(1), {NONE, RAW(10), 65535, NONE}, 5, NO_SECTION},
+    {"63 levels and pairs", SECTION(1), {NONE, RAW(4, 3, 200, 200), 31, RAW(2)}, 0, {NONE, RAW(4, 2), 31, RAW(1)}},
+
+    {"case 10, a type of 255", LANES(127), SECTION(0), 0, LANES(127)},
+    {"case 10, a type of 257", LANES(128), SECTION(0), 4, NO_SECTION},
+    {"a 256th type node is needed", {NONE, RAW(4, 1), 127, RAW(4)}, SECTION(0), 4, NO_SECTION},
+    {"a 256th is needed before it is unlisted", {NONE, RAW(4, 1), 127, RAW(4, 200)}, SECTION(0), 4, NO_SECTION},
+    {"254 forks and nothing more", {NONE, RAW(4), 254, NONE}, SECTION(0), 1, NO_SECTION},
+    {"255 forks and nothing more", {NONE, RAW(4), 255, NONE}, SECTION(0), 4, NO_SECTION},
+    {"a byte after a type of 255", {NONE, RAW(4, 1), 127, RAW(1, 1)}, SECTION(0), 3, NO_SECTION},
+    {"a type of 257 before an unlisted node", LANES(128), SECTION(19), 4, NO_SECTION},
+
+    {"a carried type of 255", SECTION(1), {RAW(1), RAW(4, 0), 127, RAW(0)}, 0, {NONE, RAW(4, 0), 127, RAW(0)}},
+    {"a carried type of 257", SECTION(1), {RAW(1), RAW(4, 0), 128, RAW(0)}, 4, NO_SECTION},
+    {"a carried type needs a 256th", SECTION(1), {RAW(1), RAW(4, 0), 127, RAW(4)}, 4, NO_SECTION},
+    {"a carried type needs a 256th that is unlisted", SECTION(1), {RAW(1), RAW(4, 0), 127, RAW(4, 200)}, 4, NO_SECTION},
+    {"a carried type of 254 forks", SECTION(1), {RAW(1), RAW(4), 254, NONE}, 1, NO_SECTION},
+    {"a carried type of 257 before 6", SECTION(1), {RAW(1), RAW(4, 1), 128, RAW(1)}, 4, NO_SECTION},
+    {"a carried type of 255 that is not nullable", SECTION(1), {RAW(1), RAW(4, 0), 127, RAW(1)}, 6, NO_SECTION},
+    {"63 nodes beside those of carried types", SECTION(1), {NONE, RAW(10, 1, 4, 0, 0), 31, RAW(1, 0)}, 0, SECTION(0)},
+    {"65 nodes beside those of carried types", SECTION(1), {NONE, RAW(10, 1, 4, 0, 0), 32, RAW(1, 0)}, 5, NO_SECTION},
+
+    {"front gives 255", LANES(126), SECTION(14), 0, {RAW(3, 0), RAW(4, 1), 126, RAW(1)}},
+    {"front gives 257", LANES(127), SECTION(14), 4, NO_SECTION},
+    {"both give 255", LANES(126), SECTION(4, 0, 2), 0, {RAW(4), RAW(4, 1), 126, RAW(1, 1)}},
+    {"both give 257", LANES(127), SECTION(4, 0, 2), 4, NO_SECTION},
+    {"both give 511", LANES(127), SECTION(4, 0, 0), 4, NO_SECTION},
+    {"then gives 255", {RAW(3, 1), RAW(4, 1), 125, RAW(1)}, SECTION(9, 14, 0), 0,
+     {RAW(3, 3, 0, 1), RAW(4, 1), 125, RAW(1)}},
+    {"then gives 257", {RAW(3, 1), RAW(4, 1), 126, RAW(1)}, SECTION(9, 14, 0), 4, NO_SECTION},
+    {"spread gives 255", {RAW(3, 2, 4, 1), RAW(4, 1), 124, RAW(1)}, SECTION(13), 0,
+     {RAW(4, 3, 2, 1, 3, 2), RAW(4, 1), 124, RAW(1)}},
+    {"spread gives 257", {RAW(3, 2, 4, 1), RAW(4, 1), 125, RAW(1)}, SECTION(13), 4, NO_SECTION},
+    {"what stands between two nodes is tried", LANES(127), SECTION(10, 14, 8), 4, NO_SECTION},
+    {"4 of the first of a chain before 7 of the second", LANES(127), SECTION(10, 14, 5), 4, NO_SECTION},
+    {"4 of the first of both before 7 of the second", LANES(127), SECTION(4, 14, 7), 4, NO_SECTION},
+    {"7 of the second before 4 of both", LANES(127), SECTION(4, 0, 7), 7, NO_SECTION},
+    {"6 of the second before 4 of both", LANES(127), SECTION(4, 0, 1, 1), 6, NO_SECTION},
+    {"4 of both inside before 6 of the second", LANES(127), SECTION(4, 4, 0, 0, 1, 1), 4, NO_SECTION},
+    {"7 of the second before 4 of then", {RAW(3, 1), RAW(4, 1), 126, RAW(1)}, SECTION(9, 14, 7), 7, NO_SECTION},
+    {"7 of then before 4 of its part", LANES(127), SECTION(9, 14, 0), 7, NO_SECTION},
+};
+
+/* Check of the patch with these two sections; releases both, and the answer. */
+static void check_sections(const char *name, struct bytes type, struct bytes nodes, uint32_t number,
+                           struct bytes answer)
+{
+    size_t length = type.count + nodes.count;
+    uint8_t *patch = malloc(length);
+    if (patch == NULL) {
+        abort();
+    }
+    append(append(patch, type), nodes);
+    struct check_row row = {name, {patch, length}, number, answer};
+    check_patch(&row);
+    free(patch);
+    struct bytes files[] = {type, nodes, answer};
+    release(files, sizeof files / sizeof files[0]);
+}
+
+static void check_limit_row(const struct limit_row *row)
+{
+    struct bytes answer = NONE;
+    if (row->number == WOSTHILE_ACCEPTED) {
+        answer = file_of(row->answer);
+    }
+    check_sections(row->name, file_of(row->type), file_of(row->nodes), row->number, answer);
+}
+
+/* The longest patch file of all: 32 times silent, each with a type of 255 nodes. With 33 it has 65 nodes. */
+static void check_longest_patch(void)
+{
+    const struct bytes lane = RAW(4, 1), cue = RAW(1), empty_lane = RAW(4, 0), empty = RAW(0), none = NONE;
+    const struct bytes chain_silent = RAW(10, 1), silent = RAW(1);
+    struct bytes link = file_of((struct section){chain_silent, empty_lane, 127, empty});
+    struct bytes last = file_of((struct section){silent, empty_lane, 127, empty});
+    const struct bytes each = {link.at + 2, link.count - 2}, end = {last.at + 2, last.count - 2};
+    struct bytes type = repeated(lane, 127, cue), nodes = repeated(each, 31, end);
+    count(type.count + nodes.count == WOSTHILE_PATCH_FILE_MAX, "sizes", "the longest patch file", 0);
+    check_sections("the longest patch file", type, nodes, 0, repeated(empty_lane, 127, empty));
+    check_sections("a silent too many", repeated(lane, 127, cue), repeated(each, 32, end), 5, none);
+    struct bytes files[] = {link, last};
+    release(files, sizeof files / sizeof files[0]);
+}
+
+/* Patch files far longer than any that is accepted. */
+static void check_long_patches(void)
+{
+    const struct bytes none = NONE, patch = PATCH_OF((1), (0)), wrong_shape = PATCH_OF((1), (5));
+    const struct bytes type_claim = RAW(255, 255, 1), node_claim = RAW(0, 1, 1, 255, 255, 0);
+    struct bytes files[] = {lengthened(patch, 1 << 20),    lengthened(wrong_shape, 1 << 20),
+                            lengthened(type_claim, 65537), lengthened(type_claim, 65536),
+                            lengthened(node_claim, 65540), lengthened(node_claim, 65539)};
+    struct check_row rows[] = {
+        {"a patch file of a mebibyte", files[0], 3, none},
+        {"a patch file of a mebibyte and a wrong shape", files[1], 3, none},
+        {"a type section of 65535 bytes", files[2], 3, none},
+        {"a type section of 65535 bytes, one missing", files[3], 1, none},
+        {"a node section of 65535 bytes", files[4], 3, none},
+        {"a node section of 65535 bytes, one missing", files[5], 1, none},
+    };
+    for (size_t row = 0; row < sizeof rows / sizeof rows[0]; row++) {
+        check_patch(&rows[row]);
+    }
+    release(files, sizeof files / sizeof files[0]);
+}
+
 /* The longest slice file of all, and files far longer than any that is accepted. */
 static void check_long_files(void)
 {
@@ -369,6 +644,12 @@ static void check_shared_memory(void)
         wosthile_join(cue, sizeof cue, cue, sizeof cue, cue, sizeof cue, buffer, sizeof buffer);
     count(joined.number == 0 && joined.written == 3 && memcmp(buffer, cue, 3) == 0 && buffer[3] == 9, "Join",
           "all three files are the same bytes", sizeof buffer);
+    const uint8_t patch[] = {0, 1, 1, 0, 1, 2};
+    wosthile_written checked = wosthile_check(patch, 0, buffer, sizeof buffer);
+    count(checked.number == 1 && checked.written == 0, "Check", "a pointer with length 0", sizeof buffer);
+    memset(buffer, 9, sizeof buffer);
+    checked = wosthile_check(patch, sizeof patch, buffer, 0);
+    count(checked.number == 20 && checked.written == 0 && buffer[0] == 9, "Check", "a buffer of length 0", 0);
     seen = wosthile_admit(cue, 0, cue, sizeof cue);
     count(seen.number == 1, "Admit", "a pointer with length 0", 0);
     buffer[0] = 9;
@@ -378,6 +659,12 @@ static void check_shared_memory(void)
 
 int main(void)
 {
+    for (size_t row = 0; row < sizeof check_rows / sizeof check_rows[0]; row++) {
+        check_patch(&check_rows[row]);
+    }
+    for (size_t row = 0; row < sizeof limit_rows / sizeof limit_rows[0]; row++) {
+        check_limit_row(&limit_rows[row]);
+    }
     for (size_t row = 0; row < sizeof admit_rows / sizeof admit_rows[0]; row++) {
         check_admit(&admit_rows[row]);
     }
@@ -387,6 +674,8 @@ int main(void)
     for (size_t row = 0; row < sizeof join_rows / sizeof join_rows[0]; row++) {
         check_writing(JOIN, &join_rows[row]);
     }
+    check_longest_patch();
+    check_long_patches();
     check_limit();
     check_long_files();
     check_shared_memory();

@@ -1,7 +1,8 @@
 /*
- * How much stack the calls need. Each is made on a stack that was painted before, with the deepest types that there are:
- * 127 forks, nested in the first parts or in the second, and slices that go all the way down. The most that any call has
- * used, beside an empty thread, is held to WOSTHILE_STACK_MAX.
+ * How much stack the calls need. Each is made on a stack that was painted before, with the deepest files there are:
+ * types of 127 forks, nested in the first parts or in the second, and slices that go all the way down; patches of 31
+ * forks, nested likewise, that give types of 255 nodes. The most that any call has used, beside an empty thread, is
+ * held to WOSTHILE_STACK_MAX.
  */
 #define _XOPEN_SOURCE 700 /* for pthread_attr_setstack */
 #include <pthread.h>
@@ -10,84 +11,141 @@
 #include <string.h>
 #include <wosthile.h>
 
-enum { STACK_BYTES = 1 << 20, PAINT = 0x5a, FORKS = 127 };
+enum { STACK_BYTES = 1 << 20, PAINT = 0x5a, TYPE_FORKS = 127, NODE_FORKS = 31 };
 
 struct file {
-    uint8_t bytes[WOSTHILE_SLICE_FILE_MAX];
+    uint8_t bytes[WOSTHILE_PATCH_FILE_MAX];
     size_t length;
 };
 
-/* A type, a slice of it, and a slice of what the first leaves. */
-struct stream {
-    struct file type, first, second;
+/* The files of a call: a patch for Check; else a type, a slice of it, and a slice of what the first leaves. */
+struct files {
+    struct file whole, first, second;
 };
 
-static void begin(struct file *file) { file->length = 2; }
+/* What stands at every leaf of a tree. */
+struct leaf {
+    uint8_t bytes[8];
+    size_t length;
+};
+
+#define LEAF(...) ((struct leaf){{__VA_ARGS__}, sizeof((const uint8_t[]){__VA_ARGS__})})
+
+/* The side on which the forks of a tree stand one below the other. */
+enum side { FIRST_PARTS, SECOND_PARTS };
 
 static void put(struct file *file, int byte) { file->bytes[file->length++] = (uint8_t)byte; }
 
-static void end(struct file *file)
+static void put_leaf(struct file *file, struct leaf leaf)
 {
-    file->bytes[0] = (uint8_t)((file->length - 2) / 256);
-    file->bytes[1] = (uint8_t)((file->length - 2) % 256);
+    for (size_t place = 0; place < leaf.length; place++) {
+        put(file, leaf.bytes[place]);
+    }
+}
+
+/* Begins a section and answers where its contents stand. */
+static size_t begin(struct file *file)
+{
+    file->length += 2;
+    return file->length;
+}
+
+static void end(struct file *file, size_t contents)
+{
+    size_t count = file->length - contents;
+    file->bytes[contents - 2] = (uint8_t)(count / 256);
+    file->bytes[contents - 1] = (uint8_t)(count % 256);
 }
 
 /* Every fork above the leaves, or each fork followed by its first leaf. */
-static void put_deep(struct file *file, int fork, int leaf, int in_second_parts)
+static void put_deep(struct file *file, int forks, int fork, struct leaf leaf, enum side side)
 {
-    begin(file);
-    for (int count = 0; count < FORKS; count++) {
+    for (int count = 0; count < forks; count++) {
         put(file, fork);
-        if (in_second_parts) {
-            put(file, leaf);
+        if (side == SECOND_PARTS) {
+            put_leaf(file, leaf);
         }
     }
-    for (int count = in_second_parts ? FORKS : 0; count <= FORKS; count++) {
-        put(file, leaf);
+    for (int count = side == SECOND_PARTS ? forks : 0; count <= forks; count++) {
+        put_leaf(file, leaf);
     }
-    end(file);
+}
+
+static void put_section(struct file *file, int forks, int fork, struct leaf leaf, enum side side)
+{
+    size_t contents = begin(file);
+    put_deep(file, forks, fork, leaf, side);
+    end(file, contents);
 }
 
 /* Side by side: nothing has come of any lane. */
-static void make_lanes(struct stream *stream, int in_second_parts)
+static void make_lanes(struct files *files, enum side side)
 {
-    put_deep(&stream->type, 4, 2, in_second_parts);
-    put_deep(&stream->first, 7, 3, in_second_parts);
-    stream->second = stream->first;
+    put_section(&files->whole, TYPE_FORKS, 4, LEAF(2), side);
+    put_section(&files->first, TYPE_FORKS, 7, LEAF(3), side);
+    files->second = files->first;
 }
 
 /* Sequences in first parts, of which nothing has come. */
-static void make_first_parts(struct stream *stream)
+static void make_first_parts(struct files *files)
 {
-    put_deep(&stream->type, 3, 2, 0);
-    begin(&stream->first);
-    for (int count = 0; count < FORKS; count++) {
-        put(&stream->first, 5);
+    put_section(&files->whole, TYPE_FORKS, 3, LEAF(2), FIRST_PARTS);
+    size_t contents = begin(&files->first);
+    for (int count = 0; count < TYPE_FORKS; count++) {
+        put(&files->first, 5);
     }
-    put(&stream->first, 3);
-    end(&stream->first);
-    stream->second = stream->first;
+    put(&files->first, 3);
+    end(&files->first, contents);
+    files->second = files->first;
 }
 
 /* Sequences in second parts, all crossed; only the last leaf is awaited, and then comes. */
-static void make_crossings(struct stream *stream)
+static void make_crossings(struct files *files)
 {
-    put_deep(&stream->type, 3, 1, 1);
-    begin(&stream->first);
-    for (int count = 0; count < FORKS; count++) {
-        put(&stream->first, 6);
-        put(&stream->first, 2);
+    put_section(&files->whole, TYPE_FORKS, 3, LEAF(1), SECOND_PARTS);
+    size_t contents = begin(&files->first);
+    for (int count = 0; count < TYPE_FORKS; count++) {
+        put(&files->first, 6);
+        put(&files->first, 2);
     }
-    put(&stream->first, 1);
-    end(&stream->first);
-    begin(&stream->second);
-    put(&stream->second, 2);
-    end(&stream->second);
+    put(&files->first, 1);
+    end(&files->first, contents);
+    put_section(&files->second, 0, 0, LEAF(2), FIRST_PARTS);
 }
 
+/* Chains of pass. The deepest node is spread, on a cue and then lanes, and gives 255 nodes; these go up through all. */
+static void make_chains(struct file *patch, enum side side)
+{
+    size_t contents = begin(patch);
+    put(patch, 3);
+    put(patch, 1);
+    put_deep(patch, TYPE_FORKS - 2, 4, LEAF(1), side);
+    end(patch, contents);
+    contents = begin(patch);
+    put_deep(patch, NODE_FORKS, 10, LEAF(0), side);
+    patch->bytes[side == SECOND_PARTS ? patch->length - 1 : contents + NODE_FORKS] = 13;
+    end(patch, contents);
+}
+
+/* Pairs of silent nodes on a type of 255, each with a type of 7: together they give 31 forks and 32 times 7 nodes. */
+static void make_pairs(struct file *patch, enum side side)
+{
+    put_section(patch, TYPE_FORKS, 4, LEAF(1), side);
+    put_section(patch, NODE_FORKS, 4, LEAF(1, 4, 4, 0, 0, 4, 0, 0), side);
+}
+
+/* Then upon then, pass at the leaves, on sequences with a type of 7 at each leaf. */
+static void make_thens(struct file *patch, enum side side)
+{
+    put_section(patch, NODE_FORKS, 3, LEAF(4, 4, 1, 1, 4, 1, 1), side);
+    put_section(patch, NODE_FORKS, 9, LEAF(0), side);
+}
+
+enum operation { NOTHING, CHECK, ADMIT, LEFT, JOIN };
+
 struct call {
-    const struct stream *stream;
-    int operation; /* 0 none, 1 admit, 2 left, 3 join */
+    const struct files *files;
+    enum operation operation;
     uint32_t number;
 };
 
@@ -96,17 +154,20 @@ static uint8_t answer[WOSTHILE_SLICE_FILE_MAX];
 static void *make(void *word)
 {
     struct call *call = word;
-    const struct file *type = &call->stream->type, *first = &call->stream->first, *second = &call->stream->second;
+    const struct file *whole = &call->files->whole, *first = &call->files->first, *second = &call->files->second;
     switch (call->operation) {
-    case 1:
-        call->number = wosthile_admit(type->bytes, type->length, first->bytes, first->length).number;
+    case CHECK:
+        call->number = wosthile_check(whole->bytes, whole->length, answer, sizeof answer).number;
         break;
-    case 2:
+    case ADMIT:
+        call->number = wosthile_admit(whole->bytes, whole->length, first->bytes, first->length).number;
+        break;
+    case LEFT:
         call->number =
-            wosthile_left(type->bytes, type->length, first->bytes, first->length, answer, sizeof answer).number;
+            wosthile_left(whole->bytes, whole->length, first->bytes, first->length, answer, sizeof answer).number;
         break;
-    case 3:
-        call->number = wosthile_join(type->bytes, type->length, first->bytes, first->length, second->bytes,
+    case JOIN:
+        call->number = wosthile_join(whole->bytes, whole->length, first->bytes, first->length, second->bytes,
                                      second->length, answer, sizeof answer)
                            .number;
         break;
@@ -117,9 +178,9 @@ static void *make(void *word)
 }
 
 /* The bytes of stack that a thread has used which makes this one call; the call has to be accepted. */
-static size_t used(const struct stream *stream, int operation)
+static size_t used(const struct files *files, enum operation operation)
 {
-    struct call call = {stream, operation, 0};
+    struct call call = {files, operation, 0};
     uint8_t *stack = aligned_alloc(4096, STACK_BYTES);
     pthread_attr_t attributes;
     pthread_t thread;
@@ -141,21 +202,35 @@ static size_t used(const struct stream *stream, int operation)
     return STACK_BYTES - unused;
 }
 
+/* The most that the operation uses on any of the files, beside an empty thread. */
+static size_t most(enum operation operation, const struct files *files, size_t number)
+{
+    size_t empty = used(files, NOTHING), greatest = 0;
+    for (size_t call = 0; call < number; call++) {
+        size_t need = used(&files[call], operation) - empty;
+        greatest = need > greatest ? need : greatest;
+    }
+    return greatest;
+}
+
 int main(void)
 {
-    static struct stream streams[4];
-    size_t most = 0, empty;
-    make_lanes(&streams[0], 0);
-    make_lanes(&streams[1], 1);
+    static struct files streams[4], patches[6];
+    static const char *const names[] = {"", "Check", "Admit", "Left", "Join"};
+    int fits = 1;
+    make_lanes(&streams[0], FIRST_PARTS);
+    make_lanes(&streams[1], SECOND_PARTS);
     make_first_parts(&streams[2]);
     make_crossings(&streams[3]);
-    empty = used(&streams[0], 0);
-    for (int stream = 0; stream < 4; stream++) {
-        for (int operation = 1; operation <= 3; operation++) {
-            size_t need = used(&streams[stream], operation) - empty;
-            most = need > most ? need : most;
-        }
+    for (int side = FIRST_PARTS; side <= SECOND_PARTS; side++) {
+        make_chains(&patches[side].whole, side);
+        make_pairs(&patches[2 + side].whole, side);
+        make_thens(&patches[4 + side].whole, side);
     }
-    printf("stack: %zu bytes at most, %d stated\n", most, WOSTHILE_STACK_MAX);
-    return most <= WOSTHILE_STACK_MAX ? 0 : 1;
+    for (int operation = CHECK; operation <= JOIN; operation++) {
+        size_t need = operation == CHECK ? most(operation, patches, 6) : most(operation, streams, 4);
+        printf("stack of %s: %zu bytes at most, %d stated\n", names[operation], need, WOSTHILE_STACK_MAX);
+        fits = fits && need <= WOSTHILE_STACK_MAX;
+    }
+    return fits ? 0 : 1;
 }

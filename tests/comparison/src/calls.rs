@@ -1,9 +1,11 @@
-//! Random calls of the three operations: type-directed, most of them accepted, and damaged ones.
+//! Random calls of the four operations: type-directed, most of them accepted, and damaged ones.
 
 use std::fmt;
 
-use crate::damage::{damage, type_about_the_limit, Kinds, SLICE_KINDS, TYPE_KINDS};
+use crate::damage::{damage, few_bytes, type_about_the_limit, SLICE_KINDS, TYPE_KINDS};
 use crate::files::{decimal, section};
+use crate::patch_damage::damage_patch;
+use crate::patches::any_patch;
 use crate::random::Random;
 use crate::slices::slice_of;
 use crate::types::{forks, write_type, Style};
@@ -11,6 +13,7 @@ use crate::types::{forks, write_type, Style};
 /// The operations of the library.
 #[derive(Clone, Copy, Debug, PartialEq, Eq)]
 pub enum Operation {
+    Check,
     Admit,
     Left,
     Join,
@@ -18,18 +21,25 @@ pub enum Operation {
 
 impl Operation {
     /// Every operation, in the order of the table.
-    pub const ALL: [Operation; 3] = [Operation::Admit, Operation::Left, Operation::Join];
+    pub const ALL: [Operation; 4] = [
+        Operation::Check,
+        Operation::Admit,
+        Operation::Left,
+        Operation::Join,
+    ];
 
-    /// How many files it takes.
-    fn files(self) -> usize {
+    /// What its files are called.
+    fn files(self) -> &'static [&'static str] {
         match self {
-            Operation::Admit | Operation::Left => 2,
-            Operation::Join => 3,
+            Operation::Check => &["patch"],
+            Operation::Admit | Operation::Left => &["type", "slice"],
+            Operation::Join => &["type", "first slice", "second slice"],
         }
     }
 }
 
-/// One call: a type file, one or two slice files, and the length of the lent buffer.
+/// One call: a patch file, or a type file and one or two slice files; and the length of the lent
+/// buffer.
 #[derive(Clone, Debug)]
 pub struct Call {
     pub operation: Operation,
@@ -42,6 +52,7 @@ impl Call {
     fn needs(&self) -> usize {
         let mut room = [0; 1000];
         let written = match (self.operation, self.files.as_slice()) {
+            (Operation::Check, [patch]) => second_interpreter::check(patch, &mut room),
             (Operation::Left, [stream, slice]) => {
                 second_interpreter::left(stream, slice, &mut room)
             }
@@ -57,10 +68,7 @@ impl Call {
 impl fmt::Display for Call {
     fn fmt(&self, out: &mut fmt::Formatter<'_>) -> fmt::Result {
         writeln!(out, "operation {:?}", self.operation)?;
-        for (name, file) in ["type", "first slice", "second slice"]
-            .iter()
-            .zip(&self.files)
-        {
+        for (name, file) in self.operation.files().iter().zip(&self.files) {
             writeln!(out, "{name}, {} bytes: {}", file.len(), decimal(file))?;
         }
         write!(out, "lent buffer of {} bytes", self.lent)
@@ -111,18 +119,12 @@ impl Iterator for Calls {
 /// A call whose files are in order, with a buffer that is long enough.
 fn accepted(random: &mut Random) -> Call {
     let operation = random.pick(&Operation::ALL);
-    let mut tree = Vec::new();
-    let style = Style::any(random);
-    let forks = forks(random);
-    write_type(random, &style, forks, &mut tree);
-    let first = slice_of(random, &tree);
-    let second = slice_of(random, &first.left);
-    let mut files = vec![
-        section(&tree),
-        section(&first.slice),
-        section(&second.slice),
-    ];
-    files.truncate(operation.files());
+    let mut files = if operation == Operation::Check {
+        vec![any_patch(random)]
+    } else {
+        stream_files(random).to_vec()
+    };
+    files.truncate(operation.files().len());
     Call {
         operation,
         files,
@@ -130,8 +132,27 @@ fn accepted(random: &mut Random) -> Call {
     }
 }
 
+/// The files of a type, of a slice of it, and of a slice of what that one leaves.
+fn stream_files(random: &mut Random) -> [Vec<u8>; 3] {
+    let mut tree = Vec::new();
+    let style = Style::any(random);
+    let forks = forks(random);
+    write_type(random, &style, forks, &mut tree);
+    let first = slice_of(random, &tree);
+    let second = slice_of(random, &first.left);
+    [
+        section(&tree),
+        section(&first.slice),
+        section(&second.slice),
+    ]
+}
+
 /// Puts a fault in one file.
 fn spoil(random: &mut Random, call: &mut Call) {
+    if call.operation == Operation::Check {
+        damage_patch(random, &mut call.files[0]);
+        return;
+    }
     let which = random.below(call.files.len());
     let other = call.files[random.below(call.files.len())].clone();
     let file = &mut call.files[which];
@@ -139,7 +160,7 @@ fn spoil(random: &mut Random, call: &mut Call) {
         0..=1 if which == 0 => *file = type_about_the_limit(random),
         0 => *file = few_bytes(random, SLICE_KINDS),
         // The slice of another type, or the other slice: its kinds belong elsewhere.
-        1 => *file = accepted(random).files[1].clone(),
+        1 => *file = stream_files(random)[1].clone(),
         2 => *file = few_bytes(random, TYPE_KINDS),
         3 => *file = other,
         _ => damage(
@@ -148,13 +169,6 @@ fn spoil(random: &mut Random, call: &mut Call) {
             if which == 0 { TYPE_KINDS } else { SLICE_KINDS },
         ),
     }
-}
-
-/// A section of a few bytes that look like kinds.
-fn few_bytes(random: &mut Random, kinds: Kinds) -> Vec<u8> {
-    let length = random.below(8);
-    let contents: Vec<u8> = (0..length).map(|_| kinds.listed(random)).collect();
-    section(&contents)
 }
 
 /// Chooses the buffer: exact, a little short, very short, of the greatest size, or far too long.
@@ -174,12 +188,13 @@ fn lend(random: &mut Random, call: &mut Call) {
     };
 }
 
-/// The call cut at every length of every file, with every listed kind at every place of a short
-/// file, and with every length of buffer up to two bytes more than it needs.
+/// The call cut at every length of every file (at some of a very long one), with every listed kind
+/// at every place of a short file, and with every length of buffer up to two bytes more than it
+/// needs.
 fn sweep(call: &Call) -> Vec<Call> {
     let mut calls = Vec::new();
     for (which, file) in call.files.iter().enumerate() {
-        for length in 0..file.len() {
+        for length in (0..file.len()).step_by(1 + file.len() / 1000) {
             let mut cut = call.clone();
             cut.files[which].truncate(length);
             calls.push(cut);
@@ -199,8 +214,13 @@ fn sweep(call: &Call) -> Vec<Call> {
 
 fn kinds_at_every_place(call: &Call, which: usize) -> Vec<Call> {
     let mut calls = Vec::new();
+    let listed = if call.operation == Operation::Check {
+        15
+    } else {
+        8
+    };
     for at in 0..call.files[which].len() {
-        for kind in [0, 1, 2, 3, 4, 5, 6, 7, 19, 200, 255] {
+        for kind in (0..listed).chain([19, 200, 255]) {
             let mut changed = call.clone();
             changed.files[which][at] = kind;
             calls.push(changed);

@@ -54,6 +54,10 @@ impl Place {
 /// The library's answer. `files` are handed over where they stand.
 fn library_answer(operation: Operation, files: &[&[u8]], lent: &mut [u8]) -> Answer {
     let (number, value) = match (operation, files) {
+        (Operation::Check, [patch]) => {
+            let answer = library::check(patch, lent);
+            (answer.number, answer.written)
+        }
         (Operation::Admit, [stream, slice]) => {
             let answer = library::admit(stream, slice);
             (answer.number, answer.complete as usize)
@@ -74,6 +78,7 @@ fn library_answer(operation: Operation, files: &[&[u8]], lent: &mut [u8]) -> Ans
 /// The second interpreter's answer.
 fn second_answer(operation: Operation, files: &[&[u8]], lent: &mut [u8]) -> Answer {
     let result = match (operation, files) {
+        (Operation::Check, [patch]) => second_interpreter::check(patch, lent),
         (Operation::Admit, [stream, slice]) => {
             second_interpreter::admit(stream, slice).map(usize::from)
         }

@@ -20,6 +20,11 @@ pub const TYPE_KINDS: Kinds = Kinds {
     listed: 5,
     never: 19,
 };
+/// The kinds of nodes.
+pub const NODE_KINDS: Kinds = Kinds {
+    listed: 15,
+    never: 19,
+};
 /// The kinds of slices.
 pub const SLICE_KINDS: Kinds = Kinds {
     listed: 8,
@@ -68,6 +73,13 @@ pub fn damage(random: &mut Random, file: &mut Vec<u8>, kinds: Kinds) {
     if random.chance(10) {
         random.pick(&DAMAGES)(random, file, kinds);
     }
+}
+
+/// A section of a few bytes that look like kinds.
+pub fn few_bytes(random: &mut Random, kinds: Kinds) -> Vec<u8> {
+    let length = random.below(8);
+    let contents: Vec<u8> = (0..length).map(|_| kinds.listed(random)).collect();
+    section(&contents)
 }
 
 /// A place in the contents, if there are any.

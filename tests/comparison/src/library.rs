@@ -21,6 +21,12 @@ pub struct Admitted {
 }
 
 extern "C" {
+    fn wosthile_check(
+        patch: *const u8,
+        patch_length: usize,
+        type_file: *mut u8,
+        type_length: usize,
+    ) -> Written;
     fn wosthile_admit(
         type_file: *const u8,
         type_length: usize,
@@ -64,15 +70,29 @@ fn start_mut(bytes: &mut [u8]) -> *mut u8 {
     }
 }
 
+/// Calls `wosthile_check`.
+pub fn check(patch: &[u8], type_file: &mut [u8]) -> Written {
+    // SAFETY: each pointer is good for its length, or NULL with length 0; the exclusive borrow
+    // keeps the lent buffer apart from the file.
+    unsafe {
+        wosthile_check(
+            start(patch),
+            patch.len(),
+            start_mut(type_file),
+            type_file.len(),
+        )
+    }
+}
+
 /// Calls `wosthile_admit`.
 pub fn admit(type_file: &[u8], slice: &[u8]) -> Admitted {
-    // SAFETY: each pointer is good for its length, or NULL with length 0; nothing is written.
+    // SAFETY: as for Check; nothing is written.
     unsafe { wosthile_admit(start(type_file), type_file.len(), start(slice), slice.len()) }
 }
 
 /// Calls `wosthile_left`.
 pub fn left(type_file: &[u8], slice: &[u8], left: &mut [u8]) -> Written {
-    // SAFETY: as for Admit; the exclusive borrow keeps the lent buffer apart from the files.
+    // SAFETY: as for Check.
     unsafe {
         wosthile_left(
             start(type_file),
@@ -87,7 +107,7 @@ pub fn left(type_file: &[u8], slice: &[u8], left: &mut [u8]) -> Written {
 
 /// Calls `wosthile_join`.
 pub fn join(type_file: &[u8], first: &[u8], second: &[u8], joined: &mut [u8]) -> Written {
-    // SAFETY: as for Left.
+    // SAFETY: as for Check.
     unsafe {
         wosthile_join(
             start(type_file),

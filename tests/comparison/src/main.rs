@@ -8,7 +8,7 @@ use std::process::ExitCode;
 use std::time::{Duration, Instant};
 
 use comparison::random::Random;
-use comparison::{compare, Calls, Tally};
+use comparison::{compare, limits, Calls, Tally};
 
 /// How long to go on.
 enum Extent {
@@ -44,9 +44,10 @@ fn run(options: &Options, tally: &mut Tally) -> Result<(), String> {
     // What stands in the buffers and beside everything comes from a generator of its own: it has
     // no say in which calls are made.
     let mut noise = Random::new(!options.seed);
+    limits::compare_stored(&mut noise)?;
     for (number, call) in (1_u64..).zip(Calls::new(options.seed)) {
         compare(&call, &mut noise)
-            .and_then(|answer| tally.add(call.operation, &answer))
+            .and_then(|answer| tally.add(&call, &answer))
             .map_err(|text| format!("seed {}, call {number}: {text}", options.seed))?;
         let over = match options.extent {
             Extent::Calls(calls) => number >= calls,
@@ -69,6 +70,7 @@ fn main() -> ExitCode {
         println!("{text}");
         return ExitCode::FAILURE;
     }
+    println!("case 10: what the program has stored is what both answer\n");
     println!("{tally}");
     let gaps = tally.gaps();
     for gap in &gaps {

@@ -2,11 +2,12 @@
 
 use std::fmt;
 
-use crate::calls::Operation;
+use crate::calls::{Call, Operation};
 use crate::comparison::Answer;
+use crate::patch_tally::PatchTally;
 
-/// The numbers that the three operations can answer; Admit never answers the last.
-const NUMBERS: [u32; 10] = [0, 1, 2, 3, 4, 11, 12, 13, 14, 20];
+/// The numbers that the operations can answer.
+const NUMBERS: [u32; 13] = [0, 1, 2, 3, 4, 5, 6, 7, 11, 12, 13, 14, 20];
 
 /// Runs of fewer calls than this are not judged by what they met.
 const JUDGED_FROM: u64 = 100_000;
@@ -14,23 +15,38 @@ const JUDGED_FROM: u64 = 100_000;
 /// The least share of accepted calls, in per cent.
 const LEAST_ACCEPTED: u64 = 30;
 
+/// Whether the operation can answer this number.
+fn is_possible(operation: Operation, number: u32) -> bool {
+    match number {
+        5..=7 => operation == Operation::Check,
+        11..=14 => operation != Operation::Check,
+        20 => operation != Operation::Admit,
+        _ => true,
+    }
+}
+
 /// How often each number was answered by each operation.
 #[derive(Clone, Debug, Default)]
 pub struct Tally {
     counts: [[u64; NUMBERS.len()]; Operation::ALL.len()],
     complete: u64,
+    patches: PatchTally,
 }
 
 impl Tally {
-    /// Counts one answer. A number that no operation has is an error.
-    pub fn add(&mut self, operation: Operation, answer: &Answer) -> Result<(), String> {
+    /// Counts one answer. A number that the operation does not have is an error.
+    pub fn add(&mut self, call: &Call, answer: &Answer) -> Result<(), String> {
+        let operation = call.operation;
         let column = NUMBERS
             .iter()
-            .position(|number| *number == answer.number)
+            .position(|number| *number == answer.number && is_possible(operation, *number))
             .ok_or_else(|| format!("{operation:?} answers {}", answer.number))?;
         self.counts[operation as usize][column] += 1;
         if operation == Operation::Admit && answer.value == 1 {
             self.complete += 1;
+        }
+        if operation == Operation::Check {
+            self.patches.add(&call.files[0], answer);
         }
         Ok(())
     }
@@ -47,10 +63,10 @@ impl Tally {
 
     /// What a run of this length should have met and did not.
     pub fn gaps(&self) -> Vec<String> {
-        let mut gaps = Vec::new();
         if self.total() < JUDGED_FROM {
-            return gaps;
+            return Vec::new();
         }
+        let mut gaps = self.patches.gaps();
         for operation in Operation::ALL {
             let counts = &self.counts[operation as usize];
             if counts[0] * 100 < self.calls(operation) * LEAST_ACCEPTED {
@@ -59,8 +75,7 @@ impl Tally {
                 ));
             }
             for (number, count) in NUMBERS.iter().zip(counts) {
-                let possible = operation != Operation::Admit || *number != 20;
-                if possible && *count == 0 {
+                if is_possible(operation, *number) && *count == 0 {
                     gaps.push(format!("{operation:?}: {number} was never answered"));
                 }
             }
@@ -73,7 +88,7 @@ impl fmt::Display for Tally {
     fn fmt(&self, out: &mut fmt::Formatter<'_>) -> fmt::Result {
         write!(out, "{:<10}{:>9}{:>10}", "operation", "calls", "accepted")?;
         for number in NUMBERS {
-            write!(out, "{number:>9}")?;
+            write!(out, "{number:>8}")?;
         }
         for operation in Operation::ALL {
             let counts = &self.counts[operation as usize];
@@ -84,15 +99,20 @@ impl fmt::Display for Tally {
                 "\n{:<10}{calls:>9}{share:>8.1} %",
                 format!("{operation:?}")
             )?;
-            for count in counts {
-                write!(out, "{count:>9}")?;
+            for (number, count) in NUMBERS.iter().zip(counts) {
+                if is_possible(operation, *number) {
+                    write!(out, "{count:>8}")?;
+                } else {
+                    write!(out, "{:>8}", "-")?;
+                }
             }
         }
         let admitted = self.counts[Operation::Admit as usize][0];
-        write!(
+        writeln!(
             out,
             "\nof {admitted} admitted slices {} were complete",
             self.complete
-        )
+        )?;
+        write!(out, "\n{}", self.patches)
     }
 }

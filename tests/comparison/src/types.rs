@@ -38,7 +38,7 @@ impl Shape {
     ];
 
     /// How many of the forks below a fork stand in its first part.
-    fn in_first(self, random: &mut Random, forks: usize) -> usize {
+    pub fn in_first(self, random: &mut Random, forks: usize) -> usize {
         match self {
             Shape::DeepLeft => forks,
             Shape::DeepRight => 0,
@@ -104,11 +104,11 @@ pub fn forks(random: &mut Random) -> usize {
     }
 }
 
-/// Where the tree that starts at `at` ends.
+/// Where the tree that starts at `at` ends; at the end of the bytes if it is cut short.
 pub fn type_end(tree: &[u8], at: usize) -> usize {
     let mut end = at;
     let mut owed = 1;
-    while owed > 0 {
+    while owed > 0 && end < tree.len() {
         owed = if tree[end] < SEQUENCE {
             owed - 1
         } else {

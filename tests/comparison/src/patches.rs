@@ -1,0 +1,273 @@
+//! Random patches, grown from an input type: each node fits the type that comes to it, and what it
+//! gives goes to the next. Nearly all are accepted. In a few a node inside does not fit, or a type
+//! grows too large.
+
+use second_interpreter::{output_type, patch_file, Node, Type};
+
+use crate::random::Random;
+use crate::types::{self, forks, type_end, write_type, Shape, BESIDE, CUE, EMPTY, LEVEL};
+
+/// A patch of 63 nodes has so many forks.
+pub const MOST_FORKS: usize = 31;
+
+/// The kinds of nodes with two parts.
+const BOTH: u8 = 4;
+const THEN: u8 = 9;
+const CHAIN: u8 = 10;
+
+/// The kinds of nodes without parts, and those among them that make no type smaller.
+const LEAVES: [u8; 12] = [0, 1, 2, 3, 5, 6, 7, 8, 11, 12, 13, 14];
+const KEEPING: [u8; 5] = [0, 11, 12, 13, 14];
+
+/// So many kinds are tried at a leaf before one is taken that fits everywhere.
+const TRIES: usize = 8;
+
+/// What the nodes of one patch are like; the chances are in a hundred.
+#[derive(Clone, Copy, Debug)]
+struct Style {
+    shape: Shape,
+    chains: usize,
+    thens: usize,
+    keeping: usize,
+    misfits: usize,
+    /// Whether a type may grow past its limit.
+    boundless: bool,
+}
+
+impl Style {
+    fn any(random: &mut Random) -> Self {
+        Style {
+            shape: random.pick(&Shape::ALL),
+            chains: random.pick(&[10, 40, 80, 100]),
+            thens: random.pick(&[20, 50, 90]),
+            keeping: random.pick(&[0, 50, 90]),
+            misfits: random.pick(&[0, 0, 0, 0, 0, 0, 0, 3]),
+            boundless: random.chance(4),
+        }
+    }
+}
+
+/// A node, and the type that it gives.
+struct Grown {
+    node: Node,
+    gives: Type,
+}
+
+/// A patch file, most often one that is accepted.
+pub fn any_patch(random: &mut Random) -> Vec<u8> {
+    let forks = node_forks(random);
+    patch_of(random, forks)
+}
+
+/// A patch file with so many forks among its nodes, and one leaf more than that.
+pub fn patch_of(random: &mut Random, forks: usize) -> Vec<u8> {
+    let input = any_type(random);
+    let style = Style::any(random);
+    let mut grower = Grower { random, style };
+    let root = grower.grow(&input, forks, Type::LIMIT);
+    patch_file(&input, &root.node)
+}
+
+/// How many forks the next patch has: mostly few, often as many as the limit allows.
+fn node_forks(random: &mut Random) -> usize {
+    match random.below(20) {
+        0..=5 => random.below(5),
+        6..=11 => random.below(16),
+        12..=15 => random.below(MOST_FORKS + 1),
+        16 => MOST_FORKS - 1,
+        _ => MOST_FORKS,
+    }
+}
+
+fn any_type(random: &mut Random) -> Type {
+    let style = types::Style::any(random);
+    let forks = forks(random);
+    let mut tree = Vec::new();
+    write_type(random, &style, forks, &mut tree);
+    type_of(&tree)
+}
+
+/// The type with this tree.
+fn type_of(tree: &[u8]) -> Type {
+    let parts = |make: fn(Type, Type) -> Type| {
+        let second = type_end(tree, 1);
+        make(type_of(&tree[1..]), type_of(&tree[second..]))
+    };
+    match tree[0] {
+        EMPTY => Type::Empty,
+        CUE => Type::Cue,
+        LEVEL => Type::Level,
+        BESIDE => parts(Type::beside),
+        _ => parts(Type::sequence),
+    }
+}
+
+/// A nullable type with so many forks.
+fn nullable(random: &mut Random, shape: Shape, forks: usize) -> Type {
+    if forks == 0 {
+        return Type::Empty;
+    }
+    let first = shape.in_first(random, forks - 1);
+    let left = nullable(random, shape, first);
+    Type::beside(left, nullable(random, shape, forks - 1 - first))
+}
+
+struct Grower<'a> {
+    random: &'a mut Random,
+    style: Style,
+}
+
+impl Grower<'_> {
+    /// A node that fits the input, with so many forks. What it gives has at most `room` nodes.
+    fn grow(&mut self, input: &Type, forks: usize, room: usize) -> Grown {
+        if forks == 0 {
+            return self.leaf(input, room);
+        }
+        let first = self.style.shape.in_first(self.random, forks - 1);
+        let forks = [first, forks - 1 - first];
+        match (self.fork(room), input.sequence_parts()) {
+            (CHAIN, _) => {
+                let one = self.grow(input, forks[0], Type::LIMIT);
+                let other = self.grow(&one.gives, forks[1], room);
+                Grown {
+                    node: Node::chain(one.node, other.node),
+                    gives: other.gives,
+                }
+            }
+            (THEN, Some((first, second))) => {
+                let [one, other] = self.grow_parts([first, second], forks, room);
+                Grown {
+                    node: Node::then(one.node, other.node),
+                    gives: Type::sequence(one.gives, other.gives),
+                }
+            }
+            _ => {
+                let [one, other] = self.grow_parts([input, input], forks, room);
+                Grown {
+                    node: Node::both(one.node, other.node),
+                    gives: Type::beside(one.gives, other.gives),
+                }
+            }
+        }
+    }
+
+    /// The kind of a fork; two parts side by side or in sequence need three nodes of room.
+    fn fork(&mut self, room: usize) -> u8 {
+        if room < 3 || self.random.chance(self.style.chains) {
+            CHAIN
+        } else if self.random.chance(self.style.thens) {
+            THEN
+        } else {
+            BOTH
+        }
+    }
+
+    /// Two nodes that give, with a fork above what they give, at most `room` nodes.
+    fn grow_parts(&mut self, inputs: [&Type; 2], forks: [usize; 2], room: usize) -> [Grown; 2] {
+        let share = room * (forks[0] + 1) / (forks[0] + forks[1] + 2);
+        let most = room - 2;
+        let any = self.random.between(1, most);
+        let first = self.random.pick(&[share, most, any]).clamp(1, most);
+        let one = self.grow(inputs[0], forks[0], first);
+        let rest = if self.style.boundless {
+            room
+        } else {
+            room.saturating_sub(1 + one.gives.size()).max(1)
+        };
+        let other = self.grow(inputs[1], forks[1], rest);
+        [one, other]
+    }
+
+    fn leaf(&mut self, input: &Type, room: usize) -> Grown {
+        if self.random.chance(self.style.misfits) {
+            return self.misfit(input);
+        }
+        for _ in 0..TRIES {
+            let keeping = self.random.chance(self.style.keeping);
+            let kind = self
+                .random
+                .pick(if keeping { &KEEPING[..] } else { &LEAVES });
+            let node = self.leaf_of(kind, room);
+            match output_type(&node, input) {
+                Ok(gives) if gives.size() <= room => return Grown { node, gives },
+                _ => {}
+            }
+        }
+        Grown {
+            node: Node::Cue,
+            gives: Type::Cue,
+        }
+    }
+
+    fn leaf_of(&mut self, kind: u8, room: usize) -> Node {
+        match kind {
+            0 => Node::Pass,
+            1 => Node::silent(self.carried(room)),
+            2 => Node::Cue,
+            3 => Node::Level(self.random.number() as u16),
+            5 => Node::Left,
+            6 => Node::Right,
+            7 => Node::First,
+            8 => Node::Second,
+            11 => Node::RegroupRight,
+            12 => Node::RegroupLeft,
+            13 => Node::Spread,
+            _ => Node::Front,
+        }
+    }
+
+    /// A nullable type: mostly small, often as large as there is room.
+    fn carried(&mut self, room: usize) -> Type {
+        let most = (room - 1) / 2;
+        let any = self.random.below(most + 1);
+        let forks = self.random.pick(&[0, 1, 2, any, most]).min(most);
+        nullable(self.random, self.style.shape, forks)
+    }
+
+    /// A node that the second pass refuses, or nearly: any kind, and silent with any type.
+    fn misfit(&mut self, input: &Type) -> Grown {
+        let kind = self.random.pick(&LEAVES);
+        let node = if kind == 1 {
+            Node::silent(any_type(self.random))
+        } else {
+            self.leaf_of(kind, Type::LIMIT)
+        };
+        let gives = output_type(&node, input).unwrap_or(Type::Cue);
+        Grown { node, gives }
+    }
+}
+
+/// The root of a node, and how deep it stands; the outermost has depth 1.
+#[derive(Clone, Copy, Debug)]
+pub struct Root {
+    pub at: usize,
+    pub depth: usize,
+}
+
+/// The roots of the nodes in a node section, count included, from left to right. Of a damaged
+/// section it finds those that come first.
+pub fn roots(section: &[u8]) -> Vec<Root> {
+    let mut found = Vec::new();
+    let mut owed = vec![1];
+    let mut at = 2;
+    while let Some(depth) = owed.pop() {
+        let Some(kind) = section.get(at) else {
+            break;
+        };
+        found.push(Root { at, depth });
+        at = match kind {
+            1 => type_end(section, at + 1),
+            3 => at + 3,
+            _ => at + 1,
+        };
+        if is_fork(*kind) {
+            owed.extend([depth + 1; 2]);
+        }
+    }
+    found
+}
+
+/// Whether nodes of this kind have two parts.
+pub fn is_fork(kind: u8) -> bool {
+    matches!(kind, BOTH | THEN | CHAIN)
+}
