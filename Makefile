@@ -1,6 +1,6 @@
 # make test      the gate: every proof from nothing, the must-fail edits, the layout, the library under C and Rust
 # make prove     the proofs alone, without the edits; what has not changed is not proved again
-# make example   builds the library and runs examples/admit.c against it
+# make example   builds the library and runs examples/calls.c against it
 # make lib       the library alone: target/staticlib/libwosthile.a
 # make fuzz      random calls, compared with the second interpreter: make fuzz SECONDS=600 SEED=7
 # make bench     times and instruction counts of the library beside the second interpreter
@@ -24,8 +24,8 @@ prove:
 	rt check
 
 example: $(ARCHIVE)
-	$(CC) -std=c11 -O2 -Wall -Wextra -Iinclude examples/admit.c $(ARCHIVE) -o target/admit
-	target/admit
+	$(CC) -std=c11 -O2 -Wall -Wextra -Iinclude examples/calls.c $(ARCHIVE) -o target/calls
+	target/calls
 
 lib: $(ARCHIVE)
 
