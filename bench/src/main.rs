@@ -4,6 +4,7 @@
 //! library's and the second interpreter's. `bench --count N` makes every call N times, library and
 //! then second interpreter, row by row; `instructions.sh` counts what it executes.
 
+mod patches;
 mod rows;
 mod streams;
 mod table;

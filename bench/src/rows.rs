@@ -1,23 +1,28 @@
-//! The rows of the table: one call each.
+//! The rows of the table: one call each. Those of Check are in [`crate::patches`].
 
 use comparison::files::{section, set_count};
 use comparison::{library, Operation};
 
+use crate::patches;
 use crate::streams::{slice_tree, type_tree, Shape, Share};
 
 /// The nodes of the largest type.
 pub const LARGEST: usize = 255;
 
-/// The sizes, in nodes, at which a shape is followed as it grows.
-const SIZES: [usize; 5] = [15, 31, 63, 127, LARGEST];
+/// The sizes, in nodes, at which a type is followed as it grows.
+pub const SIZES: [usize; 5] = [15, 31, 63, 127, LARGEST];
 
 /// What a row is there for.
 #[derive(Clone, Copy, Debug, PartialEq, Eq)]
 pub enum Group {
     /// Small, typical and largest calls.
     Legal,
-    /// One shape at a growing number of nodes.
-    Growing { shape: Shape, nodes: usize },
+    /// One shape at a growing number of nodes, up to the largest.
+    Growing {
+        series: &'static str,
+        nodes: usize,
+        largest: usize,
+    },
     /// Refused calls with long files.
     Refused,
 }
@@ -66,6 +71,7 @@ impl Row {
     fn call_library(&self, lent: &mut [u8]) -> (u32, usize) {
         let files = &self.files;
         let answer = match self.operation {
+            Operation::Check => library::check(&files[0], lent),
             Operation::Admit => {
                 let answer = library::admit(&files[0], &files[1]);
                 return (answer.number, answer.complete as usize);
@@ -79,6 +85,7 @@ impl Row {
     fn call_second(&self, lent: &mut [u8]) -> (u32, usize) {
         let files = &self.files;
         let answer = match self.operation {
+            Operation::Check => second_interpreter::check(&files[0], lent),
             Operation::Admit => second_interpreter::admit(&files[0], &files[1]).map(usize::from),
             Operation::Left => second_interpreter::left(&files[0], &files[1], lent),
             Operation::Join => second_interpreter::join(&files[0], &files[1], &files[2], lent),
@@ -102,18 +109,17 @@ fn halves(shape: Shape, nodes: usize) -> [Vec<u8>; 3] {
     stream(&type_tree(shape, nodes), Share::Half, Share::All)
 }
 
+/// The operations on a type and slices.
+const ON_STREAMS: [Operation; 3] = [Operation::Admit, Operation::Left, Operation::Join];
+
 /// Every row, in the order of the table.
 pub fn all() -> Vec<Row> {
-    let mut rows = Vec::new();
-    for operation in Operation::ALL {
-        rows.extend(legal(operation));
-    }
-    for operation in Operation::ALL {
-        rows.extend(growing(operation));
-    }
-    for operation in Operation::ALL {
-        rows.extend(refused(operation));
-    }
+    let mut rows = patches::legal();
+    rows.extend(ON_STREAMS.into_iter().flat_map(legal));
+    rows.extend(patches::growing());
+    rows.extend(ON_STREAMS.into_iter().flat_map(growing));
+    rows.extend(patches::refused());
+    rows.extend(ON_STREAMS.into_iter().flat_map(refused));
     rows
 }
 
@@ -141,10 +147,14 @@ fn legal(operation: Operation) -> Vec<Row> {
 
 fn growing(operation: Operation) -> Vec<Row> {
     let mut rows = Vec::new();
-    for (shape, name) in Shape::ALL {
+    for (shape, series) in Shape::ALL {
         for nodes in SIZES {
-            let name = format!("{name}, {nodes} nodes, half has come");
-            let group = Group::Growing { shape, nodes };
+            let name = format!("{series}, {nodes} nodes, half has come");
+            let group = Group::Growing {
+                series,
+                nodes,
+                largest: LARGEST,
+            };
             rows.push(Row::new(group, &name, operation, &halves(shape, nodes)));
         }
     }
@@ -152,14 +162,14 @@ fn growing(operation: Operation) -> Vec<Row> {
 }
 
 /// A file with bytes behind it up to this length.
-fn lengthened(file: &[u8], length: usize) -> Vec<u8> {
+pub fn lengthened(file: &[u8], length: usize) -> Vec<u8> {
     let mut longer = file.to_vec();
     longer.resize(length, 1);
     longer
 }
 
 /// A file whose section claims 65,535 bytes.
-fn claiming(mut file: Vec<u8>) -> Vec<u8> {
+pub fn claiming(mut file: Vec<u8>) -> Vec<u8> {
     set_count(&mut file, 65_535);
     file
 }

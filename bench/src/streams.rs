@@ -17,6 +17,15 @@ impl Shape {
         (Shape::DeepRight, "deep right"),
         (Shape::Balanced, "balanced"),
     ];
+
+    /// How many of the forks below a fork stand in its first part.
+    pub fn in_first(self, forks: usize) -> usize {
+        match self {
+            Shape::DeepLeft => forks,
+            Shape::DeepRight => 0,
+            Shape::Balanced => forks / 2,
+        }
+    }
 }
 
 /// How much of a stream has come.
@@ -43,11 +52,7 @@ fn write_type(shape: Shape, forks: usize, kind: u8, leaves: &mut usize, tree: &m
         return;
     }
     tree.push(kind);
-    let first = match shape {
-        Shape::DeepLeft => forks - 1,
-        Shape::DeepRight => 0,
-        Shape::Balanced => (forks - 1) / 2,
-    };
+    let first = shape.in_first(forks - 1);
     let below = if kind == SEQUENCE { BESIDE } else { SEQUENCE };
     write_type(shape, first, below, leaves, tree);
     write_type(shape, forks - 1 - first, below, leaves, tree);

@@ -19,7 +19,7 @@ pub struct Measured {
 
 /// Every accepted row is to be at least so many times as fast as the second interpreter.
 const FASTER: f64 = 2.0;
-/// The cost per byte at 255 nodes is to be at most so many times that at 63 nodes.
+/// The cost per byte at the largest size is to be at most so many times that at a quarter of it.
 const FLAT: f64 = 1.5;
 /// A cost is known to about this factor.
 const NOISE: f64 = 1.1;
@@ -142,7 +142,10 @@ pub fn goals(measured: &[Measured]) -> String {
             slow,
         ),
         (
-            format!("flat: a byte costs at 255 nodes at most {FLAT} times what it costs at 63"),
+            format!(
+                "flat: at the most nodes, 255 of a type or 63 of a patch, a byte costs at most \
+                 {FLAT} times what it costs at a quarter"
+            ),
             steep,
         ),
         (
@@ -178,22 +181,31 @@ fn slow(measured: &[Measured], cost: Cost) -> Vec<String> {
         .collect()
 }
 
-/// The growing row of the same operation and shape at 63 nodes, for one at 255.
-fn middle<'a>(measured: &'a [Measured], large: &Row) -> Option<&'a Measured> {
-    let Group::Growing { shape, nodes: 255 } = large.group else {
+/// For a growing row at the largest size, the row of the same operation and series at a quarter.
+fn quarter<'a>(measured: &'a [Measured], large: &Row) -> Option<&'a Measured> {
+    let Group::Growing {
+        series,
+        nodes,
+        largest,
+    } = large.group
+    else {
         return None;
     };
-    let group = Group::Growing { shape, nodes: 63 };
-    measured
-        .iter()
-        .find(|one| one.row.group == group && one.row.operation == large.operation)
+    let group = Group::Growing {
+        series,
+        nodes: largest / 4,
+        largest,
+    };
+    measured.iter().find(|one| {
+        nodes == largest && one.row.group == group && one.row.operation == large.operation
+    })
 }
 
 fn steep(measured: &[Measured], cost: Cost) -> Vec<String> {
     let mut misses = Vec::new();
     for large in measured {
-        if let Some(middle) = middle(measured, &large.row) {
-            let growth = large.per_byte(cost) / middle.per_byte(cost);
+        if let Some(quarter) = quarter(measured, &large.row) {
+            let growth = large.per_byte(cost) / quarter.per_byte(cost);
             if growth > FLAT {
                 misses.push(format!("{}: {growth:.2}", large.name()));
             }

@@ -142,6 +142,22 @@ module _ {bytes : List ℕ} {at owed end : ℕ} (passing : Passing bytes at owed
           far = λ t h. omega (arith, sizes-append (parts first) others, apart first .total, passing .far t h, ap sizes split);
         }
 
+-- The byte of the only type that is owed; and two bytes in one turn, where both are owed.
+pub last-passed : {bytes : List ℕ} {at owed end : ℕ} → Passing bytes at owed end → owed ≡ 1
+    → Passing bytes at (type-arity (getD bytes end 0)) (end + 1)
+last-passed {bytes} {at} {owed} {end} passing one =
+    let same-owed : type-arity (getD bytes end 0) ≡ owed - 1 + type-arity (getD bytes end 0) = omega arith in
+    rw same-owed (passed passing (omega arith))
+
+pub two-passed : {bytes : List ℕ} {at owed end : ℕ} → Passing bytes at owed end → 1 < owed
+    → Passing bytes at (owed - 2 + type-arity (getD bytes end 0) + type-arity (getD bytes (end + 1) 0)) (end + 2)
+two-passed {bytes} {at} {owed} {end} passing more =
+    let first = type-arity (getD bytes end 0) in
+    let second = type-arity (getD bytes (end + 1) 0) in
+    let same-owed : owed - 2 + first + second ≡ owed - 1 + first - 1 + second = omega arith in
+    let same-end : end + 2 ≡ end + 1 + 1 = omega arith in
+    rw (same-owed, same-end) (passed (passed passing (omega arith)) (omega arith))
+
 -- Whether all of some types are nullable. One of kind 0 or 4 is if its parts are; another is not.
 abbrev all-nullable : List Ty → Bool
 all-nullable [] = true

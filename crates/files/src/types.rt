@@ -93,7 +93,8 @@ pub fn read_type_file(file: &[u8]) -> TypeRead
     }
 }
 
-// Where the type that stands at `at` ends.
+// Where the type that stands at `at` ends. Where two bytes are owed they are taken in one turn, which takes little more time
+// than one byte: looking for a second part behind a large first one is what a small patch on a large type spends its time on.
 pub fn skip_type(types: &[u8], at: usize) -> usize
     requires { ⌜ SomeTypeAt (now types) at ⌝ }
     ensures { λ r. ⌜ TypeEnds (now (types .entry)) at r ⌝ }
@@ -101,8 +102,13 @@ pub fn skip_type(types: &[u8], at: usize) -> usize
     let mut owed: usize = 1;
     let mut end = at;
     while 0 < owed {
-        owed = owed - 1 + type_arity(types[end]);
-        end += 1;
+        if owed == 1 {
+            owed = type_arity(types[end]);
+            end += 1;
+        } else {
+            owed = owed - 2 + type_arity(types[end]) + type_arity(types[end + 1]);
+            end += 2;
+        }
     }
     end
 }
