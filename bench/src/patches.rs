@@ -199,8 +199,7 @@ fn giving_largest() -> [(&'static str, Vec<u8>, Vec<u8>); 5] {
     ]
 }
 
-/// One node on types of a growing size, and patches of a growing number of nodes: each leaf brings
-/// its type with it, so that the work grows with the bytes.
+/// One node on types of a growing size, and patches of a growing number of nodes.
 pub fn growing() -> Vec<Row> {
     let mut rows = Vec::new();
     for (shape, series) in Shape::ALL {
@@ -214,13 +213,48 @@ pub fn growing() -> Vec<Row> {
             rows.push(row(group, &name, patch(&type_tree(shape, nodes), &[PASS])));
         }
     }
+    rows.extend(growing_patches());
+    rows
+}
+
+/// Patches on one cue, with the least that can stand at a leaf, or with a type at each.
+fn growing_patches() -> Vec<Row> {
+    let silent = [&[SILENT], lanes(LEAF_TYPE, EMPTY).as_slice()].concat();
     let series = [
-        ("pairs of silent, balanced", Shape::Balanced, BOTH),
-        ("chains of silent, deep left", Shape::DeepLeft, CHAIN),
-        ("chains of silent, deep right", Shape::DeepRight, CHAIN),
+        ("pairs of pass, balanced", Shape::Balanced, BOTH, vec![PASS]),
+        (
+            "chains of pass, deep left",
+            Shape::DeepLeft,
+            CHAIN,
+            vec![PASS],
+        ),
+        (
+            "chains of pass, deep right",
+            Shape::DeepRight,
+            CHAIN,
+            vec![PASS],
+        ),
+        (
+            "pairs of silent, balanced",
+            Shape::Balanced,
+            BOTH,
+            silent.clone(),
+        ),
+        (
+            "chains of silent, deep left",
+            Shape::DeepLeft,
+            CHAIN,
+            silent.clone(),
+        ),
+        (
+            "chains of silent, deep right",
+            Shape::DeepRight,
+            CHAIN,
+            silent,
+        ),
     ];
-    let leaf = [&[SILENT], lanes(LEAF_TYPE, EMPTY).as_slice()].concat();
-    for (series, shape, fork) in series {
+    let mut rows = Vec::new();
+    for (series, shape, fork, leaf) in series {
         for nodes in PATCH_SIZES {
             let group = Group::Growing {
                 series,

@@ -24,22 +24,13 @@ use Rattle.files.specs.TypeReads.Laws.{type-drop, read-type-within}
 use Rattle.node.specs.Nodes.{Node, pass, silent, emit-cue, emit-level, both, left, right, first, second, then, chain, regroup-right, regroup-left, spread, front, node-limit}
 use Rattle.node.specs.PatchFiles.{node-kinds, node-root, read-node}
 use Rattle.patches.specs.PatchReads.{node-arity}
+use Rattle.patches.specs.PatchReads.Laws.{leaf-arity}
 
 -- A tree ends within the bytes that it was read from.
 pub ends-within : {A : Type 0} (n : ℕ) (g : Reading A) (k : ℕ) → end-of n g ≡ At k → k ≤ n
 unfolding end-of
 ends-within n (read a r) k h = let e : n - length r ≡ k = cc in omega arith
 ends-within n (fault e) k h = let z : _≡_ {A = ℕ} 0 1 = cc in absurd (omega arith)
-
--- Only the kinds 4, 9 and 10 have parts.
-pub no-parts : (k : ℕ) → (k ≡ 4 → ⊥) → (k ≡ 9 → ⊥) → (k ≡ 10 → ⊥) → 0 ≡ node-arity k
-no-parts =
-    every (λ k parts. (k ≡ 4 → ⊥) → (k ≡ 9 → ⊥) → (k ≡ 10 → ⊥) → 0 ≡ parts) 0 _
-    (none & none & none & none & (λ x y z. absurd (x refl)) & none & none & none & none
-    & (λ x y z. absurd (y refl)) & (λ x y z. absurd (z refl)) & past (λ k h. none))
-  where
-    none : {k : ℕ} → (k ≡ 4 → ⊥) → (k ≡ 9 → ⊥) → (k ≡ 10 → ⊥) → _≡_ {A = ℕ} 0 0
-    none x y z = refl
 
 -- What a kind byte may begin; the second number is how many parts the root owes.
 abbrev ReadsRoot : Type 0
@@ -70,7 +61,7 @@ shape =
     & past none)
   where
     none : (k : ℕ) → 15 ≤ k → Shape k (node-arity k) (λ r. fault Unlisted)
-    none k h = rw (← no-parts k (λ e. omega arith) (λ e. omega arith) (λ e. omega arith)) (unlisted h)
+    none k h = rw (leaf-arity k (λ e. omega arith) (λ e. omega arith) (λ e. omega arith)) (unlisted h)
 
 arity-of : {k parts : ℕ} {f : ReadsRoot} → Shape k parts f → parts ≤ 2
 arity-of (plain n) = omega arith

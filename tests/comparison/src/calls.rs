@@ -173,18 +173,16 @@ fn spoil(random: &mut Random, call: &mut Call) {
 
 /// Chooses the buffer: exact, a little short, very short, of the greatest size, or far too long.
 fn lend(random: &mut Random, call: &mut Call) {
-    let needs = call.needs();
-    let any = random.below(520);
     call.lent = match random.below(20) {
-        0..=7 => needs,
+        0..=7 => call.needs(),
         8..=11 => 1000,
-        12 => needs + 1,
+        12 => call.needs() + 1,
         13 => 257,
         14 => 513,
-        15 => needs.saturating_sub(1),
-        16 => needs.saturating_sub(2),
+        15 => call.needs().saturating_sub(1),
+        16 => call.needs().saturating_sub(2),
         17 => random.pick(&[0, 1, 2]),
-        _ => any,
+        _ => random.below(520),
     };
 }
 

@@ -5,7 +5,7 @@
 use second_interpreter::{output_type, patch_file, Node, Type};
 
 use crate::random::Random;
-use crate::types::{self, forks, type_end, write_type, Shape, BESIDE, CUE, EMPTY, LEVEL};
+use crate::types::{self, type_end, write_type, Shape, BESIDE, CUE, EMPTY, LEVEL};
 
 /// A patch of 63 nodes has so many forks.
 pub const MOST_FORKS: usize = 31;
@@ -71,17 +71,27 @@ pub fn patch_of(random: &mut Random, forks: usize) -> Vec<u8> {
 /// How many forks the next patch has: mostly few, often as many as the limit allows.
 fn node_forks(random: &mut Random) -> usize {
     match random.below(20) {
-        0..=5 => random.below(5),
-        6..=11 => random.below(16),
-        12..=15 => random.below(MOST_FORKS + 1),
-        16 => MOST_FORKS - 1,
+        0..=6 => random.below(5),
+        7..=12 => random.below(16),
+        13..=16 => random.below(MOST_FORKS + 1),
+        17 => MOST_FORKS - 1,
         _ => MOST_FORKS,
+    }
+}
+
+/// How many forks an input type has. Every node of a patch may copy it, so large ones are seldom.
+fn type_forks(random: &mut Random) -> usize {
+    match random.below(20) {
+        0..=11 => random.below(6),
+        12..=16 => random.below(32),
+        17..=18 => random.below(types::MOST_FORKS + 1),
+        _ => types::MOST_FORKS,
     }
 }
 
 fn any_type(random: &mut Random) -> Type {
     let style = types::Style::any(random);
-    let forks = forks(random);
+    let forks = type_forks(random);
     let mut tree = Vec::new();
     write_type(random, &style, forks, &mut tree);
     type_of(&tree)

@@ -78,9 +78,6 @@ leaf-size (seq s t) h = absurd (omega arith)
 leaf-size (par s t) h = absurd (omega arith)
 
 module _ {bytes : List ℕ} {at : ℕ} {t : Ty} (stands : TypeAt bytes at t) where
-  pub behind : drop (at + size t) bytes ≡ stands .rest
-  behind = rw (← drop-drop (size t) at bytes, stands .here) (type-drop t (stands .rest))
-
   pub ends-inside : at + size t ≤ length bytes
   ends-inside =
       let n = simp length-drop at (ap length (stands .here)) in
@@ -99,7 +96,7 @@ module _ {bytes : List ℕ} {at : ℕ} {t : Ty} (stands : TypeAt bytes at t) whe
   bytes-at = rw (stands .here, type-before t (stands .rest)) (take-at (type-bytes t []) (stands .rest) (size t) (type-width t))
 
   module _ (fork : 3 ≤ kind t) where
-    pub under-root : drop (at + 1) bytes ≡ type-bytes (first-part t) (type-bytes (second-part t) (stands .rest))
+    under-root : drop (at + 1) bytes ≡ type-bytes (first-part t) (type-bytes (second-part t) (stands .rest))
     under-root = rw (← drop-drop 1 at bytes, stands .here, forked t (stands .rest) fork .0)
 
     pub first-at : TypeAt bytes (at + 1) (first-part t)

@@ -124,9 +124,6 @@ typed-gives end t = go (leb (size t) type-limit)
     go true = refl
     go false = refl
 
-pub typed-gives-small : (end : ℕ) (t : Ty) → Small t → typed end (gives t) ≡ Gives end (size t)
-typed-gives-small end t small = typed-gives end t ∙ limited-small end small
-
 pub typing-small : (s : Ty) (n : Node) {t : Ty} → Carries n → typing s n ≡ accepted t → Small t
 typing-small s n {t} carries e = let d = typing-sound s n t carries e in output-small (d .types) (d .fits)
 
