@@ -32,8 +32,8 @@ pub fn type_arity(kind: u8) -> usize
     ensures { λ r. ⌜ r ≡ type-arity kind ⌝ }
 {
     match kind {
-        3..=4 => 2,
-        _ => 0,
+        0..=2 => 0,
+        _ => 2,
     }
 }
 
@@ -93,22 +93,17 @@ pub fn read_type_file(file: &[u8]) -> TypeRead
     }
 }
 
-// Where the type that stands at `at` ends. Where two bytes are owed they are taken in one turn, which takes little more time
-// than one byte: looking for a second part behind a large first one is what a small patch on a large type spends its time on.
+// Where the type that stands at `at` ends. Parts come in pairs, so wherever one byte is owed two are, and two in one turn take
+// little more time than one: a small node on a large type spends its time here.
 pub fn skip_type(types: &[u8], at: usize) -> usize
     requires { ⌜ SomeTypeAt (now types) at ⌝ }
     ensures { λ r. ⌜ TypeEnds (now (types .entry)) at r ⌝ }
 {
-    let mut owed: usize = 1;
-    let mut end = at;
+    let mut owed = type_arity(types[at]);
+    let mut end = at + 1;
     while 0 < owed {
-        if owed == 1 {
-            owed = type_arity(types[end]);
-            end += 1;
-        } else {
-            owed = owed - 2 + type_arity(types[end]) + type_arity(types[end + 1]);
-            end += 2;
-        }
+        owed = owed - 2 + type_arity(types[end]) + type_arity(types[end + 1]);
+        end += 2;
     }
     end
 }
