@@ -2,11 +2,5 @@ pub mod TypeWalk
 pub mod SectionFile
 pub mod TypeSkip
 pub mod PrefixWalk
-pub mod PrefixKinds
 pub mod SliceWalk
 pub mod SliceFile
-pub mod Derivative
-pub mod LeftFile
-pub mod JoiningLeaf
-pub mod JoiningParts
-pub mod JoinedFile

@@ -1,4 +1,3 @@
 pub mod Sections
 pub mod TypeReads
 pub mod SliceReads
-pub mod Writing

@@ -1,5 +1,4 @@
-// Types and slices in bytes: the code that reads them and writes them.
+// Types and slices in bytes: the code that reads them.
 pub mod prefixes;
 pub mod sections;
 pub mod types;
-pub mod writing;

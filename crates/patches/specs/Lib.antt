@@ -1,2 +1,1 @@
 pub mod PatchReads
-pub mod Typing

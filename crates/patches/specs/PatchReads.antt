@@ -9,9 +9,9 @@ use Rattle.stream.specs.Reading.{Result, accepted, refused}
 use Rattle.node.specs.Nodes.{Node}
 use Rattle.node.specs.Checking.Laws.{Carries}
 use Rattle.node.specs.PatchFiles.{Patch, node-bytes}
-use Rattle.patches.specs.declared.reading.Patch.{Patch as Place}
-use Rattle.patches.specs.declared.reading.PatchRead.{PatchRead}
-use Rattle.patches.specs.declared.reading.PatchRead.the-variants.{Whole, Refused}
+use Rattle.patches.specs.declared.Patch.{Patch as Place}
+use Rattle.patches.specs.declared.PatchRead.{PatchRead}
+use Rattle.patches.specs.declared.PatchRead.the-variants.{Whole, Refused}
 pub mod Laws
 pub mod Standing
 

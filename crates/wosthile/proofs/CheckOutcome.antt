@@ -10,16 +10,16 @@ use Rattle.stream.specs.Types.Laws.{limit-is}
 use Rattle.stream.specs.Reading.{accepted, refused}
 use Rattle.stream.specs.TypeFiles.{type-bytes, type-file-bytes}
 use Rattle.files.specs.TypeReads.Laws.{bytes-at, type-width}
-use Rattle.files.specs.Writing.{TypeFileDue}
-use Rattle.files.specs.Writing.Standing.{type-file-size, written-stands}
+use Rattle.writing.specs.Writing.{TypeFileDue}
+use Rattle.writing.specs.Writing.Standing.{type-file-size, written-stands}
 use Rattle.node.specs.Checking.{typing}
 use Rattle.node.specs.PatchFiles.{first-pass, second-pass, patch-file}
-use Rattle.patches.specs.declared.reading.Patch.{Patch as Place}
-use Rattle.patches.specs.declared.typing.Typed.{Typed}
-use Rattle.patches.specs.declared.typing.Typed.the-variants.{Gives, Failed}
+use Rattle.patches.specs.declared.Patch.{Patch as Place}
+use Rattle.typing.specs.declared.Typed.{Typed}
+use Rattle.typing.specs.declared.Typed.the-variants.{Gives, Failed}
 use Rattle.patches.specs.PatchReads.Standing.{AcceptedPatch}
-use Rattle.patches.specs.Typing.{Answers}
-use Rattle.patches.specs.Typing.Laws.{IsGiven, is-given, is-refused, typing-small}
+use Rattle.typing.specs.Typing.{Answers}
+use Rattle.typing.specs.Typing.Laws.{IsGiven, is-given, is-refused, typing-small}
 use Rattle.wosthile.specs.Answers.{check}
 
 pub not-read : (file : List ℕ) {e : Fault} → first-pass file ≡ refused e → check file ≡ refused e

@@ -15,9 +15,9 @@ use Rattle.files.specs.TypeReads.Laws.{type-before, type-drop}
 use Rattle.node.specs.Nodes.{Node}
 use Rattle.node.specs.PatchFiles.{Patch, node-bytes, patch-file-bytes, first-pass}
 use Rattle.node.specs.PatchFiles.Laws.{first-pass-sound}
-use Rattle.patches.specs.declared.reading.Patch.{Patch as Place}
-use Rattle.patches.specs.declared.reading.PatchRead.{PatchRead}
-use Rattle.patches.specs.declared.reading.PatchRead.the-variants.{Whole, Refused}
+use Rattle.patches.specs.declared.Patch.{Patch as Place}
+use Rattle.patches.specs.declared.PatchRead.{PatchRead}
+use Rattle.patches.specs.declared.PatchRead.the-variants.{Whole, Refused}
 use Rattle.patches.specs.PatchReads.{in-patch-file, patch-read, NodeAt}
 
 -- Behind the two bytes of its count stands the type, and behind those of theirs stand the nodes.

@@ -1,0 +1,383 @@
+-- `type_node` and `type_parts` meet their contracts: a node hands its input, or the parts of it, to its parts, and the types
+-- that these give make the node's (`TypingParts`). Every call of `type_node` is at a later node, or from `type_parts`.
+use Prim.Native.Nat.{ℕ, _+_, _*_, _-_, _<_}
+use mathlib.Core.Path.{refl, sym}
+use native.Mathlib.Omega.{arith}
+use borrow.Author.Needs.{needs}
+use borrow.Fn.Kinds.{In}
+use borrow.Fn.PlainCycle.{Measures, is, falls, and}
+use lib.ListN.{length}
+use Rattle.files.specs.TypeReads.Laws.{starts-inside as type-inside}
+use Rattle.patches.specs.PatchReads.Laws.{starts-inside, leaf-arity}
+use Rattle.typing.proofs.TypingParts.{FirstAnswer, FirstGiven, first-due, first-kept, first-failed, first-given, second-due, second-kept, second-failed, second-small, both-given, both-splits, sequence-first, then-splits, then-refused, parts-due, parts-typed, chain-first, chain-failed, middle-kept, chain-later, chain-second, chain-typed}
+use Rattle.typing.proofs.type_node.Reads as type-node
+use Rattle.typing.proofs.type_node.Kinds as type-node-kinds
+use Rattle.typing.proofs.+type_node+type_parts.Lts-type_node as type-node-lts
+use Rattle.typing.proofs.type_parts.Reads as type-parts
+use Rattle.typing.proofs.type_parts.Kinds as type-parts-kinds
+use Rattle.typing.proofs.+type_node+type_parts.Lts-type_parts as type-parts-lts
+use Rattle.files.proofs.types.skip_type.Reads as skip-type-reads
+use Rattle.typing.proofs.append_kind.Reads as append-kind-reads
+use Rattle.typing.proofs.limit.Reads as limit-reads
+use Rattle.typing.proofs.type_leaf.Reads as type-leaf-reads
+use Rattle.typing.proofs.within.Reads as within-reads
+use Rattle.typing.proofs.+type_node+type_parts.{statement}
+use Rattle.typing.proofs.+type_node+type_parts.Tie.{close}
+
+-- The bytes of the nodes' list that are left, twice: `type_parts` calls `type_node` at its own place.
+
+abbrev μ-type-node : Measures 3 type-node-kinds.ps ℕ
+μ-type-node κs a = 2 * (length (a .1 .1 .0 .now) - a .1 .1 .1 .0)
+
+abbrev μ-type-parts : Measures 3 type-parts-kinds.ps ℕ
+μ-type-parts κs a = 2 * (length (a .1 .1 .1 .1 .0 .now) - a .1 .1 .1 .1 .1 .0) + 1
+
+module _ (t : ℕ) where
+  abbrev node-here : In 3 type-node-kinds.ps
+  node-here = and 3 type-node-kinds.ps (is 3 type-node-kinds.ps μ-type-node t) type-node.Pre
+
+  abbrev node-below : In 3 type-node-kinds.ps
+  node-below = and 3 type-node-kinds.ps (falls 3 type-node-kinds.ps _<_ μ-type-node t) type-node.Pre
+
+  abbrev parts-here : In 3 type-parts-kinds.ps
+  parts-here = and 3 type-parts-kinds.ps (is 3 type-parts-kinds.ps μ-type-parts t) type-parts.Pre
+
+  abbrev parts-below : In 3 type-parts-kinds.ps
+  parts-below = and 3 type-parts-kinds.ps (falls 3 type-parts-kinds.ps _<_ μ-type-parts t) type-parts.Pre
+
+  abbrev calls-node : type-node-lts.Claims
+  calls-node = (
+    parts-below,
+    type-parts.Post,
+    skip-type-reads.Asked,
+    skip-type-reads.Learnt,
+    node-below,
+    type-node.Post,
+    type-leaf-reads.Asked,
+    type-leaf-reads.Learnt,
+  )
+
+  abbrev calls-parts : type-parts-lts.Claims
+  calls-parts = (
+    append-kind-reads.Asked,
+    append-kind-reads.Learnt,
+    within-reads.Asked,
+    within-reads.Learnt,
+    node-below,
+    type-node.Post,
+    limit-reads.Asked,
+    limit-reads.Learnt,
+  )
+
+  type-node-shared-slice-read-match : type-node-lts.Need-shared-slice-read-match calls-node node-here type-node.Post
+  type-node-shared-slice-read-match c = starts-inside (c .before .before .before .before .pre .1 .node-at)
+
+  type-node-add-type-parts : type-node-lts.Need-add-type-parts calls-node node-here type-node.Post
+  type-node-add-type-parts c = omega (arith, starts-inside (c .before .before .before .before .before .pre .1 .node-at))
+
+  type-node-type-parts-requires : type-node-lts.Need-type-parts-requires calls-node node-here type-node.Post
+  type-node-type-parts-requires c κs =
+      let entry = c .before .before .before .before .before .before in
+      (omega (arith, entry .pre .0, starts-inside (entry .pre .1 .node-at)), parts-due both-splits (c .before .match .keys1) (entry .pre .1))
+
+  type-node-shared-slice-read-if1 : type-node-lts.Need-shared-slice-read-if1 calls-node node-here type-node.Post
+  type-node-shared-slice-read-if1 c = type-inside (c .before .before .before .before .before .before .pre .1 .type-at)
+
+  type-node-returns : type-node-lts.Need-returns calls-node node-here type-node.Post
+  type-node-returns c = then-refused (c .before .before .match .keys2) (c .if1 .taken)
+
+  type-node-add-first : type-node-lts.Need-add-first calls-node node-here type-node.Post
+  type-node-add-first c = omega (arith, type-inside (c .before .before .before .before .before .before .before .pre .1 .type-at))
+
+  type-node-skip-type-requires : type-node-lts.Need-skip-type-requires calls-node node-here type-node.Post
+  type-node-skip-type-requires c κs = sequence-first (c .if1 .left) (c .before .before .before .before .before .before .before .pre .1)
+
+  type-node-add-type-parts-2 : type-node-lts.Need-add-type-parts-2 calls-node node-here type-node.Post
+  type-node-add-type-parts-2 c = omega (arith, starts-inside (c .before .before .before .before .before .before .before .before .pre .1 .node-at))
+
+  type-node-type-parts-requires-2 : type-node-lts.Need-type-parts-requires-2 calls-node node-here type-node.Post
+  type-node-type-parts-requires-2 c κs =
+      let entry = c .before .before .before .before .before .before .before .before .before in
+      let sequence = c .before .before in (
+        omega (arith, entry .pre .0, starts-inside (entry .pre .1 .node-at)),
+        parts-due (then-splits (sequence .if1 .left) (c .before .skip-type .ensures)) (sequence .before .before .match .keys2) (entry .pre .1),
+      )
+
+  type-node-add-type-node : type-node-lts.Need-add-type-node calls-node node-here type-node.Post
+  type-node-add-type-node c = omega (arith, starts-inside (c .before .before .before .before .before .pre .1 .node-at))
+
+  type-node-slice-aggregate-type-node : type-node-lts.Need-slice-aggregate-type-node calls-node node-here type-node.Post
+  type-node-slice-aggregate-type-node c = search needs
+
+  type-node-type-node-requires : type-node-lts.Need-type-node-requires calls-node node-here type-node.Post
+  type-node-type-node-requires c κs =
+      let entry = c .before .before .before .before .before .before in
+      (omega (arith, entry .pre .0, starts-inside (entry .pre .1 .node-at)), chain-first (c .before .match .keys3) (entry .pre .1))
+
+  type-node-enum-known-fault : type-node-lts.Need-enum-known-fault calls-node node-here type-node.Post
+  type-node-enum-known-fault c = search needs
+
+  type-node-enum-known-second : type-node-lts.Need-enum-known-second calls-node node-here type-node.Post
+  type-node-enum-known-second c = search needs
+
+  type-node-slice-aggregate-type-node-2 : type-node-lts.Need-slice-aggregate-type-node-2 calls-node node-here type-node.Post
+  type-node-slice-aggregate-type-node-2 c =
+      let first = c .before .before .before .before .before in
+      sym (middle-kept (first .before .before .match .keys3) (first .type-node .ensures)
+      (first .before .before .before .before .before .before .before .pre .1))
+
+  type-node-type-node-requires-2 : type-node-lts.Need-type-node-requires-2 calls-node node-here type-node.Post
+  type-node-type-node-requires-2 c κs =
+      let first = c .before .before .before .before .before .before in
+      let entry = first .before .before .before .before .before .before .before in
+      let gives = c .before .before .before .second .given .1 in (
+        omega (
+          arith,
+          entry .pre .0,
+          starts-inside (entry .pre .1 .node-at),
+          chain-later (first .before .before .match .keys3) (first .type-node .ensures) gives refl (entry .pre .1),
+        ),
+        chain-second (first .before .before .match .keys3) (first .type-node .ensures) gives refl (entry .pre .1),
+      )
+
+  type-node-type-leaf-requires : type-node-lts.Need-type-leaf-requires calls-node node-here type-node.Post
+  type-node-type-leaf-requires c κs =
+      let leaf = c .before .match .rest in
+      (c .before .before .before .before .before .before .pre .1, leaf-arity _ (leaf .0 .0 .1) (leaf .0 .1) (leaf .1))
+
+  type-node-same-length : type-node-lts.Need-same-length calls-node node-here type-node.Post
+  type-node-same-length c = search needs
+
+  type-node-returns-2 : type-node-lts.Need-returns-2 calls-node node-here type-node.Post
+  type-node-returns-2 c = parts-typed both-splits (c .before .before .before .before .match .keys1) (c .before .before .type-parts .ensures)
+
+  type-node-same-length-2 : type-node-lts.Need-same-length-2 calls-node node-here type-node.Post
+  type-node-same-length-2 c = search needs
+
+  type-node-returns-3 : type-node-lts.Need-returns-3 calls-node node-here type-node.Post
+  type-node-returns-3 c =
+      let sequence = c .before .before .before .before .before in
+      parts-typed (then-splits (sequence .if1 .left) (c .before .before .before .before .skip-type .ensures)) (sequence .before .before .match .keys2)
+      (c .before .before .type-parts2 .ensures)
+
+  type-node-returns-4 : type-node-lts.Need-returns-4 calls-node node-here type-node.Post
+  type-node-returns-4 c =
+      let first = c .before .before .before .before in
+      chain-failed (first .before .before .match .keys3) (first .type-node .ensures) _ (c .before .fault .given .1)
+
+  type-node-same-length-3 : type-node-lts.Need-same-length-3 calls-node node-here type-node.Post
+  type-node-same-length-3 c = search needs
+
+  type-node-returns-5 : type-node-lts.Need-returns-5 calls-node node-here type-node.Post
+  type-node-returns-5 c =
+      let first = c .before .before .before .before .before .before .before .before .before in
+      chain-typed (first .before .before .match .keys3) (first .type-node .ensures)
+      (c .before .before .before .before .before .before .second .given .1) refl (c .before .before .type-node2 .ensures)
+
+  type-node-same-length-4 : type-node-lts.Need-same-length-4 calls-node node-here type-node.Post
+  type-node-same-length-4 c = search needs
+
+  type-node-returns-6 : type-node-lts.Need-returns-6 calls-node node-here type-node.Post
+  type-node-returns-6 c = c .before .before .type-leaf .ensures
+
+  -- What is known once the first part has answered, and once it has given a type.
+
+  abbrev Answered : Type 0
+  Answered = type-parts-lts.After-type-node calls-parts parts-here type-parts.Post
+
+  abbrev entry : Answered → type-parts-lts.Start calls-parts parts-here type-parts.Post
+  entry c = c .before .before .before .before .before .before .before .before .before .before
+
+  first-answer : (c : Answered)
+      → FirstAnswer (entry c .args .kind) (entry c .args .types .now) (entry c .args .first) (entry c .args .nodes .now) (entry c .args .from)
+      (entry c .args .out .now) (c .before .before .before .before .before .append-kind .last .1 .1 .0) (c .type-node .last .1 .1 .1 .1 .0)
+      (c .before .before .before .before .before .append-kind .result) (c .before .before .within .result) (c .type-node .result)
+  first-answer c =
+      record {
+        kind-written = c .before .before .before .before .before .append-kind .ensures;
+        starts = c .before .before .within .ensures;
+        typed = c .type-node .ensures;
+      }
+
+  abbrev Given : Type 0
+  Given = type-parts-lts.After-known-told2 calls-parts parts-here type-parts.Post
+
+  abbrev answer-given : Given → Answered
+  answer-given c = c .before .before .before .before .before
+
+  first-gives : (c : Given)
+      → FirstGiven (entry (answer-given c) .args .nodes .now) (entry (answer-given c) .args .from)
+      (answer-given c .before .before .before .before .before .append-kind .result) (c .before .next .given .0 .0) (c .before .next .given .0 .1 .0)
+  first-gives c = first-given (first-answer (answer-given c)) (c .before .next .given .1) (entry (answer-given c) .pre .1)
+
+  type-parts-append-kind-requires : type-parts-lts.Need-append-kind-requires calls-parts parts-here type-parts.Post
+  type-parts-append-kind-requires c κs = search needs
+
+  type-parts-within-requires : type-parts-lts.Need-within-requires calls-parts parts-here type-parts.Post
+  type-parts-within-requires c κs = search needs
+
+  type-parts-sub-type-node : type-parts-lts.Need-sub-type-node calls-parts parts-here type-parts.Post
+  type-parts-sub-type-node c = c .within .ensures .inside
+
+  type-parts-part-type-node-start : type-parts-lts.Need-part-type-node-start calls-parts parts-here type-parts.Post
+  type-parts-part-type-node-start c = c .within .ensures .inside
+
+  type-parts-part-type-node-end : type-parts-lts.Need-part-type-node-end calls-parts parts-here type-parts.Post
+  type-parts-part-type-node-end c = search needs
+
+  type-parts-type-node-requires : type-parts-lts.Need-type-node-requires calls-parts parts-here type-parts.Post
+  type-parts-type-node-requires c κs =
+      let entry = c .before .before .before .before .before .before .before .before .before in
+      (omega (arith, entry .pre .0), first-due (entry .pre .1))
+
+  type-parts-enum-known-fault : type-parts-lts.Need-enum-known-fault calls-parts parts-here type-parts.Post
+  type-parts-enum-known-fault c = search needs
+
+  type-parts-enum-known-next : type-parts-lts.Need-enum-known-next calls-parts parts-here type-parts.Post
+  type-parts-enum-known-next c = search needs
+
+  type-parts-add-written : type-parts-lts.Need-add-written calls-parts parts-here type-parts.Post
+  type-parts-add-written c = omega (arith, first-gives c)
+
+  type-parts-within-requires-2 : type-parts-lts.Need-within-requires-2 calls-parts parts-here type-parts.Post
+  type-parts-within-requires-2 c κs = search needs
+
+  type-parts-sub-type-node-2 : type-parts-lts.Need-sub-type-node-2 calls-parts parts-here type-parts.Post
+  type-parts-sub-type-node-2 c = c .within2 .ensures .inside
+
+  type-parts-part-type-node-start-2 : type-parts-lts.Need-part-type-node-start-2 calls-parts parts-here type-parts.Post
+  type-parts-part-type-node-start-2 c = c .within2 .ensures .inside
+
+  type-parts-part-type-node-end-2 : type-parts-lts.Need-part-type-node-end-2 calls-parts parts-here type-parts.Post
+  type-parts-part-type-node-end-2 c = search needs
+
+  type-parts-type-node-requires-2 : type-parts-lts.Need-type-node-requires-2 calls-parts parts-here type-parts.Post
+  type-parts-type-node-requires-2 c κs =
+      let given = c .before .before in
+      let first = given .before .before .before .before .before in (
+        omega (arith, entry first .pre .0, first-gives given),
+        second-due (first-answer first) (given .before .next .given .1) (entry first .pre .1),
+      )
+
+  type-parts-enum-known-fault-2 : type-parts-lts.Need-enum-known-fault-2 calls-parts parts-here type-parts.Post
+  type-parts-enum-known-fault-2 c = search needs
+
+  type-parts-enum-known-end : type-parts-lts.Need-enum-known-end calls-parts parts-here type-parts.Post
+  type-parts-enum-known-end c = search needs
+
+  type-parts-add-limit : type-parts-lts.Need-add-limit calls-parts parts-here type-parts.Post
+  type-parts-add-limit c =
+      let second = c .before .before .before .before .before in
+      let first = second .before .before .before .before .before .before .before .before in
+      omega (
+        arith,
+        first-gives (second .before .before .before),
+        second-small (first-answer first) (second .before .before .before .before .next .given .1) (second .before .before .within2 .ensures)
+            (second .type-node2 .ensures) (c .before .end .given .1) (entry first .pre .1),
+      )
+
+  type-parts-limit-requires : type-parts-lts.Need-limit-requires calls-parts parts-here type-parts.Post
+  type-parts-limit-requires c κs = search needs
+
+  type-parts-same-length : type-parts-lts.Need-same-length calls-parts parts-here type-parts.Post
+  type-parts-same-length c =
+      let first = c .before .before .before .before .before in
+      first-kept (first-answer first) (entry first .pre .1)
+
+  type-parts-returns : type-parts-lts.Need-returns calls-parts parts-here type-parts.Post
+  type-parts-returns c =
+      let first = c .before .before .before .before .before in
+      first-failed (first-answer first) _ (c .before .fault .given .1)
+
+  type-parts-same-length-2 : type-parts-lts.Need-same-length-2 calls-parts parts-here type-parts.Post
+  type-parts-same-length-2 c =
+      let second = c .before .before .before .before .before in
+      let first = second .before .before .before .before .before .before .before .before in
+      second-kept (first-answer first) (second .before .before .before .before .next .given .1) (second .before .before .within2 .ensures)
+      (second .type-node2 .ensures) (entry first .pre .1)
+
+  type-parts-returns-2 : type-parts-lts.Need-returns-2 calls-parts parts-here type-parts.Post
+  type-parts-returns-2 c =
+      let second = c .before .before .before .before .before in
+      let first = second .before .before .before .before .before .before .before .before in
+      second-failed (first-answer first) (second .before .before .before .before .next .given .1) (second .before .before .within2 .ensures)
+      (second .type-node2 .ensures) _ (c .before .fault2 .given .1)
+
+  type-parts-same-length-3 : type-parts-lts.Need-same-length-3 calls-parts parts-here type-parts.Post
+  type-parts-same-length-3 c =
+      let second = c .before .before .before .before .before .before in
+      let first = second .before .before .before .before .before .before .before .before in
+      second-kept (first-answer first) (second .before .before .before .before .next .given .1) (second .before .before .within2 .ensures)
+      (second .type-node2 .ensures) (entry first .pre .1)
+
+  type-parts-returns-3 : type-parts-lts.Need-returns-3 calls-parts parts-here type-parts.Post
+  type-parts-returns-3 c =
+      let second = c .before .before .before .before .before .before in
+      let first = second .before .before .before .before .before .before .before .before in
+      rw (c .limit .ensures)
+      (both-given (first-answer first) (second .before .before .before .before .next .given .1) (second .before .before .within2 .ensures)
+      (second .type-node2 .ensures) (c .before .before .end .given .1))
+
+pub +type-node+type-parts-spec : {M : Type 1} → statement M
++type-node+type-parts-spec =
+    close
+    μ-type-node
+    μ-type-parts
+    (λ t. type-node-lts.spec
+    (calls-node t)
+    (node-here t)
+    type-node.Post
+    (type-node-shared-slice-read-match t)
+    (type-node-add-type-parts t)
+    (type-node-type-parts-requires t)
+    (type-node-shared-slice-read-if1 t)
+    (type-node-returns t)
+    (type-node-add-first t)
+    (type-node-skip-type-requires t)
+    (type-node-add-type-parts-2 t)
+    (type-node-type-parts-requires-2 t)
+    (type-node-add-type-node t)
+    (type-node-slice-aggregate-type-node t)
+    (type-node-type-node-requires t)
+    (type-node-enum-known-fault t)
+    (type-node-enum-known-second t)
+    (type-node-slice-aggregate-type-node-2 t)
+    (type-node-type-node-requires-2 t)
+    (type-node-type-leaf-requires t)
+    (type-node-same-length t)
+    (type-node-returns-2 t)
+    (type-node-same-length-2 t)
+    (type-node-returns-3 t)
+    (type-node-returns-4 t)
+    (type-node-same-length-3 t)
+    (type-node-returns-5 t)
+    (type-node-same-length-4 t)
+    (type-node-returns-6 t))
+    λ t. type-parts-lts.spec
+    (calls-parts t)
+    (parts-here t)
+    type-parts.Post
+    (type-parts-append-kind-requires t)
+    (type-parts-within-requires t)
+    (type-parts-sub-type-node t)
+    (type-parts-part-type-node-start t)
+    (type-parts-part-type-node-end t)
+    (type-parts-type-node-requires t)
+    (type-parts-enum-known-fault t)
+    (type-parts-enum-known-next t)
+    (type-parts-add-written t)
+    (type-parts-within-requires-2 t)
+    (type-parts-sub-type-node-2 t)
+    (type-parts-part-type-node-start-2 t)
+    (type-parts-part-type-node-end-2 t)
+    (type-parts-type-node-requires-2 t)
+    (type-parts-enum-known-fault-2 t)
+    (type-parts-enum-known-end t)
+    (type-parts-add-limit t)
+    (type-parts-limit-requires t)
+    (type-parts-same-length t)
+    (type-parts-returns t)
+    (type-parts-same-length-2 t)
+    (type-parts-returns-2 t)
+    (type-parts-same-length-3 t)
+    (type-parts-returns-3 t)

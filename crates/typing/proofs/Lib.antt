@@ -1,0 +1,4 @@
+pub mod Appending
+pub mod Regrouping
+pub mod TypingLeaf
+pub mod TypingParts

@@ -1,0 +1,88 @@
+-- The second pass at a node without parts: what it gives is known from its kind byte and its input type.
+use mathlib.Core.Path.{_≡_, refl, ap}
+use mathlib.Core.List.{List, [], _∷_}
+use Prim.Native.Nat.{ℕ, _+_, _≤_, _<_}
+use native.Mathlib.Omega.{arith}
+use lib.ListN.{length, getD}
+use Rattle.stream.specs.Types.{Ty, size}
+use Rattle.stream.specs.Levels.{value-bytes}
+use Rattle.stream.specs.Reading.{Result}
+use Rattle.stream.specs.TypeFiles.{type-bytes}
+use Rattle.files.specs.TypeReads.{TypeAt, SomeTypeAt}
+use Rattle.node.specs.Nodes.{Small}
+use Rattle.node.specs.Checking.{gives, typing}
+use Rattle.node.specs.PatchFiles.{node-bytes}
+use Rattle.typing.specs.declared.Typed.{Typed}
+use Rattle.typing.specs.declared.Typed.the-variants.{Gives}
+use Rattle.patches.specs.PatchReads.{node-arity, width}
+use Rattle.patches.specs.PatchReads.Laws.{ends-inside, Case, by-byte, silent-at}
+use Rattle.typing.specs.Typing.{Appends, Answers, GivenCarried, TypingDue, TypesNode}
+use Rattle.typing.specs.Typing.Laws.{nothing-written, written-on, answers-small}
+
+-- The nodes of the kind k take `wide` bytes and have this outcome.
+abbrev pub Leaf : ℕ → (Ty → Result Ty) → ℕ → Type 0
+Leaf wide outcome k = Case (λ n. (width n ≡ wide) × ((t : Ty) → typing t n ≡ outcome t)) k
+
+module _ {types : List ℕ} {at : ℕ} {nodes : List ℕ} {from : ℕ} where
+  pub leaf-typed : {lent after : List ℕ} {answer : Typed} {k : ℕ} {outcome : Ty → Result Ty} (wide : ℕ) → getD nodes from 0 ≡ k → Leaf wide outcome k
+      → ((t : Ty) → TypeAt types at t → Answers (from + wide) (outcome t) lent after answer)
+      → TypesNode types at nodes from lent after answer
+  leaf-typed {lent} {after} {answer} {k} {outcome} wide e leaf given = record { each = each }
+    where
+      each : (due : TypingDue types at nodes from)
+          → Answers (from + width (due .node)) (typing (due .type) (due .node)) lent after answer
+      each due =
+          let is = by-byte (λ n. (width n ≡ wide) × ((t : Ty) → typing t n ≡ outcome t)) (due .node-at) e leaf in
+          rw (is .0, is .1 (due .type)) (given (due .type) (due .type-at))
+
+  -- Cue and level give a type of one byte.
+  pub emitter-typed : {lent after : List ℕ} {k size : ℕ} (wide : ℕ) (t : Ty) → getD nodes from 0 ≡ k → Leaf wide (λ s. gives t) k → Small t
+      → Appends (type-bytes t []) 0 lent after size → TypesNode types at nodes from lent after (Gives (from + wide) size)
+  emitter-typed {lent} wide t e leaf small appended =
+      leaf-typed wide e leaf (λ s stands. answers-small t small (written-on (nothing-written lent) appended) refl)
+
+  -- Silent gives the type that it carries.
+  module _ (e : getD nodes from 0 ≡ 1) where
+    pub carried-type : TypingDue types at nodes from → SomeTypeAt nodes (from + 1)
+    carried-type due = let silent = silent-at e (due .node-at) in record { type = silent .type; stands = silent .type-at }
+
+    pub silent-typed : {lent after : List ℕ} {answer : Typed} → GivenCarried nodes (from + 1) lent after answer
+        → TypesNode types at nodes from lent after answer
+    unfolding typing
+    silent-typed {lent} {after} {answer} given = record { each = each }
+      where
+        each : (due : TypingDue types at nodes from)
+            → Answers (from + width (due .node)) (typing (due .type) (due .node)) lent after answer
+        each due =
+            let silent = silent-at e (due .node-at) in
+            let end : from + width (due .node) ≡ from + 1 + size (silent .type) = omega (arith, silent .wide) in
+            rw (end, ap (typing (due .type)) (silent .made)) (given .each (silent .type) (silent .type-at))
+
+  -- A level's value stands behind its kind byte.
+  pub level-inside : TypingDue types at nodes from → getD nodes from 0 ≡ 3 → from + 3 ≤ length nodes
+  unfolding node-bytes value-bytes
+  level-inside due e =
+      let wide = by-byte (λ n. width n ≡ 3) (due .node-at) e (λ v. refl) in
+      omega (arith, ends-inside (due .node-at))
+
+-- The kinds that are left when all others but those with parts have been tried: front alone.
+
+abbrev Outside : List ℕ → ℕ → Type 0
+Outside [] k = Unit
+Outside (j ∷ js) k = Outside js k × (k ≡ j → ⊥)
+
+above : {j k : ℕ} → j ≤ k → (k ≡ j → ⊥) → j + 1 ≤ k
+above h other = omega arith
+
+last : (k : ℕ) → 14 ≤ k → k < 15 → k ≡ 14
+last k h listed = omega arith
+
+pub front-left : (k : ℕ) → k < 15 → node-arity k ≡ 0 → Outside (13 ∷ 12 ∷ 11 ∷ 8 ∷ 7 ∷ 6 ∷ 5 ∷ 3 ∷ 2 ∷ 1 ∷ 0 ∷ []) k → k ≡ 14
+front-left k listed leaf (((((((((((none, pass), silent), cue), level), left), right), first), second), regroup-right), regroup-left), spread) =
+    let low : 4 ≤ k = above (above (above (above (omega arith) pass) silent) cue) level in
+    let middle : 9 ≤ k = above (above (above (above (parted 4 refl low) left) right) first) second in
+    let high : 11 ≤ k = parted 10 refl (parted 9 refl middle) in
+    last k (above (above (above high regroup-right) regroup-left) spread) listed
+  where
+    parted : (j : ℕ) → node-arity j ≡ 2 → j ≤ k → j + 1 ≤ k
+    parted j two h = above h (λ e. omega (arith, ap node-arity e))

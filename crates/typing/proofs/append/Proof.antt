@@ -1,0 +1,42 @@
+-- `append` meets its contract: `copy` writes on the part behind what is written, if the source has room there (`Appending`).
+use borrow.Author.Needs.{needs}
+use Rattle.typing.proofs.Appending.{appended, not-appended}
+use Rattle.typing.proofs.append.Statement.{statement}
+use Rattle.typing.proofs.append.Tie as tie
+
+add-end : tie.Need-add-end
+add-end c = search needs
+
+sub-copy : tie.Need-sub-copy
+sub-copy c = search needs
+
+part-copy-start : tie.Need-part-copy-start
+part-copy-start c = search needs
+
+part-copy-end : tie.Need-part-copy-end
+part-copy-end c = search needs
+
+copy-requires : tie.Need-copy-requires
+copy-requires c κs = search needs
+
+same-length : tie.Need-same-length
+same-length c = search needs
+
+returns : tie.Need-returns
+returns c = appended _ (c .before .before .before .before .if1 .taken) (c .before .before .copy .ensures)
+
+returns-2 : tie.Need-returns-2
+returns-2 c = not-appended _ _ _ (c .if1 .left)
+
+pub append-spec : {M : Type 1} → statement M
+append-spec =
+    tie.close
+    (tie.spec
+    add-end
+    sub-copy
+    part-copy-start
+    part-copy-end
+    copy-requires
+    same-length
+    returns
+    returns-2)

@@ -1,0 +1,196 @@
+-- `type_leaf` meets its contract: each kind without parts gives what the function for it writes (`TypingLeaf`).
+use borrow.Author.Needs.{needs}
+use mathlib.Core.Path.{_≡_, refl}
+use Prim.Native.Nat.{ℕ}
+use native.Mathlib.Omega.{arith}
+use lib.ListN.{getD}
+use Rattle.stream.specs.Types.{cue, level, size, type-limit}
+use Rattle.stream.specs.Levels.{value-bytes}
+use Rattle.stream.specs.TypeFiles.{type-bytes}
+use Rattle.node.specs.Checking.{typing}
+use Rattle.node.specs.PatchFiles.{node-bytes}
+use Rattle.patches.specs.PatchReads.Laws.{starts-inside, kind-listed}
+use Rattle.typing.proofs.TypingLeaf.{leaf-typed, emitter-typed, carried-type, silent-typed, level-inside, front-left}
+use Rattle.typing.proofs.type_leaf.Statement.{statement}
+use Rattle.typing.proofs.type_leaf.Tie as tie
+
+add-next : tie.Need-add-next
+add-next c = omega (arith, starts-inside (c .before .before .before .pre .0 .node-at))
+
+shared-slice-read-match : tie.Need-shared-slice-read-match
+shared-slice-read-match c = starts-inside (c .before .before .before .before .pre .0 .node-at)
+
+give-type-requires : tie.Need-give-type-requires
+give-type-requires c κs = search needs
+
+give-carried-requires : tie.Need-give-carried-requires
+give-carried-requires c κs = carried-type (c .before .match .keys2) (c .before .before .before .before .before .before .pre .0)
+
+append-kind-requires : tie.Need-append-kind-requires
+append-kind-requires c κs = search needs
+
+add-t18 : tie.Need-add-t18
+add-t18 c = omega (arith, level-inside (c .before .before .before .before .before .pre .0) (c .match .keys4))
+
+append-kind-requires-2 : tie.Need-append-kind-requires-2
+append-kind-requires-2 c κs = search needs
+
+give-first-requires : tie.Need-give-first-requires
+give-first-requires c κs = search needs
+
+give-second-requires : tie.Need-give-second-requires
+give-second-requires c κs = search needs
+
+give-first-requires-2 : tie.Need-give-first-requires-2
+give-first-requires-2 c κs = search needs
+
+give-second-requires-2 : tie.Need-give-second-requires-2
+give-second-requires-2 c κs = search needs
+
+give-regrouped-right-requires : tie.Need-give-regrouped-right-requires
+give-regrouped-right-requires c κs = search needs
+
+give-regrouped-left-requires : tie.Need-give-regrouped-left-requires
+give-regrouped-left-requires c κs = search needs
+
+give-spread-requires : tie.Need-give-spread-requires
+give-spread-requires c κs = search needs
+
+give-front-requires : tie.Need-give-front-requires
+give-front-requires c κs = search needs
+
+-- What is left is front.
+abbrev kind : tie.Start → ℕ
+kind c = getD (c .args .nodes .now) (c .args .from) 0
+
+front-kind : (c : tie.At-match-rest) → kind (c .before .before .before .before .before) ≡ 14
+front-kind c =
+    let start = c .before .before .before .before .before in
+    front-left (kind start) (kind-listed (start .pre .0 .node-at)) (start .pre .1) (c .match .rest)
+
+same-length : tie.Need-same-length
+same-length c = search needs
+
+returns : tie.Need-returns
+unfolding typing node-bytes
+returns c = leaf-typed 1 (c .before .before .before .before .match .keys1) (refl, λ t. refl) (c .before .before .give-type .ensures .each)
+
+same-length-2 : tie.Need-same-length-2
+same-length-2 c = search needs
+
+returns-2 : tie.Need-returns-2
+returns-2 c = silent-typed (c .before .before .before .before .match .keys2) (c .before .before .give-carried .ensures)
+
+same-length-3 : tie.Need-same-length-3
+same-length-3 c = search needs
+
+returns-3 : tie.Need-returns-3
+unfolding typing node-bytes type-bytes size type-limit
+returns-3 c = emitter-typed 1 cue (c .before .before .before .before .match .keys3) (refl, λ t. refl) (omega arith) (c .before .before .append-kind .ensures)
+
+same-length-4 : tie.Need-same-length-4
+same-length-4 c = search needs
+
+returns-4 : tie.Need-returns-4
+unfolding typing node-bytes value-bytes type-bytes size type-limit
+returns-4 c = emitter-typed 3 level (c .before .before .before .before .match .keys4) (λ v. (refl, λ t. refl)) (omega arith) (c .before .before .append-kind2 .ensures)
+
+same-length-5 : tie.Need-same-length-5
+same-length-5 c = search needs
+
+returns-5 : tie.Need-returns-5
+unfolding typing node-bytes
+returns-5 c = leaf-typed 1 (c .before .before .before .before .match .keys5) (refl, λ t. refl) (c .before .before .give-first .ensures .each)
+
+same-length-6 : tie.Need-same-length-6
+same-length-6 c = search needs
+
+returns-6 : tie.Need-returns-6
+unfolding typing node-bytes
+returns-6 c = leaf-typed 1 (c .before .before .before .before .match .keys6) (refl, λ t. refl) (c .before .before .give-second .ensures .each)
+
+same-length-7 : tie.Need-same-length-7
+same-length-7 c = search needs
+
+returns-7 : tie.Need-returns-7
+unfolding typing node-bytes
+returns-7 c = leaf-typed 1 (c .before .before .before .before .match .keys7) (refl, λ t. refl) (c .before .before .give-first2 .ensures .each)
+
+same-length-8 : tie.Need-same-length-8
+same-length-8 c = search needs
+
+returns-8 : tie.Need-returns-8
+unfolding typing node-bytes
+returns-8 c = leaf-typed 1 (c .before .before .before .before .match .keys8) (refl, λ t. refl) (c .before .before .give-second2 .ensures .each)
+
+same-length-9 : tie.Need-same-length-9
+same-length-9 c = search needs
+
+returns-9 : tie.Need-returns-9
+unfolding typing node-bytes
+returns-9 c = leaf-typed 1 (c .before .before .before .before .match .keys9) (refl, λ t. refl) (c .before .before .give-regrouped-right .ensures .each)
+
+same-length-10 : tie.Need-same-length-10
+same-length-10 c = search needs
+
+returns-10 : tie.Need-returns-10
+unfolding typing node-bytes
+returns-10 c = leaf-typed 1 (c .before .before .before .before .match .keys10) (refl, λ t. refl) (c .before .before .give-regrouped-left .ensures .each)
+
+same-length-11 : tie.Need-same-length-11
+same-length-11 c = search needs
+
+returns-11 : tie.Need-returns-11
+unfolding typing node-bytes
+returns-11 c = leaf-typed 1 (c .before .before .before .before .match .keys11) (refl, λ t. refl) (c .before .before .give-spread .ensures .each)
+
+same-length-12 : tie.Need-same-length-12
+same-length-12 c = search needs
+
+returns-12 : tie.Need-returns-12
+unfolding typing node-bytes
+returns-12 c = leaf-typed 1 (front-kind (c .before .before .before .before)) (refl, λ t. refl) (c .before .before .give-front .ensures .each)
+
+pub type-leaf-spec : {M : Type 1} → statement M
+type-leaf-spec =
+    tie.close
+    (tie.spec
+    add-next
+    shared-slice-read-match
+    give-type-requires
+    give-carried-requires
+    append-kind-requires
+    add-t18
+    append-kind-requires-2
+    give-first-requires
+    give-second-requires
+    give-first-requires-2
+    give-second-requires-2
+    give-regrouped-right-requires
+    give-regrouped-left-requires
+    give-spread-requires
+    give-front-requires
+    same-length
+    returns
+    same-length-2
+    returns-2
+    same-length-3
+    returns-3
+    same-length-4
+    returns-4
+    same-length-5
+    returns-5
+    same-length-6
+    returns-6
+    same-length-7
+    returns-7
+    same-length-8
+    returns-8
+    same-length-9
+    returns-9
+    same-length-10
+    returns-10
+    same-length-11
+    returns-11
+    same-length-12
+    returns-12)

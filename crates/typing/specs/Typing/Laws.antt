@@ -1,0 +1,179 @@
+-- The algebra of writing where there may be no room, and what an answer of the second pass says.
+use mathlib.Core.Bool.{Bool, true, false}
+use mathlib.Core.Path.{_≡_, refl, sym, ap, _∙_}
+use mathlib.Core.List.{List, [], _++_}
+use Prim.Native.Nat.{ℕ, _+_, _-_, _≤_, _<_}
+use native.Mathlib.Omega.{arith}
+use lib.Dec.{leb}
+use lib.ListN.{length, getD, take, drop, length-append, length-drop}
+use lib.Seq.{length-take-le}
+use borrow.Author.Tests.{le-leb, lt-leb, eq-eqb, ne-eqb}
+use Rattle.stream.specs.declared.Fault.{Fault}
+use Rattle.stream.specs.declared.Fault.the-variants.{TypeTooLarge}
+use Rattle.stream.specs.Types.{Ty, size, type-limit, kind, second-part, has-kind}
+use Rattle.stream.specs.Reading.{Result, accepted, refused, require}
+use Rattle.stream.specs.Buffers.{front}
+use Rattle.stream.specs.TypeFiles.{type-bytes}
+use Rattle.files.specs.TypeReads.{TypeAt, TypeEnds}
+use Rattle.files.specs.TypeReads.Laws.{type-width, bytes-at, kind-at, first-at, second-at}
+use Rattle.writing.specs.Writing.Laws.{part, back, part-is, onward}
+use Rattle.node.specs.Nodes.{Node, Small}
+use Rattle.node.specs.Nodes.Laws.{output-small}
+use Rattle.node.specs.Checking.{gives, typing}
+use Rattle.node.specs.Checking.Laws.{Carries, gives-accepted, typing-sound}
+use Rattle.typing.specs.declared.Typed.{Typed}
+use Rattle.typing.specs.declared.Typed.the-variants.{Gives, Failed}
+use Rattle.typing.specs.Typing.{typed, limited, Holds, Appends, Within, Answers}
+
+-- A part that is lent on, and comes back as long as it was.
+
+pub part-length : (a : ℕ) (x : List ℕ) → length (part a x) ≡ length x - a
+part-length a x = ap length (part-is a x) ∙ length-drop a x
+
+pub back-length : (a : ℕ) (x y : List ℕ) → a ≤ length x → length y ≡ length (part a x) → length (back a x y) ≡ length x
+back-length a x y inside kept =
+    omega (
+      arith,
+      length-append (take a x) (y ++ drop (length x - a) (drop a x)),
+      length-append y (drop (length x - a) (drop a x)),
+      length-take-le a x inside,
+      length-drop (length x - a) (drop a x),
+      length-drop a x,
+      part-length a x,
+    )
+
+pub holds-nothing : (x : List ℕ) → Holds [] x x
+holds-nothing x = record { long = refl; in-front = λ h. refl }
+
+-- More is written on the part behind, or on no part at all if there was no room.
+pub holds-part : {bytes more lent now y : List ℕ} {start : ℕ} → Holds bytes lent now → Within (length bytes) (length now) start
+    → Holds more (part start now) y → Holds (bytes ++ more) lent (back start now y)
+holds-part {bytes} {more} {lent} {now} {y} {start} holds within rest =
+    record { long = back-length start now y (within .inside) (rest .long) ∙ holds .long; in-front = all }
+  where
+    all : length (bytes ++ more) ≤ length lent → back start now y ≡ front (bytes ++ more) lent
+    all room =
+        let both = length-append bytes more in
+        let starts : start ≡ length bytes = within .behind (omega (arith, holds .long)) in
+        onward bytes lent now start (sym starts) (holds .in-front (omega arith)) more y
+        (rest .in-front (omega (arith, part-length start now, holds .long)))
+
+-- What has been written so far: all of `bytes`, which are `written` many.
+pub record Written (bytes lent now : List ℕ) (written : ℕ) : Type 0 where
+  pub long : length bytes ≡ written
+  pub holds : Holds bytes lent now
+
+pub nothing-written : (lent : List ℕ) → Written [] lent lent 0
+nothing-written lent = record { long = refl; holds = holds-nothing lent }
+
+pub written-on : {bytes source lent now after : List ℕ} {written end : ℕ} → Written bytes lent now written → Appends source written now after end
+    → Written (bytes ++ source) lent after end
+written-on {bytes} {source} {lent} so-far more =
+    record {
+      long = omega (arith, length-append bytes source, so-far .long, more .ends);
+      holds = more .each bytes lent (so-far .long) (so-far .holds);
+    }
+
+-- The same where the part behind is lent on, and comes back with `more`.
+pub written-part : {bytes more lent now y : List ℕ} {written start n : ℕ} → Written bytes lent now written → Within written (length now) start
+    → Holds more (part start now) y → n ≡ length more → Written (bytes ++ more) lent (back start now y) (written + n)
+written-part {bytes} {more} so-far within rest long =
+    record {
+      long = omega (arith, length-append bytes more, so-far .long);
+      holds = holds-part (so-far .holds) (rw (so-far .long) within) rest;
+    }
+
+-- The bytes from where a type stands to where it ends.
+pub type-taken : {types : List ℕ} {at stop : ℕ} {t : Ty} → TypeAt types at t → TypeEnds types at stop
+    → take (stop - at) (drop at types) ≡ type-bytes t []
+type-taken {types} {at} {stop} {t} stands ends =
+    let long : stop - at ≡ size t = omega (arith, ends .each t stands) in
+    rw long (bytes-at stands)
+
+-- The second part of a type stands where the first ends.
+pub second-behind : {types : List ℕ} {at second : ℕ} {t : Ty} → TypeAt types at t → 3 ≤ kind t → TypeEnds types (at + 1) second
+    → TypeAt types second (second-part t)
+second-behind stands fork ends = rw (ends .each _ (first-at stands fork)) (second-at stands fork)
+
+-- The kind byte tells whether a type has the shape that is asked.
+module _ {types : List ℕ} {at : ℕ} {t : Ty} (stands : TypeAt types at t) {shape : ℕ} where
+  pub other-shape : (getD types at 0 ≡ shape → ⊥) → has-kind shape t ≡ false
+  other-shape h = ne-eqb (kind t) shape (λ e. h (kind-at stands ∙ e))
+
+  pub same-shape : getD types at 0 ≡ shape → has-kind shape t ≡ true
+  same-shape h = eq-eqb (kind t) shape (sym (kind-at stands) ∙ h)
+
+  pub is-fork : getD types at 0 ≡ shape → 3 ≤ shape → 3 ≤ kind t
+  is-fork h fork = omega (arith, kind-at stands)
+
+-- What is told of a type given
+
+pub limited-small : (end : ℕ) {n : ℕ} → n ≤ type-limit → limited end n ≡ Gives end n
+unfolding limited
+limited-small end {n} h = rw (limited, le-leb n type-limit h)
+
+pub limited-large : (end : ℕ) {n : ℕ} → type-limit < n → limited end n ≡ Failed TypeTooLarge
+unfolding limited
+limited-large end {n} h = rw (limited, lt-leb n type-limit h)
+
+pub typed-gives : (end : ℕ) (t : Ty) → typed end (gives t) ≡ limited end (size t)
+unfolding typed gives limited
+typed-gives end t = go (leb (size t) type-limit)
+  where
+    go : (b : Bool) → typed end (require b TypeTooLarge (accepted t)) ≡ elim b [ true ↦ Gives end (size t) | false ↦ Failed TypeTooLarge ]
+    go true = refl
+    go false = refl
+
+pub typing-small : (s : Ty) (n : Node) {t : Ty} → Carries n → typing s n ≡ accepted t → Small t
+typing-small s n {t} carries e = let d = typing-sound s n t carries e in output-small (d .types) (d .fits)
+
+-- What an answer says of the outcome
+
+pub record IsGiven (end next n : ℕ) (outcome : Result Ty) : Type 0 where
+  pub type : Ty
+  pub given : outcome ≡ accepted type
+  pub ends : next ≡ end
+  pub sized : n ≡ size type
+
+pub is-given : {next n : ℕ} (end : ℕ) (outcome : Result Ty) → Gives next n ≡ typed end outcome → IsGiven end next n outcome
+unfolding typed
+is-given end (accepted t) e = record { type = t; given = refl; ends = cc; sized = cc }
+is-given end (refused f) e = let z : _≡_ {A = ℕ} 0 1 = cc in absurd (omega arith)
+
+pub is-refused : {fault : Fault} (end : ℕ) (outcome : Result Ty) → Failed fault ≡ typed end outcome → outcome ≡ refused fault
+unfolding typed
+is-refused end (accepted t) e = let z : _≡_ {A = ℕ} 0 1 = cc in absurd (omega arith)
+is-refused end (refused f) e = cc
+
+-- Answers
+
+pub answers-refused : {end : ℕ} {fault : Fault} {lent now : List ℕ} → length now ≡ length lent
+    → Answers end (refused fault) lent now (Failed fault)
+unfolding typed
+answers-refused kept = record { answers = refl; long = kept; writes = λ t e. let z : _≡_ {A = ℕ} 0 1 = cc in absurd (omega arith) }
+
+pub answers-written : {end n : ℕ} {pieces lent now : List ℕ} (t : Ty) → Written pieces lent now n → pieces ≡ type-bytes t []
+    → Answers end (gives t) lent now (limited end n)
+answers-written {end} {n} t so-far all =
+    record {
+      answers = ap (limited end) sized ∙ sym (typed-gives end t);
+      long = so-far .holds .long;
+      writes = λ u e. rw (← gives-accepted t u e .0, ← all) (so-far .holds);
+    }
+  where
+    sized : n ≡ size t
+    sized = sym (so-far .long) ∙ ap length all ∙ type-width t
+
+pub answers-small : {end n : ℕ} {pieces lent now : List ℕ} (t : Ty) → Small t → Written pieces lent now n → pieces ≡ type-bytes t []
+    → Answers end (gives t) lent now (Gives end n)
+answers-small {end} {n} t small so-far all =
+    rw (← limited-small end {n = n} (omega (arith, small, so-far .long, ap length all, type-width t))) (answers-written t so-far all)
+
+-- What has to hold does not, or does.
+pub requires-fails : {end : ℕ} {b : Bool} {fault : Fault} (r : Result Ty) {lent now : List ℕ} → b ≡ false → length now ≡ length lent
+    → Answers end (require b fault r) lent now (Failed fault)
+requires-fails r e kept = rw e (answers-refused kept)
+
+pub requires-holds : {end : ℕ} {b : Bool} (fault : Fault) {r : Result Ty} {lent now : List ℕ} {answer : Typed} → b ≡ true
+    → Answers end r lent now answer → Answers end (require b fault r) lent now answer
+requires-holds fault e answered = rw e answered

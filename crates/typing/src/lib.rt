@@ -1,0 +1,273 @@
+// Check's second pass: the type that a node gives, written in preorder, or the first fault.
+//
+// A type is written on work bytes that may be too short for it: at a node with two parts a fault of the second part comes
+// before the size of the type that both give. So every writer here says how long its answer is, and writes it only if there
+// is room.
+use files::types::Ty;
+use files::types::is_nullable;
+use files::types::skip_type;
+use stream::Fault;
+use writing::copy;
+ghost use mathlib.Core.Path.{_≡_};
+ghost use mathlib.Core.List.{_∷_, []};
+ghost use Prim.Native.Nat.{_+_, _≤_};
+ghost use lib.ListN.{length, getD};
+ghost use mir.Val.{Fits};
+ghost use mir.Syntax.{w64};
+ghost use Rattle.files.specs.TypeReads.{SomeTypeAt};
+ghost use Rattle.node.specs.Nodes.{regroup-right, regroup-left, spread, front};
+ghost use Rattle.node.specs.Checking.{gives, typing};
+ghost use Rattle.patches.specs.PatchReads.{node-arity};
+ghost use Rattle.typing.specs.Typing.{limited, Appends, Within, first-of, second-of, Given, GivenCarried, TypingDue, TypesNode, PartsDue, TypesParts};
+
+// How the second pass leaves a node: where the node ends and how many nodes the type has that it gives, or the first fault.
+pub enum Typed {
+    Gives(usize, usize),
+    Failed(Fault),
+}
+
+// "4 if the type it gives is too large": a type of `size` nodes, given by a node that ends at `end`.
+fn limit(end: usize, size: usize) -> Typed
+    ensures { λ r. ⌜ r ≡ limited end size ⌝ }
+{
+    if Ty::MAX_NODES < size {
+        return Typed::Failed(Fault::TypeTooLarge);
+    }
+    Typed::Gives(end, size)
+}
+
+// Writes all of `source` behind the first `written` bytes, if there is room, and says how many bytes there are with it.
+fn append(source: &[u8], written: usize, out: &mut [u8]) -> usize
+    requires { ⌜ Fits w64 (written + length (now source)) ⌝ }
+    ensures { λ r. ⌜ Appends (now (source .entry)) written (now (out .entry)) (now (out .exit)) r ⌝ }
+{
+    let end = written + source.len();
+    if end <= out.len() {
+        copy(source, &mut out[written..]);
+    }
+    end
+}
+
+// The same for one kind byte.
+fn append_kind(kind: u8, written: usize, out: &mut [u8]) -> usize
+    requires { ⌜ Fits w64 (written + 1) ⌝ }
+    ensures { λ r. ⌜ Appends (kind ∷ []) written (now (out .entry)) (now (out .exit)) r ⌝ }
+{
+    if written < out.len() {
+        out[written] = kind;
+    }
+    written + 1
+}
+
+// Where the part behind `written` bytes starts: at the end if they had no room.
+fn within(written: usize, room: usize) -> usize
+    ensures { λ r. ⌜ Within written room r ⌝ }
+{
+    if written < room {
+        return written;
+    }
+    room
+}
+
+// Gives the type at `at`.
+fn give_type(types: &[u8], at: usize, end: usize, out: &mut [u8]) -> Typed
+    requires { ⌜ SomeTypeAt (now types) at ⌝ }
+    ensures { λ r. ⌜ Given gives (now (types .entry)) at end (now (out .entry)) (now (out .exit)) r ⌝ }
+{
+    let stop = skip_type(types, at);
+    Typed::Gives(end, append(&types[at..stop], 0, out))
+}
+
+// Gives the first part of the type at `at`, which has to be of the kind `shape`: nodes 5 and 7.
+fn give_first(shape: u8, types: &[u8], at: usize, end: usize, out: &mut [u8]) -> Typed
+    requires { ⌜ SomeTypeAt (now types) at × (3 ≤ shape) ⌝ }
+    ensures { λ r. ⌜ Given (first-of shape) (now (types .entry)) at end (now (out .entry)) (now (out .exit)) r ⌝ }
+{
+    if types[at] != shape {
+        return Typed::Failed(Fault::WrongShape);
+    }
+    give_type(types, at + 1, end, out)
+}
+
+// Gives its second part: nodes 6 and 8.
+fn give_second(shape: u8, types: &[u8], at: usize, end: usize, out: &mut [u8]) -> Typed
+    requires { ⌜ SomeTypeAt (now types) at × (3 ≤ shape) ⌝ }
+    ensures { λ r. ⌜ Given (second-of shape) (now (types .entry)) at end (now (out .entry)) (now (out .exit)) r ⌝ }
+{
+    if types[at] != shape {
+        return Typed::Failed(Fault::WrongShape);
+    }
+    let first = at + 1;
+    let second = skip_type(types, first);
+    give_type(types, second, end, out)
+}
+
+// Gives the type that silent carries at `at`, where the node ends that carries it.
+fn give_carried(nodes: &[u8], at: usize, out: &mut [u8]) -> Typed
+    requires { ⌜ SomeTypeAt (now nodes) at ⌝ }
+    ensures { λ r. ⌜ GivenCarried (now (nodes .entry)) at (now (out .entry)) (now (out .exit)) r ⌝ }
+{
+    if !is_nullable(nodes, at) {
+        return Typed::Failed(Fault::NotNullable);
+    }
+    let end = skip_type(nodes, at);
+    give_type(nodes, at, end, out)
+}
+
+// Gives s, (t, r) for the type (s, t), r at `at`: 3 3 s t r becomes 3 s 3 t r.
+fn give_regrouped_right(types: &[u8], at: usize, end: usize, out: &mut [u8]) -> Typed
+    requires { ⌜ SomeTypeAt (now types) at ⌝ }
+    ensures { λ r. ⌜ Given (λ t. typing t regroup-right) (now (types .entry)) at end (now (out .entry)) (now (out .exit)) r ⌝ }
+{
+    if types[at] != 3 {
+        return Typed::Failed(Fault::WrongShape);
+    }
+    if types[at + 1] != 3 {
+        return Typed::Failed(Fault::WrongShape);
+    }
+    let first = at + 2;
+    let second = skip_type(types, first);
+    let third = skip_type(types, second);
+    let stop = skip_type(types, third);
+    let mut written = append_kind(3, 0, out);
+    written = append(&types[first..second], written, out);
+    written = append_kind(3, written, out);
+    Typed::Gives(end, append(&types[second..stop], written, out))
+}
+
+// Gives (s, t), r for the type s, (t, r) at `at`: 3 s 3 t r becomes 3 3 s t r.
+fn give_regrouped_left(types: &[u8], at: usize, end: usize, out: &mut [u8]) -> Typed
+    requires { ⌜ SomeTypeAt (now types) at ⌝ }
+    ensures { λ r. ⌜ Given (λ t. typing t regroup-left) (now (types .entry)) at end (now (out .entry)) (now (out .exit)) r ⌝ }
+{
+    if types[at] != 3 {
+        return Typed::Failed(Fault::WrongShape);
+    }
+    let first = at + 1;
+    let rest = skip_type(types, first);
+    if types[rest] != 3 {
+        return Typed::Failed(Fault::WrongShape);
+    }
+    let second = rest + 1;
+    let stop = skip_type(types, rest);
+    let mut written = append_kind(3, 0, out);
+    written = append_kind(3, written, out);
+    written = append(&types[first..rest], written, out);
+    Typed::Gives(end, append(&types[second..stop], written, out))
+}
+
+// Gives (s, t) beside (s, r) for the type s, (t beside r) at `at`: 3 s 4 t r becomes 4 3 s t 3 s r.
+fn give_spread(types: &[u8], at: usize, end: usize, out: &mut [u8]) -> Typed
+    requires { ⌜ SomeTypeAt (now types) at ⌝ }
+    ensures { λ r. ⌜ Given (λ t. typing t spread) (now (types .entry)) at end (now (out .entry)) (now (out .exit)) r ⌝ }
+{
+    if types[at] != 3 {
+        return Typed::Failed(Fault::WrongShape);
+    }
+    let first = at + 1;
+    let rest = skip_type(types, first);
+    if types[rest] != 4 {
+        return Typed::Failed(Fault::WrongShape);
+    }
+    let second = rest + 1;
+    let third = skip_type(types, second);
+    let stop = skip_type(types, third);
+    let mut written = append_kind(4, 0, out);
+    written = append_kind(3, written, out);
+    written = append(&types[first..rest], written, out);
+    written = append(&types[second..third], written, out);
+    written = append_kind(3, written, out);
+    written = append(&types[first..rest], written, out);
+    written = append(&types[third..stop], written, out);
+    limit(end, written)
+}
+
+// Gives empty, s for the type s at `at`.
+fn give_front(types: &[u8], at: usize, end: usize, out: &mut [u8]) -> Typed
+    requires { ⌜ SomeTypeAt (now types) at ⌝ }
+    ensures { λ r. ⌜ Given (λ t. typing t front) (now (types .entry)) at end (now (out .entry)) (now (out .exit)) r ⌝ }
+{
+    let stop = skip_type(types, at);
+    let mut written = append_kind(3, 0, out);
+    written = append_kind(0, written, out);
+    written = append(&types[at..stop], written, out);
+    limit(end, written)
+}
+
+// The type that a node without parts gives.
+fn type_leaf(types: &[u8], at: usize, nodes: &[u8], from: usize, out: &mut [u8]) -> Typed
+    requires { ⌜ TypingDue (now types) at (now nodes) from ⌝ }
+    requires { ⌜ node-arity (getD (now nodes) from 0) ≡ 0 ⌝ }
+    ensures { λ r. ⌜ TypesNode (now (types .entry)) at (now (nodes .entry)) from (now (out .entry)) (now (out .exit)) r ⌝ }
+{
+    let next = from + 1;
+    match nodes[from] {
+        0 => give_type(types, at, next, out),
+        1 => give_carried(nodes, next, out),
+        2 => Typed::Gives(next, append_kind(1, 0, out)),
+        3 => Typed::Gives(from + 3, append_kind(2, 0, out)),
+        5 => give_first(4, types, at, next, out),
+        6 => give_second(4, types, at, next, out),
+        7 => give_first(3, types, at, next, out),
+        8 => give_second(3, types, at, next, out),
+        11 => give_regrouped_right(types, at, next, out),
+        12 => give_regrouped_left(types, at, next, out),
+        13 => give_spread(types, at, next, out),
+        _ => give_front(types, at, next, out),
+    }
+}
+
+// The type that a node gives on the type at `at`. The parts of `both` and `then` write theirs behind one kind byte; what the
+// first part of `chain` gives is the input of the second.
+pub fn type_node(types: &[u8], at: usize, nodes: &[u8], from: usize, out: &mut [u8]) -> Typed
+    requires { ⌜ TypingDue (now types) at (now nodes) from ⌝ }
+    ensures { λ r. ⌜ TypesNode (now (types .entry)) at (now (nodes .entry)) from (now (out .entry)) (now (out .exit)) r ⌝ }
+{
+    match nodes[from] {
+        4 => type_parts(4, types, at, at, nodes, from + 1, out),
+        9 => {
+            if types[at] != 3 {
+                return Typed::Failed(Fault::WrongShape);
+            }
+            let first = at + 1;
+            let second = skip_type(types, first);
+            type_parts(3, types, first, second, nodes, from + 1, out)
+        }
+        10 => {
+            let mut middle = [0u8; 255];
+            match type_node(types, at, nodes, from + 1, &mut middle) {
+                Typed::Failed(fault) => Typed::Failed(fault),
+                Typed::Gives(second, _) => type_node(&middle, 0, nodes, second, out),
+            }
+        }
+        _ => type_leaf(types, at, nodes, from, out),
+    }
+}
+
+// The type of the kind `kind` that the two nodes at `from` give together, one on the type at `first`, one on that at `second`.
+fn type_parts(
+    kind: u8,
+    types: &[u8],
+    first: usize,
+    second: usize,
+    nodes: &[u8],
+    from: usize,
+    out: &mut [u8],
+) -> Typed
+    requires { ⌜ PartsDue kind (now types) first second (now nodes) from ⌝ }
+    ensures { λ r. ⌜ TypesParts kind (now (types .entry)) first second (now (nodes .entry)) from (now (out .entry)) (now (out .exit)) r ⌝ }
+{
+    let before = append_kind(kind, 0, out);
+    let start = within(before, out.len());
+    match type_node(types, first, nodes, from, &mut out[start..]) {
+        Typed::Failed(fault) => Typed::Failed(fault),
+        Typed::Gives(next, size) => {
+            let written = before + size;
+            let rest = within(written, out.len());
+            match type_node(types, second, nodes, next, &mut out[rest..]) {
+                Typed::Failed(fault) => Typed::Failed(fault),
+                Typed::Gives(end, other) => limit(end, written + other),
+            }
+        }
+    }
+}

@@ -1,0 +1,111 @@
+-- What the writers promise and ask: contracts inside the library, which no demand rests on.
+use mathlib.Core.Path.{_≡_}
+use mathlib.Core.List.{List, [], _∷_}
+use Prim.Native.Nat.{ℕ, _+_, _≤_, _<_}
+use lib.ListN.{length, getD}
+use Rattle.writing.specs.declared.Moved.{Moved}
+use Rattle.stream.specs.Types.{Ty, size}
+use Rattle.stream.specs.Buffers.{front}
+use Rattle.stream.specs.Prefixes.{Prefix, IsPrefix, derivative, concat}
+use Rattle.stream.specs.TypeFiles.{type-bytes, type-file-bytes}
+use Rattle.stream.specs.SliceFiles.{prefix-bytes, slice-file-bytes}
+use Rattle.files.specs.TypeReads.{TypeAt}
+use Rattle.files.specs.SliceReads.{width, PrefixAt}
+pub mod Laws
+pub mod Standing
+
+-- The prefix at `at` is to be copied onto `lent`, which has room for it.
+pub record PrefixDue (bytes : List ℕ) (at : ℕ) (lent : List ℕ) : Type 0 where
+  pub prefix : Prefix
+  pub stands : PrefixAt bytes at prefix
+  pub room : width prefix ≤ length lent
+
+pub record PrefixWritten (bytes : List ℕ) (at : ℕ) (lent lent-after : List ℕ) (written : ℕ) : Type 0 where
+  pub each : (due : PrefixDue bytes at lent) → (written ≡ width (due .prefix)) × (lent-after ≡ front (prefix-bytes (due .prefix) []) lent)
+
+-- The kind of the type that a leaf of a slice leaves.
+abbrev pub leaf-left : ℕ → ℕ
+leaf-left k = getD (0 ∷ 1 ∷ 0 ∷ 2 ∷ []) k 0
+
+-- A type and a prefix of it, in their bytes.
+pub record Stands (types : List ℕ) (at : ℕ) (slice : List ℕ) (from : ℕ) (t : Ty) (p : Prefix) : Type 0 where
+  pub type-at : TypeAt types at t
+  pub prefix-at : PrefixAt slice from p
+  pub is-prefix : IsPrefix t p
+
+-- What the prefix leaves of the type is to be written on `lent`, which has room for it.
+pub record DerivativeDue (types : List ℕ) (at : ℕ) (slice : List ℕ) (from : ℕ) (lent : List ℕ) : Type 0 where
+  pub type : Ty
+  pub prefix : Prefix
+  pub stands : Stands types at slice from type prefix
+  pub room : size (derivative type prefix) ≤ length lent
+
+-- Where both end, how many bytes were written, and which.
+pub record Moves (first-end second-end : ℕ) (bytes lent lent-after : List ℕ) (moved : Moved) : Type 0 where
+  pub first : moved .first ≡ first-end
+  pub second : moved .second ≡ second-end
+  pub written : moved .written ≡ length bytes
+  pub buffer : lent-after ≡ front bytes lent
+
+pub record DerivativeWritten (types : List ℕ) (at : ℕ) (slice : List ℕ) (from : ℕ) (lent lent-after : List ℕ) (moved : Moved) : Type 0 where
+  pub each : (due : DerivativeDue types at slice from lent)
+      → Moves (at + size (due .type)) (from + width (due .prefix)) (type-bytes (derivative (due .type) (due .prefix)) []) lent lent-after moved
+
+-- The same for a slice file, whose tree stands behind the two bytes of its count, and with a count before what is written;
+-- `left` is how many nodes the type left has.
+pub record LeftFileDue (types : List ℕ) (at : ℕ) (slice : List ℕ) (left : ℕ) (lent : List ℕ) : Type 0 where
+  pub type : Ty
+  pub prefix : Prefix
+  pub stands : Stands types at slice 2 type prefix
+  pub measured : left ≡ size (derivative type prefix)
+  pub room : 2 + left ≤ length lent
+
+pub record LeftFileWritten (types : List ℕ) (at : ℕ) (slice : List ℕ) (left : ℕ) (lent lent-after : List ℕ) : Type 0 where
+  pub each : (due : LeftFileDue types at slice left lent) → lent-after ≡ front (type-file-bytes (derivative (due .type) (due .prefix))) lent
+
+-- A prefix, and one of what it leaves, in their bytes.
+pub record Follows (first : List ℕ) (at : ℕ) (second : List ℕ) (from : ℕ) (t : Ty) (p q : Prefix) : Type 0 where
+  pub first-at : PrefixAt first at p
+  pub second-at : PrefixAt second from q
+  pub is-first : IsPrefix t p
+  pub is-second : IsPrefix (derivative t p) q
+
+-- Their join is to be written on `lent`, which has room for it.
+pub record ConcatDue (first : List ℕ) (at : ℕ) (second : List ℕ) (from : ℕ) (lent : List ℕ) : Type 0 where
+  pub type : Ty
+  pub one : Prefix
+  pub other : Prefix
+  pub follows : Follows first at second from type one other
+  pub room : width (concat one other) ≤ length lent
+
+-- The same where the first prefix is a leaf.
+pub record LeafConcatDue (first : List ℕ) (at : ℕ) (second : List ℕ) (from : ℕ) (lent : List ℕ) : Type 0 where
+  pub due : ConcatDue first at second from lent
+  pub leaf : getD first at 0 < 5
+
+pub record ConcatWritten (first : List ℕ) (at : ℕ) (second : List ℕ) (from : ℕ) (lent lent-after : List ℕ) (moved : Moved) : Type 0 where
+  pub each : (due : ConcatDue first at second from lent)
+      → Moves (at + width (due .one)) (from + width (due .other)) (prefix-bytes (concat (due .one) (due .other)) []) lent lent-after moved
+
+-- The same for two slice files, and with a count before what is written; `joined` is how many bytes the join has.
+pub record JoinedFileDue (first second : List ℕ) (joined : ℕ) (lent : List ℕ) : Type 0 where
+  pub type : Ty
+  pub one : Prefix
+  pub other : Prefix
+  pub follows : Follows first 2 second 2 type one other
+  pub measured : joined ≡ width (concat one other)
+  pub countable : joined ≤ 65535
+  pub room : 2 + joined ≤ length lent
+
+pub record JoinedFileWritten (first second : List ℕ) (joined : ℕ) (lent lent-after : List ℕ) : Type 0 where
+  pub each : (due : JoinedFileDue first second joined lent) → lent-after ≡ front (slice-file-bytes (concat (due .one) (due .other))) lent
+
+-- The file of a type, whose bytes are all of `bytes`, is to be written on `lent`, which has room for it.
+pub record TypeFileDue (bytes lent : List ℕ) : Type 0 where
+  pub type : Ty
+  pub here : bytes ≡ type-bytes type []
+  pub countable : size type ≤ 65535
+  pub room : 2 + size type ≤ length lent
+
+pub record TypeFileWritten (bytes lent lent-after : List ℕ) : Type 0 where
+  pub each : (due : TypeFileDue bytes lent) → lent-after ≡ front (type-file-bytes (due .type)) lent

@@ -1,0 +1,173 @@
+-- Where the trees of accepted files stand, and what the readers' answers say of the files: what a caller of the readers
+-- hands on to the writers.
+use mathlib.Core.Path.{_≡_, refl, sym, ap, _∙_}
+use mathlib.Core.List.{List, [], append-nil}
+use Prim.Native.Nat.{ℕ, _+_, _-_, _≤_}
+use native.Mathlib.Omega.{arith}
+use lib.ListN.{length, drop}
+use Rattle.stream.specs.declared.Fault.{Fault}
+use Rattle.files.specs.declared.types.Ty.{Ty as Place}
+use Rattle.files.specs.declared.types.TypeRead.{TypeRead}
+use Rattle.files.specs.declared.types.TypeRead.the-variants.{Whole as WholeType, Refused as RefusedType}
+use Rattle.files.specs.declared.prefixes.Prefix.{Prefix as Known}
+use Rattle.files.specs.declared.prefixes.SliceRead.{SliceRead}
+use Rattle.files.specs.declared.prefixes.SliceRead.the-variants.{Whole, Refused}
+use Rattle.stream.specs.Types.{Ty, size, type-limit}
+use Rattle.stream.specs.Prefixes.{Prefix, IsPrefix, complete, derivative, concat}
+use Rattle.stream.specs.Prefixes.Laws.{derivative-size, concat-is-prefix}
+use Rattle.stream.specs.Reading.{Bytes, Result, accepted, refused, section-bytes}
+use Rattle.stream.specs.TypeFiles.{type-bytes, type-file-bytes, type-file}
+use Rattle.stream.specs.TypeFiles.Laws.{type-length, type-file-sound}
+use Rattle.stream.specs.SliceFiles.{prefix-bytes, slice-file-bytes, slice-file}
+use Rattle.stream.specs.SliceFiles.Laws.{prefix-length, slice-file-sound}
+use Rattle.files.specs.TypeReads.{type-read, TypeAt}
+use Rattle.files.specs.TypeReads.Laws.{type-before}
+use Rattle.files.specs.SliceReads.{width, overlap as overlap-of, known, slice-read, ReadsSlice, PrefixAt}
+use Rattle.files.specs.SliceReads.Laws.{prefix-width, overlap-within, concat-width}
+use Rattle.stream.specs.Buffers.{front}
+use Rattle.writing.specs.Writing.{Stands, DerivativeDue, LeftFileDue, JoinedFileDue}
+
+-- Behind the two bytes of the count stands the tree.
+
+behind-count : (body : List ℕ) → drop 2 (section-bytes body []) ≡ body
+unfolding section-bytes
+behind-count body = append-nil body
+
+type-stands : (file : List ℕ) (t : Ty) → Bytes file → type-file file ≡ accepted t → TypeAt file 2 t
+unfolding type-file-bytes
+type-stands file t b e =
+    let f = type-file-sound file t b e in
+    record { rest = []; here = rw (← f .0) (behind-count (type-bytes t [])); small = f .1 }
+
+-- A type file that its reader accepts.
+pub record AcceptedType (file : List ℕ) (start : ℕ) : Type 0 where
+  pub type : Ty
+  pub is-accepted : type-file file ≡ accepted type
+  pub stands : TypeAt file start type
+
+module _ (file : List ℕ) {answer : TypeRead} (told : answer ≡ type-read (type-file file)) where
+  pub type-accepted : Bytes file → (place : Place) → answer ≡ WholeType place → AcceptedType file (place .start)
+  unfolding type-read
+  type-accepted bytes place e = go (type-file file) refl (sym told ∙ e)
+    where
+      go : (g : Result Ty) → type-file file ≡ g → type-read g ≡ WholeType place → AcceptedType file (place .start)
+      go (accepted t) h w =
+          let start : place .start ≡ 2 = cc in
+          record { type = t; is-accepted = h; stands = rw start (type-stands file t bytes h) }
+      go (refused x) h w = let z : _≡_ {A = ℕ} 0 1 = cc in absurd (omega arith)
+
+  pub type-refused : (e : Fault) → answer ≡ RefusedType e → type-file file ≡ refused e
+  unfolding type-read
+  type-refused e h = go (type-file file) (sym told ∙ h)
+    where
+      go : (g : Result Ty) → type-read g ≡ RefusedType e → g ≡ refused e
+      go (accepted t) w = let z : _≡_ {A = ℕ} 0 1 = cc in absurd (omega arith)
+      go (refused x) w = let z : x ≡ e = cc in ap refused z
+
+-- How long the files are that Left and Join write.
+
+pub type-file-size : (t : Ty) → length (type-file-bytes t) ≡ 2 + size t
+unfolding type-file-bytes section-bytes
+type-file-size t = rw (append-nil (type-bytes t [])) (omega (arith, type-length t []))
+
+pub slice-file-size : (p : Prefix) → length (slice-file-bytes p) ≡ 2 + width p
+unfolding slice-file-bytes section-bytes
+slice-file-size p = rw (append-nil (prefix-bytes p [])) (omega (arith, prefix-width p []))
+
+-- A slice file that its reader accepts.
+pub record AcceptedSlice (t : Ty) (file : List ℕ) (about : Known) : Type 0 where
+  pub prefix : Prefix
+  pub is-accepted : slice-file t file ≡ accepted prefix
+  pub is-prefix : IsPrefix t prefix
+  pub completeness : about .complete ≡ complete prefix
+  pub left : about .left ≡ size (derivative t prefix)
+  pub overlap : about .overlap ≡ overlap-of prefix
+  pub stands : PrefixAt file 2 prefix
+  pub fills : length file ≡ 2 + width prefix
+
+slice-stands : (t : Ty) (file : List ℕ) (about : Known) (p : Prefix) → Bytes file → slice-file t file ≡ accepted p → about ≡ known t p
+    → AcceptedSlice t file about
+unfolding slice-file-bytes known
+slice-stands t file about p bytes e k =
+    let f = slice-file-sound t file p bytes e in
+    record {
+      prefix = p;
+      is-accepted = e;
+      is-prefix = f .1;
+      completeness = ap (λ a. a .complete) k;
+      left = ap (λ a. a .left) k;
+      overlap = ap (λ a. a .overlap) k;
+      stands = record { rest = []; here = rw (← f .0) (behind-count (prefix-bytes p [])) };
+      fills = ap length (sym (f .0)) ∙ slice-file-size p;
+    }
+
+module _ {types : List ℕ} {at : ℕ} {file : List ℕ} {answer : SliceRead} (told : ReadsSlice types at file answer)
+    {t : Ty} (stands : TypeAt types at t) where
+  pub slice-accepted : Bytes file → (about : Known) → answer ≡ Whole about → AcceptedSlice t file about
+  unfolding slice-read
+  slice-accepted bytes about e = go (slice-file t file) refl (sym (told .each t stands) ∙ e)
+    where
+      go : (g : Result Prefix) → slice-file t file ≡ g → slice-read t g ≡ Whole about → AcceptedSlice t file about
+      go (accepted p) h w = let k : known t p ≡ about = cc in slice-stands t file about p bytes h (sym k)
+      go (refused x) h w = let z : _≡_ {A = ℕ} 0 1 = cc in absurd (omega arith)
+
+  pub slice-refused : (e : Fault) → answer ≡ Refused e → slice-file t file ≡ refused e
+  unfolding slice-read
+  slice-refused e h = go (slice-file t file) (sym (told .each t stands) ∙ h)
+    where
+      go : (g : Result Prefix) → slice-read t g ≡ Refused e → g ≡ refused e
+      go (accepted p) w = let z : _≡_ {A = ℕ} 0 1 = cc in absurd (omega arith)
+      go (refused x) w = let z : x ≡ e = cc in ap refused z
+
+-- A type written at the front of some bytes stands there.
+pub written-stands : (t : Ty) (lent : List ℕ) {bytes : List ℕ} → bytes ≡ front (type-bytes t []) lent → size t ≤ type-limit → TypeAt bytes 0 t
+written-stands t lent e small = record { rest = drop (length (type-bytes t [])) lent; here = e ∙ sym (type-before t _); small = small }
+
+-- An accepted slice file has at most 513 bytes.
+pub slice-short : {t : Ty} {file : List ℕ} {about : Known} → size t ≤ type-limit → AcceptedSlice t file about → length file ≤ 513
+unfolding type-limit
+slice-short small p = omega (arith, p .fills, prefix-length [] (p .is-prefix), prefix-width (p .prefix) [])
+
+-- What it overlaps with is behind the count.
+pub overlap-less : {t : Ty} {file : List ℕ} {about : Known} → AcceptedSlice t file about → about .overlap ≤ length file - 2
+overlap-less p = omega (arith, p .fills, p .overlap, overlap-within (p .prefix))
+
+-- What the writers ask for, once the readers have accepted.
+module _ {types file : List ℕ} {start : ℕ} {about : Known} (t : AcceptedType types start) (p : AcceptedSlice (t .type) file about) where
+  pub left-small : about .left ≤ 255
+  unfolding type-limit
+  left-small = omega (arith, p .left, derivative-size (p .is-prefix), t .stands .small)
+
+  abbrev both-stand : Stands types start file 2 (t .type) (p .prefix)
+  both-stand = record { type-at = t .stands; prefix-at = p .stands; is-prefix = p .is-prefix }
+
+  abbrev pub derivative-due : (lent : List ℕ) → 255 ≤ length lent → DerivativeDue types start file 2 lent
+  derivative-due lent room =
+      record { type = t .type; prefix = p .prefix; stands = both-stand; room = omega (arith, left-small, p .left) }
+
+  abbrev pub left-file-due : (lent : List ℕ) → 2 + about .left ≤ length lent → LeftFileDue types start file (about .left) lent
+  left-file-due lent room = record { type = t .type; prefix = p .prefix; stands = both-stand; measured = p .left; room = room }
+
+module _ {t : Ty} {first second : List ℕ} {one other : Known}
+    (p : AcceptedSlice t first one) (q : AcceptedSlice (derivative t (p .prefix)) second other) where
+  -- A join has as many bytes as the two without their overlap.
+  pub joined-width : length first - 2 + (length second - 2) - one .overlap ≡ width (concat (p .prefix) (q .prefix))
+  joined-width = omega (arith, p .fills, q .fills, p .overlap, concat-width (q .prefix) (p .is-prefix) (q .is-prefix))
+
+  pub joined-countable : size t ≤ type-limit → width (concat (p .prefix) (q .prefix)) ≤ 65535
+  unfolding type-limit
+  joined-countable small =
+      omega (arith, prefix-length [] (concat-is-prefix (q .prefix) (p .is-prefix) (q .is-prefix)), prefix-width (concat (p .prefix) (q .prefix)) [])
+
+  abbrev pub joined-file-due : size t ≤ type-limit → (joined : ℕ) (lent : List ℕ) → joined ≡ width (concat (p .prefix) (q .prefix))
+      → 2 + joined ≤ length lent → JoinedFileDue first second joined lent
+  joined-file-due small joined lent measured room =
+      record {
+        type = t;
+        one = p .prefix;
+        other = q .prefix;
+        follows = record { first-at = p .stands; second-at = q .stands; is-first = p .is-prefix; is-second = q .is-prefix };
+        measured = measured;
+        countable = rw measured (joined-countable small);
+        room = room;
+      }
