@@ -73,22 +73,19 @@ node-append regroup-left r s = refl
 node-append spread r s = refl
 node-append front r s = refl
 
-pub node-before : (n : Node) (r : List ℕ) → node-bytes n r ≡ node-bytes n [] ++ r
+node-before : (n : Node) (r : List ℕ) → node-bytes n r ≡ node-bytes n [] ++ r
 node-before n r = node-append n [] r
 
-pub node-width : (n : Node) (r : List ℕ) → length (node-bytes n r) ≡ width n + length r
+node-width : (n : Node) (r : List ℕ) → length (node-bytes n r) ≡ width n + length r
 node-width n r = ap length (node-before n r) ∙ length-append (node-bytes n []) r
 
-pub node-drop : (n : Node) (r : List ℕ) → drop (width n) (node-bytes n r) ≡ r
+node-drop : (n : Node) (r : List ℕ) → drop (width n) (node-bytes n r) ≡ r
 node-drop n r = ap (drop (width n)) (node-before n r) ∙ drop-at (node-bytes n []) r (width n) refl
 
 pub width-positive : (n : Node) → 1 ≤ width n
 width-positive n = omega (arith, ap length (root-first n [] .0))
 
 module _ {bytes : List ℕ} {at : ℕ} {n : Node} (stands : NodeAt bytes at n) where
-  pub behind : drop (at + width n) bytes ≡ stands .rest
-  behind = rw (← drop-drop (width n) at bytes, stands .here) (node-drop n (stands .rest))
-
   pub ends-inside : at + width n ≤ length bytes
   ends-inside =
       let n-long = simp length-drop at (ap length (stands .here)) in
