@@ -35,21 +35,24 @@ fn print_table(instructions: &[Instructions]) -> Result<(), String> {
             rows.len()
         ));
     }
-    println!("{}", table::heading());
-    let mut measured = Vec::new();
-    for (index, row) in rows.into_iter().enumerate() {
-        if !timing::agree(&row) {
-            return Err(format!(
-                "{:?}, {}: the answers differ",
-                row.operation, row.name
-            ));
-        }
-        measured.push(Measured {
-            times: timing::time(&row),
-            instructions: instructions.get(index).copied(),
-            row,
-        });
+    if let Some(row) = rows.iter().find(|row| !timing::agree(row)) {
+        return Err(format!(
+            "{:?}, {}: the answers differ",
+            row.operation, row.name
+        ));
     }
+    println!("{}", table::heading());
+    let times = timing::time(&rows);
+    let measured: Vec<Measured> = rows
+        .into_iter()
+        .zip(times)
+        .enumerate()
+        .map(|(index, (row, times))| Measured {
+            row,
+            times,
+            instructions: instructions.get(index).copied(),
+        })
+        .collect();
     println!("{}\n{}", table::lines(&measured), table::goals(&measured));
     Ok(())
 }

@@ -143,7 +143,7 @@ pub fn goals(measured: &[Measured]) -> String {
         ),
         (
             format!(
-                "flat: at the most nodes, 255 of a type or 63 of a patch, a byte costs at most \
+                "flat: at the most nodes, 255 of a type or 63 of a patch, a node costs at most \
                  {FLAT} times what it costs at a quarter"
             ),
             steep,
@@ -181,31 +181,34 @@ fn slow(measured: &[Measured], cost: Cost) -> Vec<String> {
         .collect()
 }
 
-/// For a growing row at the largest size, the row of the same operation and series at a quarter.
-fn quarter<'a>(measured: &'a [Measured], large: &Row) -> Option<&'a Measured> {
+/// For a growing row at the largest size: how many times as much a node of the tree that grows
+/// costs there as in the row of the same operation and series at a quarter.
+fn growth(measured: &[Measured], large: &Measured, cost: Cost) -> Option<f64> {
     let Group::Growing {
         series,
         nodes,
         largest,
-    } = large.group
+    } = large.row.group
     else {
         return None;
     };
+    let fewer = largest / 4;
     let group = Group::Growing {
         series,
-        nodes: largest / 4,
+        nodes: fewer,
         largest,
     };
-    measured.iter().find(|one| {
-        nodes == largest && one.row.group == group && one.row.operation == large.operation
-    })
+    let quarter = measured.iter().find(|one| {
+        nodes == largest && one.row.group == group && one.row.operation == large.row.operation
+    })?;
+    let times = nodes as f64 / fewer as f64;
+    Some(large.library(cost) / quarter.library(cost) / times)
 }
 
 fn steep(measured: &[Measured], cost: Cost) -> Vec<String> {
     let mut misses = Vec::new();
     for large in measured {
-        if let Some(quarter) = quarter(measured, &large.row) {
-            let growth = large.per_byte(cost) / quarter.per_byte(cost);
+        if let Some(growth) = growth(measured, large, cost) {
             if growth > FLAT {
                 misses.push(format!("{}: {growth:.2}", large.name()));
             }

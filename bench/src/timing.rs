@@ -8,7 +8,7 @@ use crate::rows::{Row, Side};
 /// A round goes on for about this long.
 const ROUND: Duration = Duration::from_millis(4);
 
-/// The median is taken over so many rounds, an odd number.
+/// The fastest of so many rounds is taken: what else runs on the machine can only slow a round.
 const ROUNDS: usize = 9;
 
 /// The length of the lent buffer, which every answer fits.
@@ -47,24 +47,48 @@ fn calls_in_a_round(row: &Row, side: Side) -> u64 {
     times
 }
 
-fn median(mut rounds: Vec<f64>) -> f64 {
-    rounds.sort_by(f64::total_cmp);
-    rounds[rounds.len() / 2]
+/// A side of a row, how many calls of it fill a round, and its fastest round so far.
+struct Timed<'a> {
+    row: &'a Row,
+    side: Side,
+    calls: u64,
+    fastest: f64,
 }
 
-/// Times both sides in turns, so that a slow moment of the machine meets both.
-pub fn time(row: &Row) -> Times {
-    let sides = [Side::Library, Side::Second];
-    let calls = sides.map(|side| calls_in_a_round(row, side));
-    let mut rounds = [Vec::new(), Vec::new()];
-    for _ in 0..ROUNDS {
-        for index in 0..sides.len() {
-            let round = elapsed(row, sides[index], calls[index]);
-            rounds[index].push(round.as_nanos() as f64 / calls[index] as f64);
+impl<'a> Timed<'a> {
+    fn new(row: &'a Row, side: Side) -> Self {
+        Timed {
+            row,
+            side,
+            calls: calls_in_a_round(row, side),
+            fastest: f64::INFINITY,
         }
     }
-    let [library, second] = rounds.map(median);
-    Times { library, second }
+
+    fn go_round(&mut self) {
+        let round = elapsed(self.row, self.side, self.calls);
+        let each = round.as_nanos() as f64 / self.calls as f64;
+        self.fastest = self.fastest.min(each);
+    }
+}
+
+/// Times both sides of every row. Each round goes over all rows, so that a slow moment of the
+/// machine does not meet one row alone.
+pub fn time(rows: &[Row]) -> Vec<Times> {
+    let mut timed: Vec<[Timed; 2]> = rows
+        .iter()
+        .map(|row| [Side::Library, Side::Second].map(|side| Timed::new(row, side)))
+        .collect();
+    for _ in 0..ROUNDS {
+        timed.iter_mut().flatten().for_each(Timed::go_round);
+    }
+    timed
+        .iter()
+        .map(|[library, second]| Times {
+            library: library.fastest,
+            second: second.fastest,
+        })
+        .collect()
 }
 
 /// Both sides give the same answer and leave the same bytes; otherwise their times say nothing.
