@@ -2,8 +2,6 @@
 use stream::Fault;
 ghost use mathlib.Core.Path.{_≡_};
 ghost use Prim.Native.Nat.{_+_, _*_, _<_, _≤_};
-ghost use mir.Val.{Fits};
-ghost use mir.Syntax.{w64};
 ghost use lib.ListN.{length};
 ghost use Rattle.stream.specs.Reading.{section};
 ghost use Rattle.stream.specs.declared.Fault.the-variants.{CutShort, LeftOver};

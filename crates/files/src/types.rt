@@ -28,7 +28,7 @@ impl Ty {
 }
 
 // How many parts a type's kind has; this is asked here alone.
-pub fn type_arity(kind: u8) -> usize
+fn type_arity(kind: u8) -> usize
     ensures { λ r. ⌜ r ≡ type-arity kind ⌝ }
 {
     match kind {
