@@ -32,7 +32,7 @@ pub enum SliceRead {
 }
 
 // The kind of type that a slice's kind belongs to.
-fn type_kind_of(kind: u8) -> u8
+pub fn type_kind_of(kind: u8) -> u8
     ensures { λ r. ⌜ r ≡ type-kind-of kind ⌝ }
 {
     match kind {

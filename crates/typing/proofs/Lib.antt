@@ -1,4 +1,3 @@
-pub mod Appending
 pub mod Regrouping
 pub mod TypingLeaf
 pub mod TypingParts

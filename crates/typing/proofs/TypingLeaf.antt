@@ -16,8 +16,10 @@ use Rattle.typing.specs.declared.Typed.{Typed}
 use Rattle.typing.specs.declared.Typed.the-variants.{Gives}
 use Rattle.patches.specs.PatchReads.{node-arity, width}
 use Rattle.patches.specs.PatchReads.Laws.{ends-inside, Case, by-byte, silent-at}
-use Rattle.typing.specs.Typing.{Appends, Answers, GivenCarried, TypingDue, TypesNode}
-use Rattle.typing.specs.Typing.Laws.{nothing-written, written-on, answers-small}
+use Rattle.writing.specs.Appending.{Appends}
+use Rattle.typing.specs.Typing.{Answers, GivenCarried, TypingDue, TypesNode}
+use Rattle.writing.specs.Appending.Laws.{nothing-written, written-on}
+use Rattle.typing.specs.Typing.Laws.{answers-small}
 
 -- The nodes of the kind k take `wide` bytes and have this outcome.
 abbrev pub Leaf : ℕ → (Ty → Result Ty) → ℕ → Type 0

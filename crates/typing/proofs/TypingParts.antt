@@ -21,8 +21,10 @@ use Rattle.typing.specs.declared.Typed.{Typed}
 use Rattle.typing.specs.declared.Typed.the-variants.{Gives, Failed}
 use Rattle.patches.specs.PatchReads.{width, NodeAt}
 use Rattle.patches.specs.PatchReads.Laws.{ends-inside, width-positive, Forks, both-forks, then-forks, chain-forks, Parts, parts-at}
-use Rattle.typing.specs.Typing.{limited, Appends, Within, Answers, TypingDue, TypesNode, PartsDue, fork, parts-typing, TypesParts}
-use Rattle.typing.specs.Typing.Laws.{back-length, Written, nothing-written, written-on, written-part, second-behind, other-shape, same-shape, is-fork, typing-small, is-given, is-refused, answers-refused, answers-written, requires-fails}
+use Rattle.writing.specs.Appending.{Appends, Within}
+use Rattle.typing.specs.Typing.{limited, Answers, TypingDue, TypesNode, PartsDue, fork, parts-typing, TypesParts}
+use Rattle.writing.specs.Appending.Laws.{back-length, Written, nothing-written, written-on, written-part}
+use Rattle.typing.specs.Typing.Laws.{second-behind, other-shape, same-shape, is-fork, typing-small, is-given, is-refused, answers-refused, answers-written, requires-fails}
 
 fork-bytes : {k : ℕ} (t r : Ty) → (k ≡ 3) ⊎ (k ≡ 4) → (k ∷ type-bytes t []) ++ type-bytes r [] ≡ type-bytes (fork k t r) []
 unfolding type-bytes

@@ -2,14 +2,14 @@
 use mathlib.Core.Bool.{true, false}
 use mathlib.Core.Logic.{_⊎_}
 use mathlib.Core.Path.{_≡_}
-use mathlib.Core.List.{List, [], _++_}
+use mathlib.Core.List.{List, []}
 use Prim.Native.Nat.{ℕ, _+_, _≤_}
 use lib.Dec.{leb, eqb}
 use lib.ListN.{length}
 use Rattle.stream.specs.declared.Fault.the-variants.{TypeTooLarge, NotNullable, WrongShape}
 use Rattle.stream.specs.Types.{Ty, seq, par, nullable, size, type-limit, first-part, second-part, has-kind}
 use Rattle.stream.specs.Reading.{Result, accepted, refused, require, go-on}
-use Rattle.stream.specs.Buffers.{front}
+use Rattle.writing.specs.Appending.{Holds}
 use Rattle.stream.specs.TypeFiles.{type-bytes}
 use Rattle.files.specs.TypeReads.{TypeAt}
 use Rattle.node.specs.Nodes.{Node}
@@ -27,22 +27,6 @@ typed end (refused e) = Failed e
 -- The same by the size of the type given.
 unfoldable pub limited : ℕ → ℕ → Typed
 limited end n = elim (leb n type-limit) [ true ↦ Gives end n | false ↦ Failed TypeTooLarge ]
-
--- `bytes` have been written at the front of `lent`, which is `now` by now, if they have room there.
-pub record Holds (bytes lent now : List ℕ) : Type 0 where
-  pub long : length now ≡ length lent
-  pub in-front : length bytes ≤ length lent → now ≡ front bytes lent
-
--- `source` is written behind the first `written` bytes.
-pub record Appends (source : List ℕ) (written : ℕ) (now now-after : List ℕ) (end : ℕ) : Type 0 where
-  pub ends : end ≡ written + length source
-  pub long : length now-after ≡ length now
-  pub each : (bytes lent : List ℕ) → length bytes ≡ written → Holds bytes lent now → Holds (bytes ++ source) lent now-after
-
--- `start` is where the part behind `written` bytes starts, or the end if they have no room.
-pub record Within (written room start : ℕ) : Type 0 where
-  pub inside : start ≤ room
-  pub behind : written ≤ room → start ≡ written
 
 -- The answer of a node that ends at `end`, where the rules have `outcome`; the type is written if there is one.
 pub record Answers (end : ℕ) (outcome : Result Ty) (lent lent-after : List ℕ) (answer : Typed) : Type 0 where

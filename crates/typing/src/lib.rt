@@ -7,18 +7,17 @@ use files::types::Ty;
 use files::types::is_nullable;
 use files::types::skip_type;
 use stream::Fault;
-use writing::copy;
+use writing::appending::append;
+use writing::appending::append_kind;
+use writing::appending::within;
 ghost use mathlib.Core.Path.{_≡_};
-ghost use mathlib.Core.List.{_∷_, []};
-ghost use Prim.Native.Nat.{_+_, _≤_};
-ghost use lib.ListN.{length, getD};
-ghost use mir.Val.{Fits};
-ghost use mir.Syntax.{w64};
+ghost use Prim.Native.Nat.{_≤_};
+ghost use lib.ListN.{getD};
 ghost use Rattle.files.specs.TypeReads.{SomeTypeAt};
 ghost use Rattle.node.specs.Nodes.{regroup-right, regroup-left, spread, front};
 ghost use Rattle.node.specs.Checking.{gives, typing};
 ghost use Rattle.patches.specs.PatchReads.{node-arity};
-ghost use Rattle.typing.specs.Typing.{limited, Appends, Within, first-of, second-of, Given, GivenCarried, TypingDue, TypesNode, PartsDue, TypesParts};
+ghost use Rattle.typing.specs.Typing.{limited, first-of, second-of, Given, GivenCarried, TypingDue, TypesNode, PartsDue, TypesParts};
 
 // How the second pass leaves a node: where the node ends and how many nodes the type has that it gives, or the first fault.
 pub enum Typed {
@@ -34,39 +33,6 @@ fn limit(end: usize, size: usize) -> Typed
         return Typed::Failed(Fault::TypeTooLarge);
     }
     Typed::Gives(end, size)
-}
-
-// Writes all of `source` behind the first `written` bytes, if there is room, and says how many bytes there are with it.
-fn append(source: &[u8], written: usize, out: &mut [u8]) -> usize
-    requires { ⌜ Fits w64 (written + length (now source)) ⌝ }
-    ensures { λ r. ⌜ Appends (now (source .entry)) written (now (out .entry)) (now (out .exit)) r ⌝ }
-{
-    let end = written + source.len();
-    if end <= out.len() {
-        copy(source, &mut out[written..]);
-    }
-    end
-}
-
-// The same for one kind byte.
-fn append_kind(kind: u8, written: usize, out: &mut [u8]) -> usize
-    requires { ⌜ Fits w64 (written + 1) ⌝ }
-    ensures { λ r. ⌜ Appends (kind ∷ []) written (now (out .entry)) (now (out .exit)) r ⌝ }
-{
-    if written < out.len() {
-        out[written] = kind;
-    }
-    written + 1
-}
-
-// Where the part behind `written` bytes starts: at the end if they had no room.
-fn within(written: usize, room: usize) -> usize
-    ensures { λ r. ⌜ Within written room r ⌝ }
-{
-    if written < room {
-        return written;
-    }
-    room
 }
 
 // Gives the type at `at`.
@@ -195,7 +161,7 @@ fn give_front(types: &[u8], at: usize, end: usize, out: &mut [u8]) -> Typed
 }
 
 // The type that a node without parts gives.
-fn type_leaf(types: &[u8], at: usize, nodes: &[u8], from: usize, out: &mut [u8]) -> Typed
+pub fn type_leaf(types: &[u8], at: usize, nodes: &[u8], from: usize, out: &mut [u8]) -> Typed
     requires { ⌜ TypingDue (now types) at (now nodes) from ⌝ }
     requires { ⌜ node-arity (getD (now nodes) from 0) ≡ 0 ⌝ }
     ensures { λ r. ⌜ TypesNode (now (types .entry)) at (now (nodes .entry)) from (now (out .entry)) (now (out .exit)) r ⌝ }

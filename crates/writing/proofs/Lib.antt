@@ -4,3 +4,6 @@ pub mod LeftFile
 pub mod JoiningLeaf
 pub mod JoiningParts
 pub mod JoinedFile
+pub mod RoomBehind
+pub mod EmptyWalk
+pub mod SpentWalk

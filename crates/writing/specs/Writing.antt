@@ -6,7 +6,7 @@ use lib.ListN.{length, getD}
 use Rattle.writing.specs.declared.Moved.{Moved}
 use Rattle.stream.specs.Types.{Ty, size}
 use Rattle.stream.specs.Buffers.{front}
-use Rattle.stream.specs.Prefixes.{Prefix, IsPrefix, derivative, concat}
+use Rattle.stream.specs.Prefixes.{Prefix, Complete, IsPrefix, empty-prefix, derivative, concat}
 use Rattle.stream.specs.TypeFiles.{type-bytes, type-file-bytes}
 use Rattle.stream.specs.SliceFiles.{prefix-bytes, slice-file-bytes}
 use Rattle.files.specs.TypeReads.{TypeAt}
@@ -100,12 +100,30 @@ pub record JoinedFileDue (first second : List ℕ) (joined : ℕ) (lent : List �
 pub record JoinedFileWritten (first second : List ℕ) (joined : ℕ) (lent lent-after : List ℕ) : Type 0 where
   pub each : (due : JoinedFileDue first second joined lent) → lent-after ≡ front (slice-file-bytes (concat (due .one) (due .other))) lent
 
--- The file of a type, whose bytes are all of `bytes`, is to be written on `lent`, which has room for it.
-pub record TypeFileDue (bytes lent : List ℕ) : Type 0 where
-  pub type : Ty
-  pub here : bytes ≡ type-bytes type []
-  pub countable : size type ≤ 65535
-  pub room : 2 + size type ≤ length lent
+-- The kind that the empty prefix of a type begins with, by the type's kind.
+abbrev pub empty-kind : ℕ → ℕ
+empty-kind k = getD (0 ∷ 1 ∷ 3 ∷ 5 ∷ []) k 7
 
-pub record TypeFileWritten (bytes lent lent-after : List ℕ) : Type 0 where
-  pub each : (due : TypeFileDue bytes lent) → lent-after ≡ front (type-file-bytes (due .type)) lent
+-- The empty prefix of the type at `at` is to be written on `lent`, which has room for it.
+pub record EmptyDue (types : List ℕ) (at : ℕ) (lent : List ℕ) : Type 0 where
+  pub type : Ty
+  pub stands : TypeAt types at type
+  pub room : width (empty-prefix type) ≤ length lent
+
+pub record EmptyWritten (types : List ℕ) (at : ℕ) (lent lent-after : List ℕ) (written : ℕ) : Type 0 where
+  pub each : (due : EmptyDue types at lent)
+      → (written ≡ width (empty-prefix (due .type))) × (lent-after ≡ front (prefix-bytes (empty-prefix (due .type)) []) lent)
+
+-- What the complete prefix at `at` leaves of its type is to be written on `lent`, which has room for it.
+pub record SpentDue (slice : List ℕ) (at : ℕ) (lent : List ℕ) : Type 0 where
+  pub type : Ty
+  pub prefix : Prefix
+  pub stands : PrefixAt slice at prefix
+  pub is-prefix : IsPrefix type prefix
+  pub is-complete : Complete prefix
+  pub room : size (derivative type prefix) ≤ length lent
+
+pub record SpentWritten (slice : List ℕ) (at : ℕ) (lent lent-after : List ℕ) (written : ℕ) : Type 0 where
+  pub each : (due : SpentDue slice at lent)
+      → (written ≡ size (derivative (due .type) (due .prefix)))
+      × (lent-after ≡ front (type-bytes (derivative (due .type) (due .prefix)) []) lent)

@@ -10,8 +10,11 @@ ghost use Prim.Native.Nat.{_+_, _-_, _/_, _%_, _≤_};
 ghost use lib.ListN.{length};
 ghost use mir.Val.{Fits};
 ghost use mir.Syntax.{w64};
+ghost use Rattle.stream.specs.Reading.{section-bytes};
 ghost use Rattle.stream.specs.Buffers.{front};
-ghost use Rattle.writing.specs.Writing.{leaf-left, PrefixDue, PrefixWritten, DerivativeDue, DerivativeWritten, LeftFileDue, LeftFileWritten, LeafConcatDue, ConcatDue, ConcatWritten, JoinedFileDue, JoinedFileWritten, TypeFileDue, TypeFileWritten};
+ghost use Rattle.writing.specs.Writing.{leaf-left, PrefixDue, PrefixWritten, DerivativeDue, DerivativeWritten, LeftFileDue, LeftFileWritten, LeafConcatDue, ConcatDue, ConcatWritten, JoinedFileDue, JoinedFileWritten, empty-kind, EmptyDue, EmptyWritten, SpentDue, SpentWritten};
+
+pub mod appending;
 
 // How far a writer has come: where the two trees that it goes through end, and how many bytes it has written.
 pub struct Moved {
@@ -62,7 +65,7 @@ pub fn copy(source: &[u8], out: &mut [u8])
 }
 
 // Copies the prefix at `at`, and says how many bytes it has.
-fn copy_prefix(slice: &[u8], at: usize, out: &mut [u8]) -> usize
+pub fn copy_prefix(slice: &[u8], at: usize, out: &mut [u8]) -> usize
     requires { ⌜ PrefixDue (now slice) at (now out) ⌝ }
     ensures { λ r. ⌜ PrefixWritten (now (slice .entry)) at (now (out .entry)) (now (out .exit)) r ⌝ }
 {
@@ -185,11 +188,82 @@ pub fn write_joined_file(first: &[u8], second: &[u8], joined: usize, out: &mut [
     write_concat(first, 2, second, 2, &mut out[2..]);
 }
 
-// Writes the file of the type whose bytes are all of `ty`.
-pub fn write_type_file(ty: &[u8], out: &mut [u8])
-    requires { ⌜ TypeFileDue (now ty) (now out) ⌝ }
-    ensures { λ _. ⌜ TypeFileWritten (now (ty .entry)) (now (out .entry)) (now (out .exit)) ⌝ }
+// Writes the section whose body is all of `body`.
+pub fn write_section(body: &[u8], out: &mut [u8])
+    requires { ⌜ (length (now body) ≤ 65535) × (2 + length (now body) ≤ length (now out)) ⌝ }
+    ensures { λ _. ⌜ now (out .exit) ≡ front (section-bytes (now (body .entry)) []) (now (out .entry)) ⌝ }
 {
-    put_count(ty.len(), out);
-    copy(ty, &mut out[2..]);
+    put_count(body.len(), out);
+    copy(body, &mut out[2..]);
+}
+
+// The kind that the empty prefix of a type begins with, by the type's kind.
+fn empty_kind(kind: u8) -> u8
+    ensures { λ r. ⌜ r ≡ empty-kind kind ⌝ }
+{
+    match kind {
+        0 => 0,
+        1 => 1,
+        2 => 3,
+        3 => 5,
+        _ => 7,
+    }
+}
+
+// Writes the empty prefix of the type at `at`, and says how many bytes it has. `owed` has, last first, the kinds above the types
+// that are still to be gone through: the second part of a sequence, 3, is passed over, every other type is written. A stack of
+// bytes, since calls as deep as a type can be would need more stack than a patch has left at its deepest.
+pub fn write_empty(types: &[u8], at: usize, out: &mut [u8]) -> usize
+    requires { ⌜ EmptyDue (now types) at (now out) ⌝ }
+    ensures { λ r. ⌜ EmptyWritten (now (types .entry)) at (now (out .entry)) (now (out .exit)) r ⌝ }
+{
+    let mut owed = [4u8; 255];
+    let mut depth: usize = 1;
+    let mut from = at;
+    let mut written: usize = 0;
+    while 0 < depth {
+        depth -= 1;
+        if owed[depth] == 3 {
+            from = skip_type(types, from);
+        } else {
+            let kind = types[from];
+            out[written] = empty_kind(kind);
+            written += 1;
+            from += 1;
+            if 2 < kind {
+                owed[depth] = kind;
+                owed[depth + 1] = 4;
+                depth += 2;
+            }
+        }
+    }
+    written
+}
+
+// Writes the type that the complete prefix at `at` leaves, and says how many nodes it has. What a complete prefix leaves is
+// fixed by the prefix alone: the type is not asked for.
+pub fn write_spent(slice: &[u8], at: usize, out: &mut [u8]) -> usize
+    requires { ⌜ SpentDue (now slice) at (now out) ⌝ }
+    ensures { λ r. ⌜ SpentWritten (now (slice .entry)) at (now (out .entry)) (now (out .exit)) r ⌝ }
+{
+    let mut owed: usize = 1;
+    let mut from = at;
+    let mut written: usize = 0;
+    while 0 < owed {
+        let kind = slice[from];
+        if kind == 6 {
+            from = skip_prefix(slice, from + 1);
+        } else if kind == 7 {
+            out[written] = 4;
+            written += 1;
+            owed += 1;
+            from += 1;
+        } else {
+            out[written] = 0;
+            written += 1;
+            owed -= 1;
+            from += leaf_width(kind);
+        }
+    }
+    written
 }

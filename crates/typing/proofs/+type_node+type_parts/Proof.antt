@@ -17,10 +17,10 @@ use Rattle.typing.proofs.type_parts.Reads as type-parts
 use Rattle.typing.proofs.type_parts.Kinds as type-parts-kinds
 use Rattle.typing.proofs.+type_node+type_parts.Lts-type_parts as type-parts-lts
 use Rattle.files.proofs.types.skip_type.Reads as skip-type-reads
-use Rattle.typing.proofs.append_kind.Reads as append-kind-reads
+use Rattle.writing.proofs.appending.append_kind.Reads as append-kind-reads
 use Rattle.typing.proofs.limit.Reads as limit-reads
 use Rattle.typing.proofs.type_leaf.Reads as type-leaf-reads
-use Rattle.typing.proofs.within.Reads as within-reads
+use Rattle.writing.proofs.appending.within.Reads as within-reads
 use Rattle.typing.proofs.+type_node+type_parts.{statement}
 use Rattle.typing.proofs.+type_node+type_parts.Tie.{close}
 

@@ -8,7 +8,8 @@ use Rattle.stream.specs.Types.Laws.{limit-is}
 use Rattle.stream.specs.TypeFiles.{type-bytes}
 use Rattle.files.specs.TypeReads.Laws.{type-width, ends-inside}
 use Rattle.node.specs.Checking.{typing}
-use Rattle.typing.specs.Typing.Laws.{nothing-written, written-on, type-taken, answers-written}
+use Rattle.writing.specs.Appending.Laws.{nothing-written, written-on}
+use Rattle.typing.specs.Typing.Laws.{type-taken, answers-written}
 use Rattle.typing.proofs.give_front.Statement.{statement}
 use Rattle.typing.proofs.give_front.Tie as tie
 

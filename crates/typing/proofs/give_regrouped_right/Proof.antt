@@ -7,7 +7,8 @@ use Rattle.stream.specs.Types.{Ty, seq, size, first-part, second-part}
 use Rattle.files.specs.TypeReads.{TypeAt}
 use Rattle.files.specs.TypeReads.Laws.{starts-inside}
 use Rattle.node.specs.Checking.{typing}
-use Rattle.typing.specs.Typing.Laws.{nothing-written, written-on, answers-small}
+use Rattle.writing.specs.Appending.Laws.{nothing-written, written-on}
+use Rattle.typing.specs.Typing.Laws.{answers-small}
 use Rattle.typing.proofs.Regrouping.{some, Forked, root-first, below-first, fork-first, Found, third-at, all-found, first-piece, last-piece, right-bytes, no-sequence, no-fork, is-shaped}
 use Rattle.typing.proofs.give_regrouped_right.Statement.{statement}
 use Rattle.typing.proofs.give_regrouped_right.Tie as tie

@@ -7,7 +7,8 @@ use Rattle.stream.specs.Types.{Ty, seq, par, first-part, second-part}
 use Rattle.files.specs.TypeReads.{TypeAt}
 use Rattle.files.specs.TypeReads.Laws.{starts-inside}
 use Rattle.node.specs.Checking.{typing}
-use Rattle.typing.specs.Typing.Laws.{nothing-written, written-on, answers-written}
+use Rattle.writing.specs.Appending.Laws.{nothing-written, written-on}
+use Rattle.typing.specs.Typing.Laws.{answers-written}
 use Rattle.typing.proofs.Regrouping.{some, Forked, root-first, root-second, fork-second, Found, third-at, all-found, first-piece, second-piece, third-piece, spread-bytes, no-sequence, no-fork, is-shaped}
 use Rattle.typing.proofs.give_spread.Statement.{statement}
 use Rattle.typing.proofs.give_spread.Tie as tie

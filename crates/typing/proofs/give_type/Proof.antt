@@ -2,7 +2,8 @@
 use borrow.Author.Needs.{needs}
 use native.Mathlib.Omega.{arith}
 use Rattle.files.specs.TypeReads.Laws.{ends-inside}
-use Rattle.typing.specs.Typing.Laws.{nothing-written, written-on, type-taken, answers-small}
+use Rattle.writing.specs.Appending.Laws.{nothing-written, written-on}
+use Rattle.typing.specs.Typing.Laws.{type-taken, answers-small}
 use Rattle.typing.proofs.give_type.Statement.{statement}
 use Rattle.typing.proofs.give_type.Tie as tie
 

@@ -1,11 +1,11 @@
--- `append_kind` meets its contract: the byte is set if there is room for it (`Appending`).
+-- `append_kind` meets its contract: the byte is set if there is room for it (`RoomBehind`).
 use borrow.Author.Needs.{needs}
 use mathlib.Core.Logic.{⊎-elim}
 use mathlib.Core.List.{[], _∷_}
 use native.Mathlib.Omega.{arith}
-use Rattle.typing.proofs.Appending.{appended-byte, not-appended}
-use Rattle.typing.proofs.append_kind.Statement.{statement}
-use Rattle.typing.proofs.append_kind.Tie as tie
+use Rattle.writing.proofs.RoomBehind.{appended-byte, not-appended}
+use Rattle.writing.proofs.appending.append_kind.Statement.{statement}
+use Rattle.writing.proofs.appending.append_kind.Tie as tie
 
 slice-write-out : tie.Need-slice-write-out
 slice-write-out c = search needs

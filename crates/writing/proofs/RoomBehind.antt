@@ -7,9 +7,9 @@ use native.Mathlib.Numerals.{add-one}
 use lib.ListN.{length, drop, set, length-append, length-drop, drop-of-length-le}
 use lib.Seq.{drop-drop, set-split}
 use Rattle.stream.specs.Buffers.{front}
 use Rattle.writing.specs.Writing.Laws.{part, back, part-is, front-length}
-use Rattle.typing.specs.Typing.{Appends}
-use Rattle.typing.specs.Typing.Laws.{part-length, back-length, holds-part}
+use Rattle.writing.specs.Appending.{Appends}
+use Rattle.writing.specs.Appending.Laws.{part-length, back-length, holds-part}
 
 pub appended : {source now y : List ℕ} (written : ℕ) → written + length source ≤ length now → y ≡ front source (part written now)
     → Appends source written now (back written now y) (written + length source)

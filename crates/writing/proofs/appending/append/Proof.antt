@@ -1,8 +1,8 @@
--- `append` meets its contract: `copy` writes on the part behind what is written, if the source has room there (`Appending`).
+-- `append` meets its contract: `copy` writes on the part behind what is written, if the source has room there (`RoomBehind`).
 use borrow.Author.Needs.{needs}
-use Rattle.typing.proofs.Appending.{appended, not-appended}
-use Rattle.typing.proofs.append.Statement.{statement}
-use Rattle.typing.proofs.append.Tie as tie
+use Rattle.writing.proofs.RoomBehind.{appended, not-appended}
+use Rattle.writing.proofs.appending.append.Statement.{statement}
+use Rattle.writing.proofs.appending.append.Tie as tie
 
 add-end : tie.Need-add-end
 add-end c = search needs

@@ -1,0 +1,33 @@
+-- `empty_kind` meets its contract: each arm is an entry of the table, and the last is what stands past its end.
+use borrow.Author.Needs.{needs}
+use native.Mathlib.Omega.{arith}
+use mathlib.Core.Path.{_≡_, refl}
+use Prim.Native.Nat.{ℕ, _≤_}
+use Rattle.stream.specs.Reading.Laws.{_&_, past, every}
+use Rattle.writing.specs.Writing.{empty-kind}
+use Rattle.writing.proofs.empty_kind.Statement.{statement}
+use Rattle.writing.proofs.empty_kind.Tie as tie
+
+returns : tie.Need-returns
+returns c = search needs
+
+returns-2 : tie.Need-returns-2
+returns-2 c = search needs
+
+returns-3 : tie.Need-returns-3
+returns-3 c = search needs
+
+returns-4 : tie.Need-returns-4
+returns-4 c = search needs
+
+-- Every other kind is that of types side by side.
+other : (k : ℕ) → 4 ≤ k → 7 ≡ empty-kind k
+other =
+    every (λ k begins. 4 ≤ k → 7 ≡ begins) 7 _
+    ((λ h. absurd (omega arith)) & (λ h. absurd (omega arith)) & (λ h. absurd (omega arith)) & (λ h. absurd (omega arith)) & past (λ k i h. refl))
+
+returns-5 : tie.Need-returns-5
+returns-5 c = other (c .before .args .kind) (omega arith)
+
+pub empty-kind-spec : {M : Type 1} → statement M
+empty-kind-spec = tie.close (tie.spec returns returns-2 returns-3 returns-4 returns-5)
