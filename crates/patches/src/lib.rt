@@ -23,6 +23,9 @@ impl Patch {
     // "At most 63 nodes in a patch."
     pub const MAX_NODES: usize = 63;
 
+    // The nodes of a patch have at most so many bytes: 31 nodes with parts, and 32 silents with the largest type.
+    pub const MAX_NODE_BYTES: usize = 8223;
+
     // Only the place: that a patch stands there is for whoever made it to know.
     pub fn new(input: Ty, nodes: usize) -> Patch
         ensures { λ r. ⌜ r ≡ record { input = input; nodes = nodes } ⌝ }

@@ -4,8 +4,8 @@ use mathlib.Core.List.{List, [], _∷_, _++_, append-assoc}
 use Prim.Native.Nat.{ℕ, _+_, _≤_, _<_}
 use native.Mathlib.Omega.{arith}
 use native.Mathlib.Nat.{add-zero}
-use lib.ListN.{length, getD, drop, length-append, length-drop}
-use lib.Seq.{getD-drop, drop-drop, drop-at}
+use lib.ListN.{length, getD, take, drop, length-append, length-drop}
+use lib.Seq.{getD-drop, drop-drop, take-at, drop-at}
 use Rattle.stream.specs.Types.{Ty, size}
 use Rattle.stream.specs.Levels.{value-bytes}
 use Rattle.stream.specs.Reading.Laws.{_&_, past, every}
@@ -79,7 +79,7 @@ node-before n r = node-append n [] r
 node-width : (n : Node) (r : List ℕ) → length (node-bytes n r) ≡ width n + length r
 node-width n r = ap length (node-before n r) ∙ length-append (node-bytes n []) r
 
-node-drop : (n : Node) (r : List ℕ) → drop (width n) (node-bytes n r) ≡ r
+pub node-drop : (n : Node) (r : List ℕ) → drop (width n) (node-bytes n r) ≡ r
 node-drop n r = ap (drop (width n)) (node-before n r) ∙ drop-at (node-bytes n []) r (width n) refl
 
 pub width-positive : (n : Node) → 1 ≤ width n
@@ -93,6 +93,10 @@ module _ {bytes : List ℕ} {at : ℕ} {n : Node} (stands : NodeAt bytes at n) w
 
   pub starts-inside : at < length bytes
   starts-inside = omega (arith, ends-inside, width-positive n)
+
+  -- The bytes of a node, as they stand there.
+  pub bytes-at : take (width n) (drop at bytes) ≡ node-bytes n []
+  bytes-at = ap (take (width n)) (stands .here ∙ node-before n (stands .rest)) ∙ take-at (node-bytes n []) (stands .rest) (width n) refl
 
   pub kind-at : getD bytes at 0 ≡ node-kind n
   kind-at =

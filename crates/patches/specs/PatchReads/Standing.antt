@@ -2,7 +2,7 @@
 -- hands on to the second pass.
 use mathlib.Core.Path.{_≡_, refl, sym, ap, _∙_}
 use mathlib.Core.List.{List, [], append-nil}
-use Prim.Native.Nat.{ℕ, _+_}
+use Prim.Native.Nat.{ℕ, _+_, _≤_}
 use native.Mathlib.Omega.{arith}
 use lib.ListN.{drop}
 use lib.Seq.{drop-drop}
@@ -12,7 +12,7 @@ use Rattle.stream.specs.Reading.{Bytes, Result, accepted, refused, section-byte
 use Rattle.stream.specs.TypeFiles.{type-bytes}
 use Rattle.files.specs.TypeReads.{TypeAt}
 use Rattle.files.specs.TypeReads.Laws.{type-before, type-drop}
-use Rattle.node.specs.Nodes.{Node}
+use Rattle.node.specs.Nodes.{Node, count, node-limit}
 use Rattle.node.specs.PatchFiles.{Patch, node-bytes, patch-file-bytes, first-pass}
 use Rattle.node.specs.PatchFiles.Laws.{first-pass-sound}
 use Rattle.patches.specs.declared.Patch.{Patch as Place}
@@ -43,6 +43,7 @@ pub record AcceptedPatch (file : List ℕ) (place : Place) : Type 0 where
   pub is-accepted : first-pass file ≡ accepted patch
   pub type-at : TypeAt file (place .input .start) (patch .input)
   pub node-at : NodeAt file (place .nodes) (patch .node)
+  pub few : count (patch .node) ≤ node-limit
 
 stands : (file : List ℕ) (p : Patch) → Bytes file → first-pass file ≡ accepted p → AcceptedPatch file (in-patch-file p)
 stands file p bytes e =
@@ -52,6 +53,7 @@ stands file p bytes e =
       is-accepted = e;
       type-at = record { rest = nodes-section (p .input) (p .node); here = rw (← f .bytes) (type-there (p .input) (p .node)); small = f .input-small };
       node-at = record { rest = []; here = rw (← f .bytes) (nodes-there (p .input) (p .node)); carries = f .carries };
+      few = f .few;
     }
 
 module _ (file : List ℕ) {answer : PatchRead} (told : answer ≡ patch-read (first-pass file)) where
