@@ -14,12 +14,12 @@ use Rattle.stream.specs.Reading.{Result, require}
 use Rattle.stream.specs.TypeFiles.{type-bytes}
 use Rattle.stream.specs.TypeFiles.Laws.{type-length}
 use Rattle.files.specs.TypeReads.{TypeAt, SomeTypeAt, TypeEnds}
-use Rattle.files.specs.TypeReads.Laws.{type-before, type-width, fork-size, ends-inside, bytes-at, first-at, second-at}
+use Rattle.files.specs.TypeReads.Laws.{type-before, type-width, fork-size, ends-inside, bytes-at, first-at, second-at, second-behind}
 use Rattle.node.specs.Checking.{gives}
 use Rattle.typing.specs.declared.Typed.{Typed}
 use Rattle.typing.specs.declared.Typed.the-variants.{Failed}
 use Rattle.typing.specs.Typing.{Answers, Given}
-use Rattle.typing.specs.Typing.Laws.{second-behind, other-shape, same-shape, is-fork, requires-fails, requires-holds}
+use Rattle.typing.specs.Typing.Laws.{other-shape, same-shape, is-fork, requires-fails, requires-holds}
 
 pub some : {types : List ℕ} {at : ℕ} {t : Ty} → TypeAt types at t → SomeTypeAt types at
 some {t = t} stands = record { type = t; stands = stands }

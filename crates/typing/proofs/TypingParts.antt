@@ -11,7 +11,7 @@ use Rattle.stream.specs.Types.{Ty, size, type-limit, kind, first-part, second-p
 use Rattle.stream.specs.Reading.{Result, accepted, refused, go-on}
 use Rattle.stream.specs.TypeFiles.{type-bytes}
 use Rattle.files.specs.TypeReads.{TypeAt, SomeTypeAt, TypeEnds}
-use Rattle.files.specs.TypeReads.Laws.{type-before, type-width, first-at}
+use Rattle.files.specs.TypeReads.Laws.{type-before, type-width, first-at, second-behind}
 use Rattle.writing.specs.Writing.Laws.{part, back}
 use Rattle.writing.specs.Writing.Standing.{written-stands}
 use Rattle.node.specs.Nodes.{Node, both, then, chain}
@@ -24,7 +24,7 @@ use Rattle.patches.specs.PatchReads.Laws.{ends-inside, width-positive, Forks, b
 use Rattle.writing.specs.Appending.{Appends, Within}
 use Rattle.typing.specs.Typing.{limited, Answers, TypingDue, TypesNode, PartsDue, fork, parts-typing, TypesParts}
 use Rattle.writing.specs.Appending.Laws.{back-length, Written, nothing-written, written-on, written-part}
-use Rattle.typing.specs.Typing.Laws.{second-behind, other-shape, same-shape, is-fork, typing-small, is-given, is-refused, answers-refused, answers-written, requires-fails}
+use Rattle.typing.specs.Typing.Laws.{other-shape, same-shape, is-fork, typing-small, is-given, is-refused, answers-refused, answers-written, requires-fails}
 
 fork-bytes : {k : ℕ} (t r : Ty) → (k ≡ 3) ⊎ (k ≡ 4) → (k ∷ type-bytes t []) ++ type-bytes r [] ≡ type-bytes (fork k t r) []
 unfolding type-bytes

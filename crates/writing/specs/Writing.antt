@@ -114,12 +114,11 @@ pub record EmptyWritten (types : List ℕ) (at : ℕ) (lent lent-after : List �
   pub each : (due : EmptyDue types at lent)
       → (written ≡ width (empty-prefix (due .type))) × (lent-after ≡ front (prefix-bytes (empty-prefix (due .type)) []) lent)
 
--- What the complete prefix at `at` leaves of its type is to be written on `lent`, which has room for it.
+-- What the complete prefix at `at` leaves of a type is to be written on `lent`, which has room for it.
 pub record SpentDue (slice : List ℕ) (at : ℕ) (lent : List ℕ) : Type 0 where
   pub type : Ty
   pub prefix : Prefix
   pub stands : PrefixAt slice at prefix
-  pub is-prefix : IsPrefix type prefix
   pub is-complete : Complete prefix
   pub room : size (derivative type prefix) ≤ length lent
 

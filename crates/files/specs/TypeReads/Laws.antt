@@ -16,7 +16,7 @@ use Rattle.stream.specs.TypeFiles.{type-bytes, type-kinds, type-root, read-type
 use Rattle.stream.specs.TypeFiles.Laws.{type-length, read-type-reads, read-type-sound}
 use Rattle.files.specs.Sections.{end-of}
 use Rattle.files.specs.Sections.Laws.{inside, section-ended, Within, tree-within}
-use Rattle.files.specs.TypeReads.{type-arity, TypeAt}
+use Rattle.files.specs.TypeReads.{type-arity, TypeAt, TypeEnds}
 
 -- No kind has more than two parts, and parts come in pairs.
 pub arity-small : (k : ℕ) → type-arity k ≤ 2
@@ -119,6 +119,10 @@ module _ {bytes : List ℕ} {at : ℕ} {t : Ty} (stands : TypeAt bytes at t) whe
               (type-drop (first-part t) (type-bytes (second-part t) (stands .rest)));
           small = omega (arith, stands .small, fork-size t fork);
         }
+
+    -- The second part stands where the first ends.
+    pub second-behind : {second : ℕ} → TypeEnds bytes (at + 1) second → TypeAt bytes second (second-part t)
+    second-behind ends = rw (ends .each (first-part t) first-at) second-at
 
 -- At most one type stands at a place.
 pub same-type : {bytes : List ℕ} {at : ℕ} {s t : Ty} → TypeAt bytes at s → TypeAt bytes at t → s ≡ t

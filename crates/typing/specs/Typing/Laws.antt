@@ -2,18 +2,18 @@
 use mathlib.Core.Bool.{Bool, true, false}
 use mathlib.Core.Path.{_≡_, refl, sym, ap, _∙_}
 use mathlib.Core.List.{List, []}
-use Prim.Native.Nat.{ℕ, _+_, _-_, _≤_, _<_}
+use Prim.Native.Nat.{ℕ, _-_, _≤_, _<_}
 use native.Mathlib.Omega.{arith}
 use lib.Dec.{leb}
 use lib.ListN.{length, getD, take, drop}
 use borrow.Author.Tests.{le-leb, lt-leb, eq-eqb, ne-eqb}
 use Rattle.stream.specs.declared.Fault.{Fault}
 use Rattle.stream.specs.declared.Fault.the-variants.{TypeTooLarge}
-use Rattle.stream.specs.Types.{Ty, size, type-limit, kind, second-part, has-kind}
+use Rattle.stream.specs.Types.{Ty, size, type-limit, kind, has-kind}
 use Rattle.stream.specs.Reading.{Result, accepted, refused, require}
 use Rattle.stream.specs.TypeFiles.{type-bytes}
 use Rattle.files.specs.TypeReads.{TypeAt, TypeEnds}
-use Rattle.files.specs.TypeReads.Laws.{type-width, bytes-at, kind-at, first-at, second-at}
+use Rattle.files.specs.TypeReads.Laws.{type-width, bytes-at, kind-at}
 use Rattle.writing.specs.Appending.Laws.{Written}
 use Rattle.node.specs.Nodes.{Node, Small}
 use Rattle.node.specs.Nodes.Laws.{output-small}
@@ -29,11 +29,6 @@ pub type-taken : {types : List ℕ} {at stop : ℕ} {t : Ty} → TypeAt types at
 type-taken {types} {at} {stop} {t} stands ends =
     let long : stop - at ≡ size t = omega (arith, ends .each t stands) in
     rw long (bytes-at stands)
-
--- The second part of a type stands where the first ends.
-pub second-behind : {types : List ℕ} {at second : ℕ} {t : Ty} → TypeAt types at t → 3 ≤ kind t → TypeEnds types (at + 1) second
-    → TypeAt types second (second-part t)
-second-behind stands fork ends = rw (ends .each _ (first-at stands fork)) (second-at stands fork)
 
 -- The kind byte tells whether a type has the shape that is asked.
 module _ {types : List ℕ} {at : ℕ} {t : Ty} (stands : TypeAt types at t) {shape : ℕ} where

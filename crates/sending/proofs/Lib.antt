@@ -1,0 +1,6 @@
+pub mod PartsSent
+pub mod LevelSent
+pub mod SilentSent
+pub mod FirstSpent
+pub mod SecondWaits
+pub mod Regrouped
