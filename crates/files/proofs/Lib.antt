@@ -4,3 +4,4 @@ pub mod TypeSkip
 pub mod PrefixWalk
 pub mod SliceWalk
 pub mod SliceFile
+pub mod CompleteWidth

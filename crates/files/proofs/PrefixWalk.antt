@@ -5,6 +5,7 @@ use Prim.Native.Nat.{ℕ, suc, _+_, _≤_, _<_}
 use native.Mathlib.Omega.{arith}
 use lib.ListN.{getD}
 use Rattle.stream.specs.Prefixes.{Prefix, nothing, cue-awaited, cue-come, level-awaited, level-come, in-first, crossed, beside}
+use Rattle.stream.specs.Reading.Laws.{_&_, past, every}
 use Rattle.files.specs.SliceReads.{width, leaf-width, PrefixAt}
 use Rattle.files.specs.SliceReads.Laws.{width-positive, prefix-kind, kind-at, in-first-at, crossed-first-at, crossed-second-at, beside-first-at, beside-second-at}
 
@@ -15,6 +16,15 @@ pub data Run (slice : List ℕ) (end : ℕ) : (owed at : ℕ) → Type 0 where
 
 pub starts : {slice : List ℕ} {at : ℕ} (p : Prefix) → PrefixAt slice at p → Run slice (at + width p) 1 at
 starts p s = more p s none
+
+-- A leaf takes one byte, unless it is a level's value.
+pub level-wide : (k : ℕ) → k ≡ 4 → leaf-width k ≡ 3
+level-wide k e = rw e
+
+pub other-wide : (k : ℕ) → (k ≡ 4 → ⊥) → leaf-width k ≡ 1
+other-wide =
+    every (λ k w. (k ≡ 4 → ⊥) → w ≡ 1) 1 _
+    ((λ h. refl) & (λ h. refl) & (λ h. refl) & (λ h. refl) & (λ h. absurd (h refl)) & past (λ k l h. refl))
 
 module _ {slice : List ℕ} {end : ℕ} where
   -- Each prefix takes a byte at least.
@@ -30,11 +40,12 @@ module _ {slice : List ℕ} {end : ℕ} where
   moved r e f = rw (← e, ← f) r
 
   -- The kind at the place gives way to its parts: none, one or two.
-  pub turned : {owed at : ℕ} (next : ℕ) → Run slice end owed at → 0 < owed → (getD slice at 0 < 5 → next + 1 ≡ owed)
-      → (getD slice at 0 ≡ 5 → next ≡ owed) → (5 < getD slice at 0 → next ≡ owed + 1) → Run slice end next (at + leaf-width (getD slice at 0))
+  pub turned : {owed at : ℕ} (next place : ℕ) → Run slice end owed at → 0 < owed → (getD slice at 0 < 5 → next + 1 ≡ owed)
+      → (getD slice at 0 ≡ 5 → next ≡ owed) → (5 < getD slice at 0 → next ≡ owed + 1) → place ≡ at + leaf-width (getD slice at 0)
+      → Run slice end next place
   unfolding width
-  turned next none h leaf one fork = absurd (omega arith)
-  turned next (more {owed} {at} p s r) h leaf one fork = go (getD slice at 0) p (kind-at s) s r leaf one fork
+  turned next place none h leaf one fork behind = absurd (omega arith)
+  turned next place (more {owed} {at} p s r) h leaf one fork behind = rw behind (go (getD slice at 0) p (kind-at s) s r leaf one fork)
     where
       go : (k : ℕ) (p : Prefix) → k ≡ prefix-kind p → PrefixAt slice at p → Run slice end owed (at + width p) → (k < 5 → next + 1 ≡ suc owed)
           → (k ≡ 5 → next ≡ suc owed) → (5 < k → next ≡ suc owed + 1) → Run slice end next (at + leaf-width k)

@@ -4,7 +4,7 @@ use mathlib.Core.Path.{_≡_, refl, sym, ap, _∙_}
 use mathlib.Core.Bool.{Bool, true, false, _&&_, and-true, and-assoc}
 use mathlib.Core.Logic.{_⊎_, ⊎-elim}
 use mathlib.Core.List.{List, [], _∷_, _++_}
-use Prim.Native.Nat.{ℕ, _+_, _*_, _-_, _≤_, _<_}
+use Prim.Native.Nat.{ℕ, _+_, _*_, _/_, _-_, _≤_, _<_}
 use native.Mathlib.Omega.{arith}
 use lib.ListN.{length, getD, drop, length-drop, length-append}
 use lib.Seq.{drop-cons, drop-drop}
@@ -142,32 +142,20 @@ module _ {bytes : List ℕ} {at owed end : ℕ} (passing : Passing bytes at owed
           far = λ t h. omega (arith, sizes-append (parts first) others, apart first .total, passing .far t h, ap sizes split);
         }
 
--- The types that are still to be passed come in pairs, once the root's byte has been passed.
-pub record PassingPairs (bytes : List ℕ) (at owed end : ℕ) : Type 0 where
-  pub passing : Passing bytes at owed end
-  pub pairs : ℕ
-  pub paired : owed ≡ 2 * pairs
-
-pub root-passed : {bytes : List ℕ} {at : ℕ} → SomeTypeAt bytes at → PassingPairs bytes at (type-arity (getD bytes at 0)) (at + 1)
+-- Parts come in pairs, so the types that are still to be passed do, once the root's byte has been passed.
+pub root-passed : {bytes : List ℕ} {at : ℕ} → SomeTypeAt bytes at → Passing bytes at (2 * (type-arity (getD bytes at 0) / 2)) (at + 1)
 root-passed {bytes} {at} some =
-    let parts = arity-paired (getD bytes at 0) in
-    let none-else : type-arity (getD bytes at 0) ≡ 1 - 1 + type-arity (getD bytes at 0) = omega arith in
-    record { passing = rw none-else (passed (starts some) (omega arith)); pairs = parts .0; paired = parts .1 }
+    let owed : 2 * (type-arity (getD bytes at 0) / 2) ≡ 1 - 1 + type-arity (getD bytes at 0) = omega (arith, arity-paired (getD bytes at 0)) in
+    rw owed (passed (starts some) (omega arith))
 
-pub pair-passed : {bytes : List ℕ} {at owed end : ℕ} → PassingPairs bytes at owed end → 0 < owed
-    → PassingPairs bytes at (owed - 2 + type-arity (getD bytes end 0) + type-arity (getD bytes (end + 1) 0)) (end + 2)
-pair-passed {bytes} {at} {owed} {end} now wanted =
-    let first = arity-paired (getD bytes end 0) in
-    let second = arity-paired (getD bytes (end + 1) 0) in
-    let same-owed : owed - 2 + type-arity (getD bytes end 0) + type-arity (getD bytes (end + 1) 0)
-    ≡ owed - 1 + type-arity (getD bytes end 0) - 1 + type-arity (getD bytes (end + 1) 0)
-    = omega (arith, now .paired) in
-    let same-end : end + 2 ≡ end + 1 + 1 = omega arith in
-    record {
-      passing = rw (same-owed, same-end) (passed (passed (now .passing) wanted) (omega (arith, now .paired)));
-      pairs = now .pairs - 1 + first .0 + second .0;
-      paired = omega (arith, now .paired, first .1, second .1);
-    }
+pub pair-passed : {bytes : List ℕ} {at pairs end : ℕ} → Passing bytes at (2 * pairs) end → 0 < pairs
+    → Passing bytes at (2 * (pairs - 1 + type-arity (getD bytes end 0) / 2 + type-arity (getD bytes (end + 1) 0) / 2)) (end + 2)
+pair-passed {bytes} {at} {pairs} {end} passing wanted =
+    let owed : 2 * (pairs - 1 + type-arity (getD bytes end 0) / 2 + type-arity (getD bytes (end + 1) 0) / 2)
+    ≡ 2 * pairs - 1 + type-arity (getD bytes end 0) - 1 + type-arity (getD bytes (end + 1) 0)
+    = omega (arith, arity-paired (getD bytes end 0), arity-paired (getD bytes (end + 1) 0)) in
+    let behind : end + 2 ≡ end + 1 + 1 = omega arith in
+    rw (owed, behind) (passed (passed passing (omega arith)) (omega arith))
 
 -- Whether all of some types are nullable. One of kind 0 or 4 is if its parts are; another is not.
 abbrev all-nullable : List Ty → Bool

@@ -13,7 +13,7 @@ use Rattle.files.specs.declared.prefixes.SliceRead.{SliceRead}
 use Rattle.files.specs.declared.prefixes.SliceRead.the-variants.{Whole, Refused}
 use Rattle.stream.specs.Types.{Ty, size, type-limit}
 use Rattle.stream.specs.Levels.Laws.{value-width}
-use Rattle.stream.specs.Prefixes.{Prefix, nothing, cue-awaited, cue-come, level-awaited, level-come, in-first, crossed, beside, complete, derivative}
+use Rattle.stream.specs.Prefixes.{Prefix, nothing, cue-awaited, cue-come, level-awaited, level-come, in-first, crossed, beside, Complete, complete, IsPrefix, derivative}
 use Rattle.stream.specs.Reading.{Reading, read, fault, Result, accepted, refused, tree}
 use Rattle.files.specs.TypeReads.{TypeAt}
 use Rattle.stream.specs.SliceFiles.{Owed, owed, prefix-root, prefix-bytes, slice-file}
@@ -67,6 +67,15 @@ pub record SomePrefixAt (bytes : List ℕ) (at : ℕ) : Type 0 where
 -- `end` is where the prefix at `at` ends, whichever it is.
 pub record PrefixEnds (bytes : List ℕ) (at end : ℕ) : Type 0 where
   pub each : (p : Prefix) → PrefixAt bytes at p → end ≡ at + width p
+
+-- A type stands from `at` to `end`; `wide` is how many bytes each of its complete prefixes has.
+pub record TypeSpans (types : List ℕ) (at end : ℕ) : Type 0 where
+  pub type : Ty
+  pub stands : TypeAt types at type
+  pub ends : end ≡ at + size type
+
+pub record CompleteWide (types : List ℕ) (at end wide : ℕ) : Type 0 where
+  pub each : (span : TypeSpans types at end) (p : Prefix) → IsPrefix (span .type) p → Complete p → wide ≡ width p
 
 -- The kind of type that each kind of slice belongs to, by its number; the kinds that keep a slice from being complete.
 abbrev pub type-kind-of : ℕ → ℕ

@@ -7,7 +7,7 @@ ghost use Prim.Native.Nat.{_+_, _≤_, _<_};
 ghost use lib.ListN.{length, getD};
 ghost use Rattle.stream.specs.Types.{type-limit};
 ghost use Rattle.files.specs.TypeReads.{SomeTypeAt};
-ghost use Rattle.files.specs.SliceReads.{type-kind-of, is-unfinished, belongs-at, leaf-width, first-complete, SomePrefixAt, PrefixEnds, leaf-walked, first-known, SumsFit, beside-walked, Walks, ReadsSlice};
+ghost use Rattle.files.specs.SliceReads.{type-kind-of, is-unfinished, belongs-at, leaf-width, first-complete, SomePrefixAt, PrefixEnds, TypeSpans, CompleteWide, leaf-walked, first-known, SumsFit, beside-walked, Walks, ReadsSlice};
 
 // What is known of a prefix that was read against its type: whether it is complete, how many nodes the type has that it
 // leaves, and by how many bytes its join with a later prefix is shorter than the two. The lengths stand apart: side by side
@@ -79,7 +79,8 @@ fn belongs(ty: u8, kind: u8, complete: bool) -> bool
     true
 }
 
-// Where the prefix that stands at `at` ends.
+// Where the prefix that stands at `at` ends. A level's value is passed in a branch of its own, so that the next place does not
+// wait for the kind.
 pub fn skip_prefix(slice: &[u8], at: usize) -> usize
     requires { ⌜ SomePrefixAt (now slice) at ⌝ }
     ensures { λ r. ⌜ PrefixEnds (now (slice .entry)) at r ⌝ }
@@ -88,14 +89,35 @@ pub fn skip_prefix(slice: &[u8], at: usize) -> usize
     let mut end = at;
     while 0 < owed {
         let kind = slice[end];
-        if kind < 5 {
-            owed -= 1;
-        } else if 5 < kind {
+        end += 1;
+        if kind < 6 {
+            if kind < 5 {
+                owed -= 1;
+                if kind == 4 {
+                    end += 2;
+                }
+            }
+        } else {
             owed += 1;
         }
-        end += leaf_width(kind);
     }
     end
+}
+
+// How many bytes every complete prefix has of the type from `at` to `end`: one for each of its nodes, and the value of each
+// level. So the place behind a crossed first part is found by the type, which takes fewer turns than going through the slice.
+// The levels are counted in a byte, of which a processor counts many in one turn.
+pub fn complete_width(types: &[u8], at: usize, end: usize) -> usize
+    requires { ⌜ TypeSpans (now types) at end ⌝ }
+    ensures { λ r. ⌜ CompleteWide (now (types .entry)) at end r ⌝ }
+{
+    let mut levels: u8 = 0;
+    let mut from = at;
+    while from < end {
+        levels += (types[from] == 2) as u8;
+        from += 1;
+    }
+    end - at + 2 * levels as usize
 }
 
 // A leaf, whose kind belongs there; its type ends at `end`.

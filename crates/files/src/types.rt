@@ -94,15 +94,15 @@ pub fn read_type_file(file: &[u8]) -> TypeRead
 }
 
 // Where the type that stands at `at` ends. Parts come in pairs, so wherever one byte is owed two are, and two in one turn take
-// little more time than one: a small node on a large type spends its time here.
+// little more time than one: a small node on a large type spends its time here. Counting the pairs saves an instruction a byte.
 pub fn skip_type(types: &[u8], at: usize) -> usize
     requires { ⌜ SomeTypeAt (now types) at ⌝ }
     ensures { λ r. ⌜ TypeEnds (now (types .entry)) at r ⌝ }
 {
-    let mut owed = type_arity(types[at]);
+    let mut pairs = type_arity(types[at]) / 2;
     let mut end = at + 1;
-    while 0 < owed {
-        owed = owed - 2 + type_arity(types[end]) + type_arity(types[end + 1]);
+    while 0 < pairs {
+        pairs = pairs - 1 + type_arity(types[end]) / 2 + type_arity(types[end + 1]) / 2;
         end += 2;
     }
     end

@@ -1,12 +1,12 @@
 -- What left, right, first and second send is a part of the prefix: where it stands, and which node is left.
-use mathlib.Core.Path.{_≡_, refl}
+use mathlib.Core.Path.{_≡_, refl, ap}
 use mathlib.Core.List.{List, [], _∷_}
 use Prim.Native.Nat.{ℕ, _+_, _≤_}
 use native.Mathlib.Omega.{arith}
 use lib.ListN.{getD}
 use Rattle.stream.specs.Types.{Ty, size, kind, first-part, second-part}
 use Rattle.stream.specs.Prefixes.{Prefix, Complete, IsPrefix, of-first, of-crossed, of-beside, empty-prefix, derivative}
-use Rattle.files.specs.SliceReads.{PrefixAt, SomePrefixAt, PrefixEnds}
+use Rattle.files.specs.SliceReads.{width, PrefixAt, SomePrefixAt, PrefixEnds}
 use Rattle.files.specs.SliceReads.Laws.{kind-at, in-first-at, crossed-first-at, crossed-second-at, beside-first-at, beside-second-at}
 use Rattle.node.specs.Nodes.{silent, left, right, first, second, Types, types-left, types-right, types-first, types-second}
 use Rattle.node.specs.Feeding.{sends, leaves}
@@ -19,9 +19,12 @@ pub record Spent (type : Ty) (p : Prefix) : Type 0 where
   pub part-size : size (first-part type) ≤ size type
   pub node : leaves type first p ≡ silent (derivative (first-part type) (sends type first p))
 
+-- Second takes a sequence.
+pub second-sequence : {type output : Ty} → Types type second output → kind type ≡ 3
+second-sequence types-second = refl
+
 -- Second sends nothing of the second part, and stays.
 pub record Waits (type : Ty) (p : Prefix) : Type 0 where
-  pub sequence : kind type ≡ 3
   pub sent : sends type second p ≡ empty-prefix (second-part type)
   pub node : node-bytes (leaves type second p) [] ≡ 8 ∷ []
 
@@ -67,18 +70,13 @@ module _ {slice : List ℕ} {place : ℕ} where
   pub second-coming : {type output : Ty} {p : Prefix} → Types type second output → IsPrefix type p → PrefixAt slice place p
       → getD slice place 0 ≡ 5 → Waits type p
   unfolding sends leaves node-bytes
-  second-coming types-second (of-first h) stands five = record { sequence = refl; sent = refl; node = refl }
+  second-coming types-second (of-first h) stands five = record { sent = refl; node = refl }
   second-coming types-second (of-crossed h c k) stands five = absurd (omega (arith, kind-at stands))
 
-  pub second-before : {type output : Ty} {p : Prefix} → Types type second output → IsPrefix type p → PrefixAt slice place p
-      → (getD slice place 0 ≡ 5 → ⊥) → SomePrefixAt slice (place + 1)
-  second-before types-second (of-first h) stands other = absurd (other (kind-at stands))
-  second-before types-second (of-crossed {b = b} h c k) stands other = record { prefix = b; stands = crossed-first-at stands }
-
-  pub second-part-at : {type output : Ty} {p : Prefix} {part : ℕ} → Types type second output → IsPrefix type p → PrefixAt slice place p
-      → (getD slice place 0 ≡ 5 → ⊥) → PrefixEnds slice (place + 1) part
-      → PrefixAt slice part (sends type second p) × (node-bytes (leaves type second p) [] ≡ 0 ∷ [])
+  pub second-part-at : {type output : Ty} {p : Prefix} (wide : ℕ) → Types type second output → IsPrefix type p → PrefixAt slice place p
+      → (getD slice place 0 ≡ 5 → ⊥) → ((b : Prefix) → IsPrefix (first-part type) b → Complete b → wide ≡ width b)
+      → PrefixAt slice (place + 1 + wide) (sends type second p) × (node-bytes (leaves type second p) [] ≡ 0 ∷ [])
   unfolding sends leaves node-bytes
-  second-part-at types-second (of-first h) stands other skipped = absurd (other (kind-at stands))
-  second-part-at types-second (of-crossed {b = b} h c k) stands other skipped =
-      (crossed-second-at stands (skipped .each b (crossed-first-at stands)), refl)
+  second-part-at wide types-second (of-first h) stands other is-wide = absurd (other (kind-at stands))
+  second-part-at wide types-second (of-crossed {b = b} h c k) stands other is-wide =
+      (crossed-second-at stands (ap (λ w. place + 1 + w) (is-wide b h c)), refl)

@@ -1,35 +1,54 @@
--- Second before the crossing: it sends the empty prefix of the second part, which stands where `skip_type` says that the first ends.
+-- Second before the crossing sends the empty prefix of the second part, which stands where `skip_type` says that the first ends;
+-- and how many bytes the first part has once it is complete.
 use mathlib.Core.Path.{_≡_}
-use mathlib.Core.List.{List}
+use mathlib.Core.List.{List, [], _∷_}
 use Prim.Native.Nat.{ℕ, _+_, _≤_}
 use native.Mathlib.Omega.{arith}
 use lib.ListN.{getD}
 use Rattle.stream.specs.Types.{kind, first-part, second-part}
-use Rattle.files.specs.TypeReads.{SomeTypeAt, TypeEnds}
+use Rattle.files.specs.TypeReads.{TypeAt, SomeTypeAt, TypeEnds}
 use Rattle.files.specs.TypeReads.Laws.{first-at, second-behind}
+use Rattle.files.specs.SliceReads.{PrefixAt, TypeSpans, CompleteWide}
 use Rattle.node.specs.Nodes.{second}
 use Rattle.node.specs.Feeding.{sends, leaves}
+use Rattle.node.specs.PatchFiles.{node-bytes}
 use Rattle.writing.specs.Writing.{EmptyDue, EmptyWritten}
 use Rattle.sending.specs.declared.Sent.{Sent}
 use Rattle.sending.specs.Sending.{LeavesKind, Delivers, SecondDue}
 use Rattle.sending.specs.Sending.Laws.{delivers}
-use Rattle.sending.proofs.PartsSent.{Waits, second-coming}
+use Rattle.sending.proofs.PartsSent.{Waits, second-sequence, second-coming, second-part-at}
 
 module _ {types : List ℕ} {at : ℕ} {slice : List ℕ} {place : ℕ} {out remainder : List ℕ}
-    (asked : SecondDue types at slice place out remainder) (five : getD slice place 0 ≡ 5) where
-  -- The prefix has not crossed, since its kind is 5.
-  pub waits : Waits (asked .due .type) (asked .due .prefix)
-  waits = second-coming (asked .due .types) (asked .due .is-prefix) (asked .due .prefix-at) five
-
+    (asked : SecondDue types at slice place out remainder) where
   -- Both parts of the type stand in its bytes.
 
   pub fork : 3 ≤ kind (asked .due .type)
-  fork = omega (arith, waits .sequence)
+  fork = omega (arith, second-sequence (asked .due .types))
+
+  abbrev pub first-stands : TypeAt types (at + 1) (first-part (asked .due .type))
+  first-stands = first-at (asked .type-at) fork
 
   pub first-type : SomeTypeAt types (at + 1)
-  first-type = record { type = first-part (asked .due .type); stands = first-at (asked .type-at) fork }
+  first-type = record { type = first-part (asked .due .type); stands = first-stands }
 
   module _ {part : ℕ} (skipped : TypeEnds types (at + 1) part) where
+    -- A first part that is complete has as many bytes as every one has.
+
+    abbrev pub first-spans : TypeSpans types (at + 1) part
+    first-spans = record { type = first-part (asked .due .type); stands = first-stands; ends = skipped .each _ first-stands }
+
+    -- So what has come of the second part stands behind it.
+    pub crossed-part : {wide : ℕ} → CompleteWide types (at + 1) part wide → (getD slice place 0 ≡ 5 → ⊥)
+        → PrefixAt slice (place + 1 + wide) (sends (asked .due .type) second (asked .due .prefix))
+        × (node-bytes (leaves (asked .due .type) second (asked .due .prefix)) [] ≡ 0 ∷ [])
+    crossed-part {wide} is-wide other =
+        second-part-at wide (asked .due .types) (asked .due .is-prefix) (asked .due .prefix-at) other (is-wide .each first-spans)
+
+  -- The prefix has not crossed, if its kind is 5.
+  module _ (five : getD slice place 0 ≡ 5) {part : ℕ} (skipped : TypeEnds types (at + 1) part) where
+    pub waits : Waits (asked .due .type) (asked .due .prefix)
+    waits = second-coming (asked .due .types) (asked .due .is-prefix) (asked .due .prefix-at) five
+
     abbrev pub waiting-due : EmptyDue types part out
     waiting-due =
         record {

@@ -1,5 +1,6 @@
 // One feed of a node without parts: what it sends, written on `out`, and the node left, written on `remainder`. Both are work
 // bytes with room for it.
+use files::prefixes::complete_width;
 use files::prefixes::skip_prefix;
 use files::types::skip_type;
 use writing::appending::append;
@@ -127,13 +128,14 @@ pub fn feed_second(
     requires { ⌜ SecondDue (now types) at (now slice) place (now out) (now remainder) ⌝ }
     ensures { λ r. ⌜ SecondFed (now (types .entry)) at (now (slice .entry)) place (now (out .entry)) (now (remainder .entry)) (now (out .exit)) (now (remainder .exit)) r ⌝ }
 {
+    let first = at + 1;
+    let second = skip_type(types, first);
     if slice[place] == 5 {
-        let second = skip_type(types, at + 1);
         let sent = write_empty(types, second, out);
         return leave(8, sent, remainder);
     }
-    let second = skip_prefix(slice, place + 1);
-    let sent = copy_prefix(slice, second, out);
+    let rest = place + 1 + complete_width(types, first, second);
+    let sent = copy_prefix(slice, rest, out);
     leave(0, sent, remainder)
 }
 

@@ -1,7 +1,7 @@
 -- A type that stands at a place of some bytes: its kind byte, its parts, and where it ends.
 use mathlib.Core.Path.{_≡_, refl, sym, ap, _∙_}
 use mathlib.Core.List.{List, [], _∷_, _++_}
-use Prim.Native.Nat.{ℕ, suc, _+_, _*_, _-_, _≤_, _<_}
+use Prim.Native.Nat.{ℕ, suc, _+_, _*_, _/_, _-_, _≤_, _<_}
 use native.Mathlib.Omega.{arith}
 use native.Mathlib.Nat.{add-zero}
 use lib.ListN.{length, getD, take, drop, length-drop}
@@ -22,8 +22,8 @@ use Rattle.files.specs.TypeReads.{type-arity, TypeAt, TypeEnds}
 pub arity-small : (k : ℕ) → type-arity k ≤ 2
 arity-small = every (λ k n. n ≤ 2) 2 _ (omega arith & omega arith & omega arith & past (λ k h. omega arith))
 
-pub arity-paired : (k : ℕ) → (pairs : ℕ) × (type-arity k ≡ 2 * pairs)
-arity-paired = every (λ k n. (pairs : ℕ) × (n ≡ 2 * pairs)) 2 _ ((0, refl) & (0, refl) & (0, refl) & past (λ k h. (1, refl)))
+pub arity-paired : (k : ℕ) → type-arity k ≡ 2 * (type-arity k / 2)
+arity-paired = every (λ k n. n ≡ 2 * (n / 2)) 2 _ (omega arith & omega arith & omega arith & past (λ k h. omega arith))
 
 -- Behind a type stands what was put there.
 pub type-drop : (t : Ty) (r : List ℕ) → drop (size t) (type-bytes t r) ≡ r

@@ -12,7 +12,7 @@ use Rattle.stream.specs.Reading.Laws.{_&_, past, every}
 use Rattle.stream.specs.TypeFiles.{type-bytes}
 use Rattle.files.specs.TypeReads.{TypeAt}
 use Rattle.files.specs.TypeReads.Laws.{type-before, type-width}
-use Rattle.node.specs.Nodes.{Node, pass, silent, emit-cue, emit-level, both, left, right, first, second, then, chain, regroup-right, regroup-left, spread, front}
+use Rattle.node.specs.Nodes.{Node, pass, silent, emit-cue, emit-level, both, left, right, first, second, then, chain, regroup-right, regroup-left, spread, front, count}
 use Rattle.node.specs.Checking.Laws.{Carries}
 use Rattle.node.specs.PatchFiles.{node-bytes}
 use Rattle.patches.specs.PatchReads.{node-arity, width, NodeAt}
@@ -73,7 +73,7 @@ node-append regroup-left r s = refl
 node-append spread r s = refl
 node-append front r s = refl
 
-node-before : (n : Node) (r : List ℕ) → node-bytes n r ≡ node-bytes n [] ++ r
+pub node-before : (n : Node) (r : List ℕ) → node-bytes n r ≡ node-bytes n [] ++ r
 node-before n r = node-append n [] r
 
 node-width : (n : Node) (r : List ℕ) → length (node-bytes n r) ≡ width n + length r
@@ -81,6 +81,25 @@ node-width n r = ap length (node-before n r) ∙ length-append (node-bytes n [])
 
 pub node-drop : (n : Node) (r : List ℕ) → drop (width n) (node-bytes n r) ≡ r
 node-drop n r = ap (drop (width n)) (node-before n r) ∙ drop-at (node-bytes n []) r (width n) refl
+
+-- Each node has a byte at least.
+pub count-within : (n : Node) → count n ≤ width n
+unfolding count node-bytes value-bytes
+count-within pass = omega arith
+count-within (silent n) = omega arith
+count-within emit-cue = omega arith
+count-within (emit-level v) = omega arith
+count-within (both n m) = omega (arith, count-within n, count-within m, node-width n (node-bytes m []))
+count-within left = omega arith
+count-within right = omega arith
+count-within first = omega arith
+count-within second = omega arith
+count-within (then n m) = omega (arith, count-within n, count-within m, node-width n (node-bytes m []))
+count-within (chain n m) = omega (arith, count-within n, count-within m, node-width n (node-bytes m []))
+count-within regroup-right = omega arith
+count-within regroup-left = omega arith
+count-within spread = omega arith
+count-within front = omega arith
 
 pub width-positive : (n : Node) → 1 ≤ width n
 width-positive n = omega (arith, ap length (root-first n [] .0))

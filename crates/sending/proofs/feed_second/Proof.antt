@@ -1,32 +1,30 @@
 -- `feed_second` meets its contract: before the crossing it sends the empty prefix of the second part (`SecondWaits`), and after it
--- what stands where `skip_prefix` says that the first part ends.
+-- what stands behind the first part, which is as long as every complete prefix of its type.
 use borrow.Author.Needs.{needs}
 use native.Mathlib.Omega.{arith}
 use Rattle.files.specs.TypeReads.Laws.{starts-inside}
+use Rattle.files.specs.SliceReads.Laws.{prefix-inside}
 use Rattle.sending.specs.Sending.Laws.{leaf-inside, copy-due, copied}
-use Rattle.sending.proofs.PartsSent.{second-before, second-part-at}
-use Rattle.sending.proofs.SecondWaits.{first-type, waiting-due, waiting}
+use Rattle.sending.proofs.SecondWaits.{first-type, first-spans, crossed-part, waiting-due, waiting}
 use Rattle.sending.proofs.feed_second.Statement.{statement}
 use Rattle.sending.proofs.feed_second.Tie as tie
 
-shared-slice-read-if1 : tie.Need-shared-slice-read-if1
-shared-slice-read-if1 c = leaf-inside (c .before .before .before .before .before .pre .due)
+abbrev entry : tie.After-skip-type → tie.Start
+entry c = c .before .before .before .before .before
 
-add-skip-type : tie.Need-add-skip-type
-add-skip-type c = omega (arith, starts-inside (c .before .before .before .before .before .before .pre .type-at))
+add-first : tie.Need-add-first
+add-first c = omega (arith, starts-inside (c .before .before .before .before .pre .type-at))
 
 skip-type-requires : tie.Need-skip-type-requires
-skip-type-requires c κs =
-    let tested = c in
-    let begun = tested .before .before .before .before .before .before in
-    first-type (begun .pre) (tested .if1 .taken)
+skip-type-requires c κs = first-type (c .before .before .before .before .pre)
+
+shared-slice-read-if1 : tie.Need-shared-slice-read-if1
+shared-slice-read-if1 c = leaf-inside (entry (c .before) .pre .due)
 
 write-empty-requires : tie.Need-write-empty-requires
 write-empty-requires c κs =
-    let skipped = c .before in
-    let tested = skipped .before in
-    let begun = tested .before .before .before .before .before .before in
-    waiting-due (begun .pre) (tested .if1 .taken) (skipped .skip-type .ensures)
+    let skipped = c .before .before .before in
+    waiting-due (entry skipped .pre) (c .before .if1 .taken) (skipped .skip-type .ensures)
 
 leave-requires : tie.Need-leave-requires
 leave-requires c κs = search needs
@@ -41,30 +39,34 @@ returns : tie.Need-returns
 returns c =
     let left = c .before .before in
     let sent = left .before .before .before .before in
-    let skipped = sent .before .before in
-    let tested = skipped .before in
+    let tested = sent .before .before in
     record {
       each = λ asked.
-          waiting asked (tested .if1 .taken) (skipped .skip-type .ensures) (sent .write-empty .ensures) (left .leave .ensures);
+          waiting asked (tested .if1 .taken) (tested .before .before .skip-type .ensures) (sent .write-empty .ensures) (left .leave .ensures);
     }
 
-add-skip-prefix : tie.Need-add-skip-prefix
-add-skip-prefix c = omega (arith, leaf-inside (c .before .before .before .before .before .before .pre .due))
+add-rest : tie.Need-add-rest
+add-rest c = omega (arith, leaf-inside (entry (c .before .before) .pre .due))
 
-skip-prefix-requires : tie.Need-skip-prefix-requires
-skip-prefix-requires c κs =
-    let tested = c in
-    let begun = tested .before .before .before .before .before .before in
-    let due = begun .pre .due in
-    second-before (due .types) (due .is-prefix) (due .prefix-at) (tested .if1 .left)
+complete-width-requires : tie.Need-complete-width-requires
+complete-width-requires c κs = let skipped = c .before .before in first-spans (entry skipped .pre) (skipped .skip-type .ensures)
+
+add-rest-2 : tie.Need-add-rest-2
+add-rest-2 c =
+    let tested = c .before in
+    let skipped = tested .before .before in
+    omega (
+      arith,
+      prefix-inside (crossed-part (entry skipped .pre) (skipped .skip-type .ensures) (c .complete-width .ensures) (tested .if1 .left) .0),
+    )
 
 copy-prefix-requires : tie.Need-copy-prefix-requires
 copy-prefix-requires c κs =
-    let skipped = c .before in
-    let tested = skipped .before in
-    let begun = tested .before .before .before .before .before .before in
-    let due = begun .pre .due in
-    copy-due due (second-part-at (due .types) (due .is-prefix) (due .prefix-at) (tested .if1 .left) (skipped .skip-prefix .ensures) .0)
+    let wide = c .before in
+    let tested = wide .before in
+    let skipped = tested .before .before in
+    copy-due (entry skipped .pre .due)
+    (crossed-part (entry skipped .pre) (skipped .skip-type .ensures) (wide .complete-width .ensures) (tested .if1 .left) .0)
 
 leave-requires-2 : tie.Need-leave-requires-2
 leave-requires-2 c κs = search needs
@@ -79,29 +81,29 @@ returns-2 : tie.Need-returns-2
 returns-2 c =
     let left = c .before .before in
     let sent = left .before .before .before .before in
-    let skipped = sent .before .before in
-    let tested = skipped .before in
+    let wide = sent .before .before in
+    let tested = wide .before in
     record {
       each = λ asked.
-          let due = asked .due in
-          let crossed = second-part-at (due .types) (due .is-prefix) (due .prefix-at) (tested .if1 .left) (skipped .skip-prefix .ensures) in
-          copied due (crossed .0) (sent .copy-prefix .ensures) (left .leave2 .ensures) (crossed .1);
+          let crossed = crossed-part asked (tested .before .before .skip-type .ensures) (wide .complete-width .ensures) (tested .if1 .left) in
+          copied (asked .due) (crossed .0) (sent .copy-prefix .ensures) (left .leave2 .ensures) (crossed .1);
     }
 
 pub feed-second-spec : {M : Type 1} → statement M
 feed-second-spec =
     tie.close
     (tie.spec
-    shared-slice-read-if1
-    add-skip-type
+    add-first
     skip-type-requires
+    shared-slice-read-if1
     write-empty-requires
     leave-requires
     same-length
     same-length-2
     returns
-    add-skip-prefix
-    skip-prefix-requires
+    add-rest
+    complete-width-requires
+    add-rest-2
     copy-prefix-requires
     leave-requires-2
     same-length-3

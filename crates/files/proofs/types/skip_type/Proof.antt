@@ -1,20 +1,20 @@
--- `skip_type` meets its contract: at `end`, `owed` types are still to be passed, in pairs (`PassingPairs`), and each byte makes
--- way for the parts of the first of them.
+-- `skip_type` meets its contract: at `end`, two types are still to be passed for each of the `pairs` (`Passing`), and each
+-- byte makes way for the parts of the first of them, which are none or one pair.
 use borrow.Author.Needs.{needs}
-use Prim.Native.Nat.{_-_}
+use Prim.Native.Nat.{_*_, _-_}
 use native.Mathlib.Omega.{arith}
 use lib.ListN.{length}
 use Rattle.stream.specs.Types.Laws.{limit-is}
 use Rattle.files.specs.TypeReads.Laws.{starts-inside}
-use Rattle.files.proofs.TypeSkip.{PassingPairs, few, inside, passed, root-passed, pair-passed, ends}
+use Rattle.files.proofs.TypeSkip.{Passing, few, inside, passed, root-passed, pair-passed, ends}
 use Rattle.files.proofs.types.skip_type.Statement.{statement}
 use Rattle.files.proofs.types.skip_type.Tie as tie
 
 abbrev Inv-loop : tie.InvT-loop
-Inv-loop types at owed₀ end₀ owed end = PassingPairs types at owed end
+Inv-loop types at pairs₀ end₀ pairs end = Passing types at (2 * pairs) end
 
 abbrev μ-loop : tie.MeasureT-loop
-μ-loop types at owed₀ end₀ owed end = length types - end
+μ-loop types at pairs₀ end₀ pairs end = length types - end
 
 shared-slice-read-type-arity : tie.Need-shared-slice-read-type-arity Inv-loop μ-loop
 shared-slice-read-type-arity c = starts-inside (c .before .before .pre .stands)
@@ -28,43 +28,43 @@ add-end c = omega (arith, starts-inside (c .before .before .before .pre .stands)
 loop-holds : tie.Need-loop-holds Inv-loop μ-loop
 loop-holds c = rw (c .type-arity .ensures) (root-passed (c .before .before .before .pre))
 
-sub-owed : tie.Need-sub-owed Inv-loop μ-loop
-sub-owed c = omega (arith, c .before .loop .inv .paired)
+sub-pairs : tie.Need-sub-pairs Inv-loop μ-loop
+sub-pairs c = omega arith
 
 shared-slice-read-type-arity-2 : tie.Need-shared-slice-read-type-arity-2 Inv-loop μ-loop
-shared-slice-read-type-arity-2 c = omega (arith, inside (c .before .before .loop .inv .passing) (omega arith), c .before .before .loop .inv .paired)
+shared-slice-read-type-arity-2 c = omega (arith, inside (c .before .before .loop .inv) (omega arith))
 
 type-arity-requires-2 : tie.Need-type-arity-requires-2 Inv-loop μ-loop
 type-arity-requires-2 c κs = search needs
 
-add-owed : tie.Need-add-owed Inv-loop μ-loop
-add-owed c = omega (arith, limit-is, few (passed (c .before .before .before .loop .inv .passing) (omega arith)), c .type-arity2 .ensures)
+add-pairs : tie.Need-add-pairs Inv-loop μ-loop
+add-pairs c = omega (arith, limit-is, few (passed (c .before .before .before .loop .inv) (omega arith)), c .type-arity2 .ensures)
 
 add-type-arity : tie.Need-add-type-arity Inv-loop μ-loop
-add-type-arity c = omega (arith, inside (c .before .before .before .loop .inv .passing) (omega arith), c .before .before .before .loop .inv .paired)
+add-type-arity c = omega (arith, inside (c .before .before .before .loop .inv) (omega arith))
 
 shared-slice-read-type-arity-3 : tie.Need-shared-slice-read-type-arity-3 Inv-loop μ-loop
-shared-slice-read-type-arity-3 c = omega (arith, inside (c .before .before .before .before .loop .inv .passing) (omega arith), c .before .before .before .before .loop .inv .paired)
+shared-slice-read-type-arity-3 c = omega (arith, inside (c .before .before .before .before .loop .inv) (omega arith))
 
 type-arity-requires-3 : tie.Need-type-arity-requires-3 Inv-loop μ-loop
 type-arity-requires-3 c κs = search needs
 
-add-owed-2 : tie.Need-add-owed-2 Inv-loop μ-loop
-add-owed-2 c =
-    let sum = few (pair-passed (c .before .before .before .before .before .loop .inv) (omega arith) .passing) in
+add-pairs-2 : tie.Need-add-pairs-2 Inv-loop μ-loop
+add-pairs-2 c =
+    let sum = few (pair-passed (c .before .before .before .before .before .loop .inv) (omega arith)) in
     omega (arith, limit-is, sum, c .type-arity3 .ensures, c .before .before .type-arity2 .ensures)
 
 add-end-2 : tie.Need-add-end-2 Inv-loop μ-loop
-add-end-2 c = omega (arith, inside (c .before .before .before .before .before .loop .inv .passing) (omega arith), c .before .before .before .before .before .loop .inv .paired)
+add-end-2 c = omega (arith, inside (c .before .before .before .before .before .loop .inv) (omega arith))
 
 loop-less : tie.Need-loop-less Inv-loop μ-loop
-loop-less c = omega (arith, inside (c .before .before .before .before .before .loop .inv .passing) (omega arith), c .before .before .before .before .before .loop .inv .paired)
+loop-less c = omega (arith, inside (c .before .before .before .before .before .loop .inv) (omega arith))
 
 loop-again : tie.Need-loop-again Inv-loop μ-loop
 loop-again c = rw (c .type-arity3 .ensures, c .before .before .type-arity2 .ensures) (pair-passed (c .before .before .before .before .before .loop .inv) (omega arith))
 
 returns : tie.Need-returns Inv-loop μ-loop
-returns c = ends (c .before .loop .inv .passing) (omega arith)
+returns c = ends (c .before .loop .inv) (omega arith)
 
 pub skip-type-spec : {M : Type 1} → statement M
 skip-type-spec =
@@ -76,14 +76,14 @@ skip-type-spec =
     type-arity-requires
     add-end
     loop-holds
-    sub-owed
+    sub-pairs
     shared-slice-read-type-arity-2
     type-arity-requires-2
-    add-owed
+    add-pairs
     add-type-arity
     shared-slice-read-type-arity-3
     type-arity-requires-3
-    add-owed-2
+    add-pairs-2
     add-end-2
     loop-less
     loop-again
