@@ -1,16 +1,17 @@
 -- What Check comes to, by its two passes, and what it has to write.
-use mathlib.Core.Path.{_≡_, sym, _∙_}
+use mathlib.Core.Path.{_≡_, sym, ap, _∙_}
 use mathlib.Core.List.{List, []}
 use Prim.Native.Nat.{ℕ, _+_, _≤_}
 use native.Mathlib.Omega.{arith}
 use lib.ListN.{length, take}
+use lib.Seq.{length-take-le}
 use Rattle.stream.specs.declared.Fault.{Fault}
 use Rattle.stream.specs.Types.{Ty}
 use Rattle.stream.specs.Types.Laws.{limit-is}
-use Rattle.stream.specs.Reading.{accepted, refused}
+use Rattle.stream.specs.Reading.{accepted, refused, section-bytes}
+use Rattle.stream.specs.Buffers.{front}
 use Rattle.stream.specs.TypeFiles.{type-bytes, type-file-bytes}
 use Rattle.files.specs.TypeReads.Laws.{bytes-at, type-width}
-use Rattle.writing.specs.Writing.{TypeFileDue}
 use Rattle.writing.specs.Writing.Standing.{type-file-size, written-stands}
 use Rattle.node.specs.Checking.{typing}
 use Rattle.node.specs.PatchFiles.{first-pass, second-pass, patch-file}
@@ -60,12 +61,14 @@ module _ {file : List ℕ} {place : Place} (read : AcceptedPatch file place) {en
             bytes = rw (gives .sized) (bytes-at (written-stands t lent front small));
           }
 
-abbrev pub type-file-due : {file given : List ℕ} {many : ℕ} → TypeGiven file given many → (out : List ℕ) → 2 + many ≤ length out
-    → TypeFileDue (take many given) out
-type-file-due {given} t out room =
-    record {
-      type = t .output;
-      here = t .bytes;
-      countable = omega (arith, t .small, t .long, type-file-size (t .output));
-      room = omega (arith, t .long, type-file-size (t .output));
-    }
+-- The section of those bytes is the file of the type.
+module _ {file given : List ℕ} {many : ℕ} (t : TypeGiven file given many) where
+  pub type-section-due : (out : List ℕ) → 2 + many ≤ length out → (length (take many given) ≤ 65535) × (2 + length (take many given) ≤ length out)
+  type-section-due out room =
+      let long : length (take many given) ≡ many = length-take-le many given (t .inside) in
+      (omega (arith, long, t .small), omega (arith, long))
+
+  pub type-section-written : (out : List ℕ) {out-after : List ℕ} → out-after ≡ front (section-bytes (take many given) []) out
+      → out-after ≡ front (type-file-bytes (t .output)) out
+  unfolding type-file-bytes
+  type-section-written out e = e ∙ ap (λ body. front (section-bytes body []) out) (t .bytes)

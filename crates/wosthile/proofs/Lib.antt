@@ -1,3 +1,4 @@
 mod CheckOutcome
+mod FeedOutcome
 pub mod Keeping
 pub mod Opening

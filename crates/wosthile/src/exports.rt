@@ -1,11 +1,13 @@
 // The operations under their C names; include/wosthile.h declares them.
 use crate::Admitted;
+use crate::Fed;
 use crate::Written;
 use crate::admit;
 use crate::check;
+use crate::feed;
 use crate::join;
 use crate::left;
-ghost use Rattle.wosthile.specs.Promises.{CheckPromise, AdmitPromise, LeftPromise, JoinPromise};
+ghost use Rattle.wosthile.specs.Promises.{CheckPromise, AdmitPromise, LeftPromise, JoinPromise, FeedPromise};
 
 #[no_mangle]
 pub extern "C" fn wosthile_check(patch: &[u8], out: &mut [u8]) -> Written
@@ -33,4 +35,11 @@ pub extern "C" fn wosthile_join(ty: &[u8], first: &[u8], second: &[u8], out: &mu
     ensures { λ r. ⌜ JoinPromise (now (ty .entry)) (now (first .entry)) (now (second .entry)) (now (out .entry)) r (now (out .exit)) ⌝ }
 {
     join(ty, first, second, out)
+}
+
+#[no_mangle]
+pub extern "C" fn wosthile_feed(patch: &[u8], slice: &[u8], out: &mut [u8], left: &mut [u8]) -> Fed
+    ensures { λ r. ⌜ FeedPromise (now (patch .entry)) (now (slice .entry)) (now (out .entry)) (now (left .entry)) r (now (out .exit)) (now (left .exit)) ⌝ }
+{
+    feed(patch, slice, out, left)
 }

@@ -4,8 +4,11 @@ use files::prefixes::SliceRead;
 use files::prefixes::read_slice_file;
 use files::types::TypeRead;
 use files::types::read_type_file;
+use patches::Patch;
 use patches::PatchRead;
 use patches::read_patch_file;
+use step::feed_node;
+use step::write_patch_left;
 use stream::Fault;
 use stream::number_of;
 use typing::Typed;
@@ -13,10 +16,11 @@ use typing::type_node;
 use writing::write_derivative;
 use writing::write_joined_file;
 use writing::write_left_file;
-use writing::write_type_file;
+use writing::write_section;
 ghost use mathlib.Core.Path.{_≡_};
 ghost use Rattle.stream.specs.Faults.{number};
-ghost use Rattle.wosthile.specs.Promises.{CheckPromise, AdmitPromise, LeftPromise, JoinPromise};
+ghost use Rattle.wosthile.specs.Promises.{CheckPromise, AdmitPromise, LeftPromise, JoinPromise, FeedPromise};
+ghost use Rattle.wosthile.specs.FeedReads.{FeedRead, SendDue};
 
 pub mod exports;
 
@@ -77,7 +81,7 @@ pub fn check(patch: &[u8], out: &mut [u8]) -> Written
                     if out.len() < needed {
                         return refuse(Fault::NoRoom);
                     }
-                    write_type_file(&given[..size], out);
+                    write_section(&given[..size], out);
                     Written {
                         number: 0,
                         written: needed,
@@ -156,5 +160,108 @@ pub fn join(ty: &[u8], first: &[u8], second: &[u8], out: &mut [u8]) -> Written
                 }
             }
         },
+    }
+}
+
+// A feed that writes nothing, and why.
+fn refuse_feed(fault: Fault) -> Fed
+    ensures { λ r. ⌜ r ≡ record { number = number fault; output = 0; patch = 0 } ⌝ }
+{
+    Fed {
+        number: number_of(fault),
+        output: 0,
+        patch: 0,
+    }
+}
+
+// Feeds a slice that was read to a patch that was read; the slice leaves a type of `remains` nodes. The answers are made on work
+// bytes, `nodes` for the nodes left, since both have to be known before a byte of either buffer is written.
+fn send(
+    patch: &[u8],
+    place: Patch,
+    slice: &[u8],
+    remains: usize,
+    nodes: &mut [u8],
+    out: &mut [u8],
+    left: &mut [u8],
+) -> Fed
+    requires { ⌜ SendDue (now patch) place (now slice) remains (now nodes) ⌝ }
+    ensures { λ r. ⌜ FeedPromise (now (patch .entry)) (now (slice .entry)) (now (out .entry)) (now (left .entry)) r (now (out .exit)) (now (left .exit)) ⌝ }
+{
+    let mut sent = [0u8; 513];
+    let mut given = [0u8; 255];
+    let start = place.input.start;
+    let step = feed_node(
+        patch,
+        start,
+        patch,
+        place.nodes,
+        slice,
+        2,
+        &mut sent,
+        nodes,
+        &mut given,
+    );
+    let output = 2 + step.sent;
+    let kept = 2 + remains + 2 + step.left;
+    if out.len() < output {
+        return refuse_feed(Fault::NoRoom);
+    }
+    if left.len() < kept {
+        return refuse_feed(Fault::NoRoom);
+    }
+    write_section(&sent[..step.sent], out);
+    write_patch_left(patch, start, slice, remains, &nodes[..step.left], left);
+    Fed {
+        number: 0,
+        output,
+        patch: kept,
+    }
+}
+
+// The same with a work array that is long enough. Clearing it is what a small patch spends its time on, and up to 15 nodes need
+// no more than a quarter of it; each has a byte at least.
+fn send_on(
+    patch: &[u8],
+    place: Patch,
+    slice: &[u8],
+    remains: usize,
+    out: &mut [u8],
+    left: &mut [u8],
+) -> Fed
+    requires { ⌜ FeedRead (now patch) place (now slice) remains ⌝ }
+    ensures { λ r. ⌜ FeedPromise (now (patch .entry)) (now (slice .entry)) (now (out .entry)) (now (left .entry)) r (now (out .exit)) (now (left .exit)) ⌝ }
+{
+    if patch.len() - place.nodes < 16 {
+        let mut nodes = [0u8; 2055];
+        return send(patch, place, slice, remains, &mut nodes, out, left);
+    }
+    let mut nodes = [0u8; Patch::MAX_NODE_BYTES];
+    send(patch, place, slice, remains, &mut nodes, out, left)
+}
+
+// The file of what the patch sends on the slice, and that of the patch left.
+pub fn feed(patch: &[u8], slice: &[u8], out: &mut [u8], left: &mut [u8]) -> Fed
+    ensures { λ r. ⌜ FeedPromise (now (patch .entry)) (now (slice .entry)) (now (out .entry)) (now (left .entry)) r (now (out .exit)) (now (left .exit)) ⌝ }
+{
+    match read_patch_file(patch) {
+        PatchRead::Refused(fault) => refuse_feed(fault),
+        PatchRead::Whole(place) => {
+            let mut given = [0u8; 255];
+            match type_node(patch, place.input.start, patch, place.nodes, &mut given) {
+                Typed::Failed(fault) => refuse_feed(fault),
+                Typed::Gives(_, _) => match read_slice_file(patch, place.input.start, slice) {
+                    SliceRead::Refused(fault) => refuse_feed(fault),
+                    SliceRead::Whole(prefix) => send_on(
+                        patch,
+                        place,
+                        slice,
+                        prefix.left,
+                        out,
+                        left,
+                    ),
+                },
+            }
+        }
     }
 }

@@ -10,7 +10,7 @@ use Rattle.stream.specs.TypeFiles.{type-file-bytes}
 use Rattle.patches.specs.PatchReads.Standing.{AcceptedPatch, patch-accepted, patch-refused}
 use Rattle.typing.specs.Typing.{TypingDue}
 use Rattle.wosthile.proofs.Keeping.{refusal-keeps, shortage-keeps, file-keeps}
-use Rattle.wosthile.proofs.CheckOutcome.{not-read, TypeGiven, not-typed, type-given, type-file-due}
+use Rattle.wosthile.proofs.CheckOutcome.{not-read, TypeGiven, not-typed, type-given, type-section-due, type-section-written}
 use Rattle.wosthile.proofs.check.Statement.{statement}
 use Rattle.wosthile.proofs.check.Tie as tie
 
@@ -64,6 +64,9 @@ type-of c =
     let patch = typed .before .before in
     type-given (patch-of patch) (typed .type-node .ensures .each (due patch)) (omega arith) (c .before .size .given .1)
 
+abbrev out-of : tie.After-known-told4 → List ℕ
+out-of c = c .before .before .before .before .before .before .before .before .before .before .before .before .args .out .now
+
 add-needed : tie.Need-add-needed
 add-needed c = omega (arith, type-of c .small)
 
@@ -78,11 +81,11 @@ returns c =
 array-share-prefix-given : tie.Need-array-share-prefix-given
 array-share-prefix-given c = type-of (c .before) .inside
 
-slice-aggregate-write-type-file : tie.Need-slice-aggregate-write-type-file
-slice-aggregate-write-type-file c = sym (length-take-le _ _ (type-of (c .before .before) .inside))
+slice-aggregate-write-section : tie.Need-slice-aggregate-write-section
+slice-aggregate-write-section c = sym (length-take-le _ _ (type-of (c .before .before) .inside))
 
-write-type-file-requires : tie.Need-write-type-file-requires
-write-type-file-requires c κs = type-file-due (type-of (c .before .before .before)) _ (omega arith)
+write-section-requires : tie.Need-write-section-requires
+write-section-requires c κs = type-section-due (type-of (c .before .before .before)) (out-of (c .before .before .before)) (omega arith)
 
 returns-2 : tie.Need-returns-2
 returns-2 c =
@@ -103,7 +106,7 @@ returns-4 : tie.Need-returns-4
 returns-4 c =
     let t = type-of (c .before .before .before .before .before .before) in
     file-keeps _ (type-file-bytes (t .output)) (t .is-typed) (omega (arith, t .long)) (sym (t .long))
-    (c .before .before .write-type-file .ensures .each (type-file-due t _ (omega arith)))
+    (type-section-written t _ (c .before .before .write-section .ensures))
 
 pub check-spec : {M : Type 1} → statement M
 check-spec =
@@ -122,8 +125,8 @@ check-spec =
     refuse-requires-3
     returns
     array-share-prefix-given
-    slice-aggregate-write-type-file
-    write-type-file-requires
+    slice-aggregate-write-section
+    write-section-requires
     returns-2
     returns-3
     same-length

@@ -1,0 +1,231 @@
+-- What Feed comes to, by its readers, and what it has to write.
+use mathlib.Core.Path.{_≡_, ap, _∙_}
+use mathlib.Core.List.{List, [], append-nil}
+use Prim.Native.Nat.{ℕ, _+_, _*_, _-_, _≤_, _<_}
+use native.Mathlib.Omega.{arith}
+use lib.ListN.{length, take, length-append}
+use lib.Seq.{length-take-le}
+use borrow.Author.Tests.{le-leb, lt-leb}
+use Rattle.stream.specs.declared.Fault.{Fault}
+use Rattle.stream.specs.declared.Fault.the-variants.{NoRoom}
+use Rattle.stream.specs.Faults.{number}
+use Rattle.stream.specs.Types.{Ty, size}
+use Rattle.stream.specs.Types.Laws.{limit-is}
+use Rattle.stream.specs.Prefixes.{Prefix, IsPrefix, derivative}
+use Rattle.stream.specs.Prefixes.Laws.{derivative-size}
+use Rattle.stream.specs.Reading.{accepted, refused, section-bytes}
+use Rattle.stream.specs.Buffers.{front}
+use Rattle.stream.specs.TypeFiles.{type-bytes}
+use Rattle.stream.specs.SliceFiles.{prefix-bytes, slice-file-bytes, slice-file}
+use Rattle.stream.specs.SliceFiles.Laws.{prefix-length}
+use Rattle.files.specs.declared.prefixes.Prefix.{Prefix as Known}
+use Rattle.files.specs.TypeReads.Laws.{type-width}
+use Rattle.files.specs.SliceReads.{width as prefix-width}
+use Rattle.files.specs.SliceReads.Laws.{prefix-width as prefix-long}
+use Rattle.writing.specs.Writing.Standing.{slice-file-size}
+use Rattle.node.specs.Nodes.{Node, Types, output-type, count, node-limit, Fits}
+use Rattle.node.specs.Nodes.Laws.{output-type-is, output-small}
+use Rattle.node.specs.Feeding.{sends, leaves}
+use Rattle.node.specs.Feeding.Laws.{fed}
+use Rattle.node.specs.Checking.{typing}
+use Rattle.node.specs.Checking.Laws.{Typed, typing-sound}
+use Rattle.node.specs.PatchFiles.{node-bytes, patch-file-bytes, first-pass, second-pass, patch-file}
+use Rattle.patches.specs.declared.Patch.{Patch as Place}
+use Rattle.patches.specs.PatchReads.Laws.{ends-inside, count-within}
+use Rattle.patches.specs.PatchReads.Standing.{AcceptedPatch}
+use Rattle.step.specs.declared.Step.{Step}
+use Rattle.step.specs.Steps.{Feedable, FeedDue, Steps, PatchLeftDue}
+use Rattle.step.specs.Steps.Laws.{leads-inside, leads-taken, left-width}
+use Rattle.wosthile.specs.Answers.{FedFiles, feed, with-room, fed as told, after}
+use Rattle.wosthile.specs.Promises.{FeedPromise}
+use Rattle.wosthile.specs.FeedReads.{FeedRead}
+
+-- How the answers of Feed keep its promise.
+module _ (output left : List ℕ) {patch slice : List ℕ} where
+  pub refused-keeps : (e : Fault) → feed patch slice ≡ refused e
+      → FeedPromise patch slice output left (record { number = number e; output = 0; patch = 0 }) output left
+  unfolding with-room told after
+  refused-keeps e h = record { answers = rw h; output-buffer = rw h; left-buffer = rw h }
+
+  module _ (files : FedFiles) (h : feed patch slice ≡ accepted files) where
+    pub output-short : length output < length (files .output)
+        → FeedPromise patch slice output left (record { number = number NoRoom; output = 0; patch = 0 }) output left
+    unfolding with-room told after
+    output-short s =
+        record { answers = rw (h, lt-leb _ _ s); output-buffer = rw (h, lt-leb _ _ s); left-buffer = rw (h, lt-leb _ _ s) }
+
+    pub left-short : length (files .output) ≤ length output → length left < length (files .patch)
+        → FeedPromise patch slice output left (record { number = number NoRoom; output = 0; patch = 0 }) output left
+    unfolding with-room told after
+    left-short r s =
+        record {
+          answers = rw (h, le-leb _ _ r, lt-leb _ _ s);
+          output-buffer = rw (h, le-leb _ _ r, lt-leb _ _ s);
+          left-buffer = rw (h, le-leb _ _ r, lt-leb _ _ s);
+        }
+
+    pub files-keep : length (files .output) ≤ length output → length (files .patch) ≤ length left
+        → {sent kept : ℕ} → sent ≡ length (files .output) → kept ≡ length (files .patch)
+        → {output-after left-after : List ℕ} → output-after ≡ front (files .output) output → left-after ≡ front (files .patch) left
+        → FeedPromise patch slice output left (record { number = 0; output = sent; patch = kept }) output-after left-after
+    unfolding with-room told after
+    files-keep r s n m o l =
+        record {
+          answers = rw (h, le-leb _ _ r, le-leb _ _ s, n, m);
+          output-buffer = rw (h, le-leb _ _ r, le-leb _ _ s, o);
+          left-buffer = rw (h, le-leb _ _ r, le-leb _ _ s, l);
+        }
+
+-- A patch that is not read, or not typed, and a slice that is not read.
+
+pub patch-unread : (patch slice : List ℕ) {e : Fault} → first-pass patch ≡ refused e → feed patch slice ≡ refused e
+unfolding feed patch-file
+patch-unread patch slice h = rw h
+
+module _ {patch : List ℕ} {place : Place} (read : AcceptedPatch patch place) (slice : List ℕ) where
+  pub patch-untyped : {e : Fault} → typing (read .patch .input) (read .patch .node) ≡ refused e → feed patch slice ≡ refused e
+  unfolding feed patch-file second-pass
+  patch-untyped h = rw (read .is-accepted, h)
+
+  pub slice-unread : {output : Ty} {e : Fault} → typing (read .patch .input) (read .patch .node) ≡ accepted output
+      → slice-file (read .patch .input) slice ≡ refused e → feed patch slice ≡ refused e
+  unfolding feed patch-file second-pass
+  slice-unread h k = rw (read .is-accepted, h, k)
+
+module _ {patch : List ℕ} {place : Place} {slice : List ℕ} {remains : ℕ} (due : FeedRead patch place slice remains) where
+  abbrev input : Ty
+  input = due .read .patch .input
+
+  abbrev node : Node
+  node = due .read .patch .node
+
+  abbrev prefix : Prefix
+  prefix = due .taken .prefix
+
+  pub is-typed : Typed input node (due .output)
+  is-typed = typing-sound input node (due .output) (due .read .node-at .carries) (due .is-typed)
+
+  abbrev pub files : FedFiles
+  files = record { output = slice-file-bytes (sends input node prefix); patch = patch-file-bytes (derivative input prefix) (leaves input node prefix) }
+
+  pub feed-is : feed patch slice ≡ accepted files
+  unfolding feed patch-file second-pass
+  feed-is = rw (due .read .is-accepted, due .is-typed, due .taken .is-accepted)
+
+  -- What is sent has at most 511 bytes, since its type has at most 255 nodes.
+  pub sent-short : prefix-width (sends input node prefix) ≤ 511
+  sent-short =
+      omega (
+        arith,
+        prefix-length [] (fed (is-typed .types) (due .taken .is-prefix) .sent),
+        prefix-long (sends input node prefix) [],
+        output-small (is-typed .types) (is-typed .fits),
+        limit-is,
+      )
+
+  pub few : count node ≤ 63
+  unfolding node-limit
+  few = due .read .few
+
+  abbrev pub feedable : Feedable input node prefix
+  feedable =
+      record { output = due .output; types = is-typed .types; fits = is-typed .fits; few = due .read .few; is-prefix = due .taken .is-prefix }
+
+  abbrev pub feed-due : (sent nodes given : List ℕ) → 513 ≡ length sent → 257 * count node + 255 ≤ 2 * length nodes → 255 ≡ length given
+      → FeedDue patch (place .input .start) patch (place .nodes) slice 2 sent nodes given
+  feed-due sent nodes given a b c =
+      record {
+        type = input;
+        node = node;
+        prefix = prefix;
+        stand = record { type-at = due .read .type-at; node-at = due .read .node-at; prefix-at = due .taken .stands };
+        feedable = feedable;
+        room =
+            record {
+              for-output = omega (arith, sent-short);
+              for-nodes = b;
+              for-type = omega (arith, output-small (is-typed .types) (is-typed .fits), limit-is, ap size (output-type-is (is-typed .types)));
+            };
+      }
+
+  -- Up to 15 nodes leave at most 2,055 bytes, and all of them 8,223.
+
+  pub few-room : length patch - place .nodes < 16 → 257 * count node + 255 ≤ 2 * 2055
+  few-room short = omega (arith, ends-inside (due .read .node-at), count-within node)
+
+  pub nodes-room : 257 * count node + 255 ≤ 2 * 8223
+  nodes-room = omega (arith, few)
+
+  pub small-left : remains ≤ 255
+  small-left = omega (arith, due .measured, due .taken .left, derivative-size (due .taken .is-prefix), due .read .type-at .small, limit-is)
+
+  -- What is sent and the node left stand in front of the work arrays, and how long both files are.
+  pub record Stepped (sent nodes : List ℕ) (step : Step) : Type 0 where
+    pub sent-small : step .sent ≤ 511
+    pub nodes-small : step .left ≤ 8223
+    pub sent-inside : step .sent ≤ length sent
+    pub nodes-inside : step .left ≤ length nodes
+    pub sent-taken : take (step .sent) sent ≡ prefix-bytes (sends input node prefix) []
+    pub nodes-taken : take (step .left) nodes ≡ node-bytes (leaves input node prefix) []
+    pub output-long : length (files .output) ≡ 2 + step .sent
+    pub patch-long : length (files .patch) ≡ 2 + remains + 2 + step .left
+
+  pub stepped : {end : ℕ} {t : Ty} {sent nodes given sent-after nodes-after given-after : List ℕ} {step : Step}
+      → Steps end (sends input node prefix) (leaves input node prefix) t sent nodes given sent-after nodes-after given-after step
+      → Stepped sent-after nodes-after step
+  unfolding patch-file-bytes section-bytes
+  stepped {step = step} fed =
+      record {
+        sent-small = omega (arith, fed .sent, sent-short);
+        nodes-small = omega (arith, fed .left, left-width feedable, few);
+        sent-inside = omega (arith, sent-long, leads-inside (fed .output), fed .output .long);
+        nodes-inside = omega (arith, fed .left, leads-inside (fed .node-left), fed .node-left .long);
+        sent-taken = leads-taken (fed .output) sent-long;
+        nodes-taken = leads-taken (fed .node-left) (fed .left);
+        output-long = omega (arith, slice-file-size (sends input node prefix), fed .sent);
+        patch-long =
+            omega (
+              arith,
+              length-append (type-bytes (derivative input prefix) []) (section-bytes (node-bytes (leaves input node prefix) []) []),
+              ap length (append-nil (node-bytes (leaves input node prefix) [])),
+              type-width (derivative input prefix),
+              due .measured,
+              due .taken .left,
+              fed .left,
+            );
+      }
+    where
+      sent-long : step .sent ≡ length (prefix-bytes (sends input node prefix) [])
+      sent-long = omega (arith, fed .sent, prefix-long (sends input node prefix) [])
+
+  module _ {sent nodes : List ℕ} {step : Step} (done : Stepped sent nodes step) where
+    -- The section of what is sent is the output's file.
+    pub section-due : (out : List ℕ) → 2 + step .sent ≤ length out
+        → (length (take (step .sent) sent) ≤ 65535) × (2 + length (take (step .sent) sent) ≤ length out)
+    section-due out room =
+        let long : length (take (step .sent) sent) ≡ step .sent = length-take-le (step .sent) sent (done .sent-inside) in
+        (omega (arith, long, done .sent-small), omega (arith, long))
+
+    pub output-written : (out : List ℕ) {out-after : List ℕ} → out-after ≡ front (section-bytes (take (step .sent) sent) []) out
+        → out-after ≡ front (files .output) out
+    unfolding slice-file-bytes
+    output-written out e = e ∙ ap (λ body. front (section-bytes body []) out) (done .sent-taken)
+
+    abbrev pub patch-left-due : (left : List ℕ) → 2 + remains + 2 + step .left ≤ length left
+        → PatchLeftDue patch (place .input .start) slice remains (take (step .left) nodes) left
+    patch-left-due left room =
+        let long : length (take (step .left) nodes) ≡ step .left = length-take-le (step .left) nodes (done .nodes-inside) in
+        record {
+          type-due =
+              record {
+                type = input;
+                prefix = prefix;
+                stands = record { type-at = due .read .type-at; prefix-at = due .taken .stands; is-prefix = due .taken .is-prefix };
+                measured = due .measured ∙ due .taken .left;
+                room = omega arith;
+              };
+          node = leaves input node prefix;
+          here = done .nodes-taken;
+          countable = omega (arith, long, done .nodes-small);
+          room = omega (arith, long);
+        }

@@ -1,0 +1,60 @@
+-- `send_on` meets its contract: each node has a byte, so a patch of fewer than 16 bytes of nodes has at most 15 nodes, and either
+-- array has room for what is left (`FeedOutcome`).
+use borrow.Author.Needs.{needs}
+use native.Mathlib.Omega.{arith}
+use Rattle.patches.specs.PatchReads.Laws.{starts-inside}
+use Rattle.wosthile.proofs.FeedOutcome.{few-room, nodes-room}
+use Rattle.wosthile.proofs.send_on.Statement.{statement}
+use Rattle.wosthile.proofs.send_on.Tie as tie
+
+sub-if1 : tie.Need-sub-if1
+sub-if1 c = omega (arith, starts-inside (c .before .before .before .before .before .pre .read .node-at))
+
+slice-aggregate-send : tie.Need-slice-aggregate-send
+slice-aggregate-send c = search needs
+
+send-requires : tie.Need-send-requires
+send-requires c κs =
+    let tested = c .before .before .before in
+    let reads = tested .before .before .before .before .before .before .pre in
+    record { reads = reads; room = omega (arith, few-room reads (tested .if1 .taken)) }
+
+same-length : tie.Need-same-length
+same-length c = search needs
+
+same-length-2 : tie.Need-same-length-2
+same-length-2 c = search needs
+
+returns : tie.Need-returns
+returns c = c .before .before .before .before .before .send .ensures
+
+slice-aggregate-send-2 : tie.Need-slice-aggregate-send-2
+slice-aggregate-send-2 c = search needs
+
+send-requires-2 : tie.Need-send-requires-2
+send-requires-2 c κs = let reads = c .before .before .before .before .before .before .before .before .before .pre in record { reads = reads; room = omega (arith, nodes-room reads) }
+
+same-length-3 : tie.Need-same-length-3
+same-length-3 c = search needs
+
+same-length-4 : tie.Need-same-length-4
+same-length-4 c = search needs
+
+returns-2 : tie.Need-returns-2
+returns-2 c = c .before .before .before .before .before .send2 .ensures
+
+pub send-on-spec : {M : Type 1} → statement M
+send-on-spec =
+    tie.close
+    (tie.spec
+    sub-if1
+    slice-aggregate-send
+    send-requires
+    same-length
+    same-length-2
+    returns
+    slice-aggregate-send-2
+    send-requires-2
+    same-length-3
+    same-length-4
+    returns-2)
