@@ -3,8 +3,9 @@
  *
  * A stream has a type: a tree of cues and 16-bit levels, of parts that follow one another and of parts that run side
  * by side. A slice says what has come of a stream so far. A patch is a tree of nodes that takes a stream of one type to
- * a stream of another. Four operations work on the files of all three:
+ * a stream of another. Five operations work on the files of all three:
  *
+ *   wosthile_feed    feeds a slice to a patch: what the patch sends, and the patch that is left for the next slice
  *   wosthile_check   is this a patch, and which type has the stream that it sends?
  *   wosthile_admit   is this a slice of that type, and has everything come?
  *   wosthile_left    what the slice leaves of the type: what is still to come
@@ -35,6 +36,8 @@
  *            13 spread                    of 3 s 4 t r gives 4 3 s t 3 s r
  *            14 front                     of s gives 3 0 s
  *
+ * What each node sends, and what it leaves, stands at wosthile_feed.
+ *
  * A type is nullable if it is 0, or a 4 with both parts nullable; a sequence never is. A type has at most 255 nodes,
  * wherever it arises, and a patch at most 63; the nodes of a type that silent carries count for that type alone.
  *
@@ -45,16 +48,17 @@
  *
  *   Accepted: the number is 0. A lent buffer holds the answer, a whole file with its count, at its front; the bytes
  *   behind the answer are as they were. A buffer of the greatest size below is never too short.
- *   Refused: the number is that of the first fault. Every byte of the lent buffer is as it was.
+ *   Refused: the number is that of the first fault. Every byte of every lent buffer is as it was.
  *
  * What the caller has to keep:
  *
  *   - A pointer is good for as many bytes as its length says. NULL is fine with length 0 and with no other length.
- *   - Files may overlap one another, or be the same bytes. A lent buffer overlaps no file: never write an answer over
- *     the file that it is made from.
+ *   - Files may overlap one another, or be the same bytes. A lent buffer overlaps nothing, neither a file nor the other
+ *     lent buffer: never write an answer over the file that it is made from. So a patch is never fed in place: keep two
+ *     patch buffers, and swap them after each accepted feed.
  *
- * Every function is reentrant: it keeps nothing between calls, so threads may call it at the same time, each with a
- * buffer of its own. None allocates memory, and none needs more than WOSTHILE_STACK_MAX bytes of stack. The archive,
+ * Every function is reentrant: it keeps nothing between calls, so threads may call it at the same time, each with
+ * buffers of its own. None allocates memory, and none needs more than WOSTHILE_STACK_MAX bytes of stack. The archive,
  * libwosthile.a, asks for memcpy, memmove and memset at most, and for nothing else.
  */
 #ifndef WOSTHILE_H
@@ -75,8 +79,8 @@
 #define WOSTHILE_SLICE_FILE_MAX 513
 #define WOSTHILE_PATCH_FILE_MAX 8482
 
-/* A thread that makes these calls needs so many bytes of stack beside its own; the deepest types take most of them. */
-#define WOSTHILE_STACK_MAX 40960
+/* A thread that makes these calls needs so many bytes of stack beside its own; the deepest patches take most. */
+#define WOSTHILE_STACK_MAX 61440
 
 #ifdef __cplusplus
 extern "C" {
@@ -84,7 +88,7 @@ extern "C" {
 
 /*
  * The number in every answer. 1 to 4 speak of a type or a patch, 5 to 7 of a patch alone, 11 to 14 of a slice, 20 of
- * the lent buffer. Where one place has several faults, 4 and 5 come before 1 and 1 before 2; in a slice 11 comes before
+ * a lent buffer. Where one place has several faults, 4 and 5 come before 1 and 1 before 2; in a slice 11 comes before
  * 12 and 12 before 14.
  */
 enum wosthile_number {
@@ -112,7 +116,7 @@ enum wosthile_number {
     WOSTHILE_SLICE_BYTES_LEFT_OVER = 13,
     /* A slice has a kind that does not belong there; 1, 3 or 5 where a crossed first part has to be complete is one. */
     WOSTHILE_SLICE_MISPLACED_KIND = 14,
-    /* The lent buffer is too short for this answer. */
+    /* The lent buffer, or either of two, is too short for this answer. */
     WOSTHILE_BUFFER_TOO_SHORT = 20
 };
 
@@ -127,6 +131,13 @@ typedef struct {
     uint32_t number;   /* 0, or the number of the first fault */
     uint32_t complete; /* 1 if the slice is complete, 0 if it is not; 0 on a refusal */
 } wosthile_admitted;
+
+/* The answer of wosthile_feed. */
+typedef struct {
+    uint32_t number; /* 0, or the number of the first fault */
+    size_t output;   /* how many bytes stand at the front of the output buffer; 0 on a refusal */
+    size_t patch;    /* how many bytes stand at the front of the buffer for the patch left; 0 on a refusal */
+} wosthile_fed;
 
 /*
  * Writes to type the file of the type that the patch gives, at most WOSTHILE_TYPE_FILE_MAX bytes; the patch file may be
@@ -164,6 +175,53 @@ wosthile_written wosthile_left(const uint8_t *type, size_t type_len, const uint8
 wosthile_written wosthile_join(const uint8_t *type, size_t type_len, const uint8_t *first, size_t first_len,
                                const uint8_t *second, size_t second_len, uint8_t *joined, size_t joined_len);
 
+/*
+ * Feeds the slice to the patch. Writes to output the file of the slice that the patch sends, at most
+ * WOSTHILE_SLICE_FILE_MAX bytes, and to left the file of the patch left, at most WOSTHILE_PATCH_FILE_MAX bytes. The
+ * patch left is a patch that wosthile_check accepts: its input type, the first section, is what the slice leaves of the
+ * input type, and it gives what the output leaves of the type that the patch gave. It can be longer than the patch fed:
+ * the six bytes 0 1 1 0 1 2, a cue node on a cue, fed 0 1 1 leave the seven 0 1 1 0 2 1 0. Only a buffer of
+ * WOSTHILE_PATCH_FILE_MAX bytes is always long enough.
+ *
+ * Refuses the patch as wosthile_check does, with 1 to 7; then the slice with 11 to 14, against the input type of the
+ * patch; then with 20 if either buffer is too short. A refusal alters neither buffer, so the next feed is handed the
+ * patch that this one was handed.
+ *
+ * What a node sends and leaves; b is complete, and p, q and r are any slices.
+ *
+ *   node             on           sends                                        leaves
+ *   pass             p            p                                            pass
+ *   silent, type n   anything     the empty slice of n                         itself
+ *   cue              anything     2, even if nothing has come                  silent 0
+ *   level, value v   anything     4 v, even if nothing has come                silent 0
+ *   both             p            7, what each of its nodes sends on p         both, of the nodes left
+ *   left             7 p q        p                                            itself
+ *   right            7 p q        q                                            itself
+ *   first            5 p          p                                            itself
+ *                    6 b q        b                                            silent, what b leaves of the first part
+ *   second           5 p          the empty slice of the second part           itself
+ *                    6 b q        q                                            pass
+ *   then             5 p          5, what the first sends on p                 then, of the first left and the second
+ *                    6 b q        6, what the first sends on b and the second  what the second leaves, alone
+ *                                 on q
+ *   chain            p            what the second sends on what the first      chain, of the nodes left
+ *                                 sends on p
+ *   regroup right    5 5 p        5 p                                          itself
+ *                    5 6 b q      6 b 5 q                                      pass
+ *                    6 6 b c q    6 b 6 c q                                    pass
+ *   regroup left     5 p          5 5 p                                        itself
+ *                    6 b 5 q      5 6 b q                                      pass
+ *                    6 b 6 c q    6 6 b c q                                    pass
+ *   spread           5 p          7 5 p 5 p                                    itself
+ *                    6 b 7 q r    7 6 b q 6 b r                                pass
+ *   front            p            6 0 p                                        pass
+ *
+ * The empty slice of a type says that nothing has come: 0, 1 or 3 at its leaves, 5 with the empty slice of the first
+ * part, 7 with both empty.
+ */
+wosthile_fed wosthile_feed(const uint8_t *patch, size_t patch_len, const uint8_t *slice, size_t slice_len,
+                           uint8_t *output, size_t output_len, uint8_t *left, size_t left_len);
+
 /* The layout that the archive was built for. */
 #ifdef __cplusplus
 #define WOSTHILE_HOLDS(condition, reason) static_assert(condition, reason)
@@ -178,6 +236,10 @@ WOSTHILE_HOLDS(offsetof(wosthile_written, written) == 8, "the length follows at 
 WOSTHILE_HOLDS(sizeof(wosthile_admitted) == 8, "wosthile_admitted has eight bytes");
 WOSTHILE_HOLDS(offsetof(wosthile_admitted, number) == 0, "the number comes first");
 WOSTHILE_HOLDS(offsetof(wosthile_admitted, complete) == 4, "complete follows at four");
+WOSTHILE_HOLDS(sizeof(wosthile_fed) == 24, "wosthile_fed has twenty-four bytes");
+WOSTHILE_HOLDS(offsetof(wosthile_fed, number) == 0, "the number comes first");
+WOSTHILE_HOLDS(offsetof(wosthile_fed, output) == 8, "the length of the output follows at eight");
+WOSTHILE_HOLDS(offsetof(wosthile_fed, patch) == 16, "the length of the patch left follows at sixteen");
 
 #undef WOSTHILE_HOLDS
 

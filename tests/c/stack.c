@@ -1,8 +1,8 @@
 /*
  * How much stack the calls need. Each is made on a stack that was painted before, with the deepest files there are:
  * types of 127 forks, nested in the first parts or in the second, and slices that go all the way down; patches of 31
- * forks, nested likewise, that give types of 255 nodes. The most that any call has used, beside an empty thread, is
- * held to WOSTHILE_STACK_MAX.
+ * forks, nested likewise, that give types of 255 nodes, and for Feed have at their deepest node the deepest stream. The
+ * most that any call has used, beside an empty thread, is held to WOSTHILE_STACK_MAX.
  */
 #define _XOPEN_SOURCE 700 /* for pthread_attr_setstack */
 #include <pthread.h>
@@ -18,14 +18,14 @@ struct file {
     size_t length;
 };
 
-/* The files of a call: a patch for Check; else a type, a slice of it, and a slice of what the first leaves. */
+/* The files of a call: a patch, and a slice for Feed; else a type, a slice of it, a slice of what the first leaves. */
 struct files {
     struct file whole, first, second;
 };
 
-/* What stands at every leaf of a tree. */
+/* What stands at a leaf of a tree; at most silent with the largest type. */
 struct leaf {
-    uint8_t bytes[8];
+    uint8_t bytes[WOSTHILE_TYPE_FILE_MAX];
     size_t length;
 };
 
@@ -57,8 +57,8 @@ static void end(struct file *file, size_t contents)
     file->bytes[contents - 1] = (uint8_t)(count % 256);
 }
 
-/* Every fork above the leaves, or each fork followed by its first leaf. */
-static void put_deep(struct file *file, int forks, int fork, struct leaf leaf, enum side side)
+/* What stands before the deepest part of a tree: every fork, or each fork followed by its first leaf. */
+static void put_above(struct file *file, int forks, int fork, struct leaf leaf, enum side side)
 {
     for (int count = 0; count < forks; count++) {
         put(file, fork);
@@ -66,9 +66,21 @@ static void put_deep(struct file *file, int forks, int fork, struct leaf leaf, e
             put_leaf(file, leaf);
         }
     }
-    for (int count = side == SECOND_PARTS ? forks : 0; count <= forks; count++) {
+}
+
+/* What stands behind it: the leaves that are second parts. */
+static void put_behind(struct file *file, int forks, struct leaf leaf, enum side side)
+{
+    for (int count = 0; count < forks && side == FIRST_PARTS; count++) {
         put_leaf(file, leaf);
     }
+}
+
+static void put_deep(struct file *file, int forks, int fork, struct leaf leaf, enum side side)
+{
+    put_above(file, forks, fork, leaf, side);
+    put_leaf(file, leaf);
+    put_behind(file, forks, leaf, side);
 }
 
 static void put_section(struct file *file, int forks, int fork, struct leaf leaf, enum side side)
@@ -141,7 +153,141 @@ static void make_thens(struct file *patch, enum side side)
     put_section(patch, NODE_FORKS, 9, LEAF(0), side);
 }
 
-enum operation { NOTHING, CHECK, ADMIT, LEFT, JOIN };
+/* A stream for Feed: sequences or lanes of cues, nested on one side; and the side on which the nodes are nested. */
+struct depth {
+    int fork;
+    enum side stream, nodes;
+};
+
+static void put_type(struct file *file, int forks, struct depth depth)
+{
+    put_deep(file, forks, depth.fork, LEAF(1), depth.stream);
+}
+
+/* The slice in which all of that type has come. */
+static void put_complete(struct file *file, int forks, struct depth depth)
+{
+    put_deep(file, forks, depth.fork == 3 ? 6 : 7, LEAF(2), depth.stream);
+}
+
+/* Forks of one kind above one node, with other leaves beside it. */
+static void put_nodes(struct file *patch, int fork, struct leaf leaf, struct leaf deepest, enum side side)
+{
+    size_t contents = begin(patch);
+    put_above(patch, NODE_FORKS, fork, leaf, side);
+    put_leaf(patch, deepest);
+    put_behind(patch, NODE_FORKS, leaf, side);
+    end(patch, contents);
+}
+
+/* The deepest of the nodes passes on the largest stream there is, through chains of pass. */
+static void make_passing(struct files *files, struct depth depth)
+{
+    size_t contents = begin(&files->whole);
+    put_type(&files->whole, TYPE_FORKS, depth);
+    end(&files->whole, contents);
+    put_nodes(&files->whole, 10, LEAF(0), LEAF(0), depth.nodes);
+    contents = begin(&files->first);
+    put_complete(&files->first, TYPE_FORKS, depth);
+    end(&files->first, contents);
+}
+
+/* A cue, and then so large a stream, of which the deepest node sends the empty slice: second, on 5. */
+static void make_waiting(struct files *files, int fork, int forks, struct leaf leaf, struct depth depth)
+{
+    size_t contents = begin(&files->whole);
+    put_leaf(&files->whole, LEAF(3, 1));
+    put_type(&files->whole, forks, depth);
+    end(&files->whole, contents);
+    put_nodes(&files->whole, fork, leaf, LEAF(8), depth.nodes);
+    put_section(&files->first, 0, 0, LEAF(5, 1), FIRST_PARTS);
+}
+
+static void make_waiting_in_chains(struct files *files, struct depth depth)
+{
+    make_waiting(files, 10, TYPE_FORKS - 1, LEAF(0), depth);
+}
+
+/* Pairs, whose other nodes give a cue each. */
+static void make_waiting_in_pairs(struct files *files, struct depth depth)
+{
+    make_waiting(files, 4, TYPE_FORKS - NODE_FORKS, LEAF(2), depth);
+}
+
+/* A large stream and then a cue, which is crossed: the deepest node, first, leaves silent with what is left of it. */
+static void make_crossing_in_chains(struct files *files, struct depth depth)
+{
+    size_t contents = begin(&files->whole);
+    put(&files->whole, 3);
+    put_type(&files->whole, TYPE_FORKS - 1, depth);
+    put(&files->whole, 1);
+    end(&files->whole, contents);
+    put_nodes(&files->whole, 10, LEAF(0), LEAF(7), depth.nodes);
+    contents = begin(&files->first);
+    put(&files->first, 6);
+    put_complete(&files->first, TYPE_FORKS - 1, depth);
+    put(&files->first, 1);
+    end(&files->first, contents);
+}
+
+/* A cue, and then a large stream beside a cue, all of which comes at once: the deepest node is spread. */
+static void make_spreading_in_chains(struct files *files, struct depth depth)
+{
+    size_t contents = begin(&files->whole);
+    put_leaf(&files->whole, LEAF(3, 1, 4));
+    put_type(&files->whole, TYPE_FORKS - 3, depth);
+    put(&files->whole, 1);
+    end(&files->whole, contents);
+    put_nodes(&files->whole, 10, LEAF(0), LEAF(13), depth.nodes);
+    contents = begin(&files->first);
+    put_leaf(&files->first, LEAF(6, 2, 7));
+    put_complete(&files->first, TYPE_FORKS - 3, depth);
+    put(&files->first, 2);
+    end(&files->first, contents);
+}
+
+/* Then upon then, down to second, which waits; those nested in second parts are all crossed. */
+static void make_waiting_in_thens(struct files *files, struct depth depth)
+{
+    size_t contents = begin(&files->whole);
+    put_above(&files->whole, NODE_FORKS, 3, LEAF(1), depth.nodes);
+    put_leaf(&files->whole, LEAF(3, 1));
+    put_type(&files->whole, TYPE_FORKS - NODE_FORKS - 1, depth);
+    put_behind(&files->whole, NODE_FORKS, LEAF(1), depth.nodes);
+    end(&files->whole, contents);
+    put_nodes(&files->whole, 9, LEAF(0), LEAF(8), depth.nodes);
+    contents = begin(&files->first);
+    put_above(&files->first, NODE_FORKS, depth.nodes == SECOND_PARTS ? 6 : 5, LEAF(2), depth.nodes);
+    put_leaf(&files->first, LEAF(5, 1));
+    end(&files->first, contents);
+}
+
+/* The largest patch file: every leaf is silent with a type of 255 nodes, nested as the stream is. */
+static void make_silents(struct files *files, struct depth depth)
+{
+    struct depth lanes = {4, depth.stream, depth.nodes};
+    struct file carried = {{0}, 0};
+    struct leaf silent;
+    put(&carried, 1);
+    put_deep(&carried, TYPE_FORKS, 4, LEAF(0), depth.stream);
+    memcpy(silent.bytes, carried.bytes, carried.length);
+    silent.length = carried.length;
+    size_t contents = begin(&files->whole);
+    put_type(&files->whole, TYPE_FORKS, lanes);
+    end(&files->whole, contents);
+    put_nodes(&files->whole, 10, silent, silent, depth.nodes);
+    contents = begin(&files->first);
+    put_complete(&files->first, TYPE_FORKS, lanes);
+    end(&files->first, contents);
+}
+
+/* Calls of Feed, each made for every depth. */
+static void (*const feeds[])(struct files *, struct depth) = {
+    make_passing, make_waiting_in_chains, make_waiting_in_pairs, make_waiting_in_thens,
+    make_silents, make_crossing_in_chains, make_spreading_in_chains,
+};
+
+enum operation { NOTHING, CHECK, ADMIT, LEFT, JOIN, FEED };
 
 struct call {
     const struct files *files;
@@ -149,7 +295,7 @@ struct call {
     uint32_t number;
 };
 
-static uint8_t answer[WOSTHILE_SLICE_FILE_MAX];
+static uint8_t answer[WOSTHILE_SLICE_FILE_MAX], patch_left[WOSTHILE_PATCH_FILE_MAX];
 
 static void *make(void *word)
 {
@@ -169,6 +315,11 @@ static void *make(void *word)
     case JOIN:
         call->number = wosthile_join(whole->bytes, whole->length, first->bytes, first->length, second->bytes,
                                      second->length, answer, sizeof answer)
+                           .number;
+        break;
+    case FEED:
+        call->number = wosthile_feed(whole->bytes, whole->length, first->bytes, first->length, answer, sizeof answer,
+                                     patch_left, sizeof patch_left)
                            .number;
         break;
     default:
@@ -213,10 +364,40 @@ static size_t most(enum operation operation, const struct files *files, size_t n
     return greatest;
 }
 
+/* The most that Feed uses on any of its patches, at any depth. */
+static size_t most_of_feed(void)
+{
+    static struct files files;
+    size_t greatest = 0;
+    for (size_t feed = 0; feed < sizeof feeds / sizeof feeds[0]; feed++) {
+        for (int which = 0; which < 8; which++) {
+            struct depth depth = {which & 1 ? 3 : 4, which & 2 ? FIRST_PARTS : SECOND_PARTS,
+                                  which & 4 ? FIRST_PARTS : SECOND_PARTS};
+            files = (struct files){0};
+            feeds[feed](&files, depth);
+            size_t need = most(FEED, &files, 1);
+            greatest = need > greatest ? need : greatest;
+        }
+    }
+    return greatest;
+}
+
+static size_t need_of(enum operation operation, const struct files streams[4], const struct files patches[6])
+{
+    switch (operation) {
+    case CHECK:
+        return most(operation, patches, 6);
+    case FEED:
+        return most_of_feed();
+    default:
+        return most(operation, streams, 4);
+    }
+}
+
 int main(void)
 {
     static struct files streams[4], patches[6];
-    static const char *const names[] = {"", "Check", "Admit", "Left", "Join"};
+    static const char *const names[] = {"", "Check", "Admit", "Left", "Join", "Feed"};
     int fits = 1;
     make_lanes(&streams[0], FIRST_PARTS);
     make_lanes(&streams[1], SECOND_PARTS);
@@ -227,8 +408,8 @@ int main(void)
         make_pairs(&patches[2 + side].whole, side);
         make_thens(&patches[4 + side].whole, side);
     }
-    for (int operation = CHECK; operation <= JOIN; operation++) {
-        size_t need = operation == CHECK ? most(operation, patches, 6) : most(operation, streams, 4);
+    for (int operation = CHECK; operation <= FEED; operation++) {
+        size_t need = need_of(operation, streams, patches);
         printf("stack of %s: %zu bytes at most, %d stated\n", names[operation], need, WOSTHILE_STACK_MAX);
         fits = fits && need <= WOSTHILE_STACK_MAX;
     }
