@@ -1,0 +1,314 @@
+/*
+ * Calls of Feed through the header alone, each with the answer that document 01 gives for it: single feeds with every
+ * length of either buffer, and a run of feeds with two patch buffers. Files and buffers stand as in cases.c: in memory
+ * of their exact size, and between margins.
+ */
+#include "bytes.h"
+
+/* Output and patch left count if the number is 0. */
+struct feed_row {
+    const char *name;
+    struct bytes patch, slice;
+    uint32_t number;
+    struct bytes output, left;
+};
+
+/* What every node sends and leaves. */
+static const struct feed_row node_rows[] = {
+    {"case 1, swap", PATCH_OF((4, 1, 2), (4, 6, 5)), FILE_OF(7, 2, 3), 0, FILE_OF(7, 3, 2),
+     PATCH_OF((4, 0, 2), (4, 6, 5))},
+    {"case 2, prepend", PATCH_OF((1), (10, 14, 9, 2, 0)), FILE_OF(1), 0, FILE_OF(6, 2, 1), PATCH_OF((1), (10, 0, 0))},
+    {"case 2, then", PATCH_OF((1), (10, 0, 0)), FILE_OF(2), 0, FILE_OF(2), PATCH_OF((0), (10, 0, 0))},
+    {"case 3, prepend", PATCH_OF((1), (10, 14, 9, 2, 0)), FILE_OF(2), 0, FILE_OF(6, 2, 2), PATCH_OF((0), (10, 0, 0))},
+    {"case 4, first, not crossed", PATCH_OF((3, 1, 1), (7)), FILE_OF(5, 2), 0, FILE_OF(2), PATCH_OF((3, 0, 1), (7))},
+    {"case 4, first, crossed", PATCH_OF((3, 1, 1), (7)), FILE_OF(6, 2, 1), 0, FILE_OF(2), PATCH_OF((1), (1, 0))},
+    {"case 5, spread, not crossed", PATCH_OF((3, 1, 4, 1, 1), (13)), FILE_OF(5, 2), 0, FILE_OF(7, 5, 2, 5, 2),
+     PATCH_OF((3, 0, 4, 1, 1), (13))},
+    {"case 5, spread, crossed", PATCH_OF((3, 1, 4, 1, 1), (13)), FILE_OF(6, 2, 7, 2, 1), 0,
+     FILE_OF(7, 6, 2, 2, 6, 2, 1), PATCH_OF((4, 0, 1), (0))},
+    {"case 6, regroup right", PATCH_OF((3, 3, 1, 1, 1), (11)), FILE_OF(5, 6, 2, 1), 0, FILE_OF(6, 2, 5, 1),
+     PATCH_OF((3, 1, 1), (0))},
+    {"case 8, pass on empty", PATCH_OF((0), (0)), FILE_OF(0), 0, FILE_OF(0), PATCH_OF((0), (0))},
+    {"case 8, cue", PATCH_OF((1), (2)), FILE_OF(1), 0, FILE_OF(2), PATCH_OF((1), (1, 0))},
+
+    {"pass, level 0 come is not level not yet", PATCH_OF((2), (0)), FILE_OF(4, 0, 0), 0, FILE_OF(4, 0, 0),
+     PATCH_OF((0), (0))},
+    {"pass, level not yet", PATCH_OF((2), (0)), FILE_OF(3), 0, FILE_OF(3), PATCH_OF((2), (0))},
+    {"silent", PATCH_OF((1), (1, 4, 0, 0)), FILE_OF(2), 0, FILE_OF(7, 0, 0), PATCH_OF((0), (1, 4, 0, 0))},
+    {"level", PATCH_OF((1), (3, 1, 44)), FILE_OF(2), 0, FILE_OF(4, 1, 44), PATCH_OF((0), (1, 0))},
+    {"level, nothing has come", PATCH_OF((3, 1, 1), (3, 10, 4)), FILE_OF(5, 1), 0, FILE_OF(4, 10, 4),
+     PATCH_OF((3, 1, 1), (1, 0))},
+    {"both, each on the whole", PATCH_OF((2), (4, 0, 2)), FILE_OF(4, 7, 8), 0, FILE_OF(7, 4, 7, 8, 2),
+     PATCH_OF((0), (4, 0, 1, 0))},
+    {"left", PATCH_OF((4, 3, 1, 2, 2), (5)), FILE_OF(7, 6, 2, 3, 4, 1, 1), 0, FILE_OF(6, 2, 3),
+     PATCH_OF((4, 2, 0), (5))},
+    {"right", PATCH_OF((4, 3, 1, 2, 2), (6)), FILE_OF(7, 6, 2, 3, 4, 1, 1), 0, FILE_OF(4, 1, 1),
+     PATCH_OF((4, 2, 0), (6))},
+    {"first leaves lanes silent", PATCH_OF((3, 4, 1, 2, 1), (7)), FILE_OF(6, 7, 2, 4, 0, 9, 1), 0,
+     FILE_OF(7, 2, 4, 0, 9), PATCH_OF((1), (1, 4, 0, 0))},
+    {"first leaves a sequence silent", PATCH_OF((3, 3, 1, 4, 1, 1, 1), (7)), FILE_OF(6, 6, 2, 7, 2, 2, 2), 0,
+     FILE_OF(6, 2, 7, 2, 2), PATCH_OF((0), (1, 4, 0, 0))},
+    {"second waits", PATCH_OF((3, 1, 4, 2, 3, 1, 1), (8)), FILE_OF(5, 2), 0, FILE_OF(7, 3, 5, 1),
+     PATCH_OF((3, 0, 4, 2, 3, 1, 1), (8))},
+    {"second, crossed", PATCH_OF((3, 1, 4, 2, 1), (8)), FILE_OF(6, 2, 7, 4, 9, 9, 1), 0, FILE_OF(7, 4, 9, 9, 1),
+     PATCH_OF((4, 0, 1), (0))},
+    {"then, not crossed", PATCH_OF((3, 1, 1), (9, 2, 14)), FILE_OF(5, 1), 0, FILE_OF(5, 2),
+     PATCH_OF((3, 1, 1), (9, 1, 0, 14))},
+    {"then is gone after a crossing", PATCH_OF((3, 1, 1), (9, 0, 0)), FILE_OF(6, 2, 1), 0, FILE_OF(6, 2, 1),
+     PATCH_OF((1), (0))},
+    {"then, crossed, the second node is fed", PATCH_OF((3, 1, 1), (9, 2, 14)), FILE_OF(6, 2, 1), 0,
+     FILE_OF(6, 2, 6, 0, 1), PATCH_OF((1), (0))},
+    {"a first part that has come is not crossed", PATCH_OF((3, 1, 1), (9, 0, 2)), FILE_OF(5, 2), 0, FILE_OF(5, 2),
+     PATCH_OF((3, 0, 1), (9, 0, 2))},
+    {"the crossing of empty is owed", PATCH_OF((3, 0, 0), (9, 0, 0)), FILE_OF(5, 0), 0, FILE_OF(5, 0),
+     PATCH_OF((3, 0, 0), (9, 0, 0))},
+    {"chain, the second on what the first sends", PATCH_OF((4, 3, 1, 2, 2), (10, 5, 8)), FILE_OF(7, 6, 2, 4, 3, 4, 3),
+     0, FILE_OF(4, 3, 4), PATCH_OF((4, 0, 2), (10, 5, 0))},
+    {"regroup right, not crossed", PATCH_OF((3, 3, 1, 1, 1), (11)), FILE_OF(5, 5, 2), 0, FILE_OF(5, 2),
+     PATCH_OF((3, 3, 0, 1, 1), (11))},
+    {"regroup right, both crossed", PATCH_OF((3, 3, 1, 1, 2), (11)), FILE_OF(6, 6, 2, 2, 3), 0, FILE_OF(6, 2, 6, 2, 3),
+     PATCH_OF((2), (0))},
+    {"regroup left, not crossed", PATCH_OF((3, 1, 3, 1, 1), (12)), FILE_OF(5, 2), 0, FILE_OF(5, 5, 2),
+     PATCH_OF((3, 0, 3, 1, 1), (12))},
+    {"regroup left, one crossed", PATCH_OF((3, 1, 3, 1, 1), (12)), FILE_OF(6, 2, 5, 1), 0, FILE_OF(5, 6, 2, 1),
+     PATCH_OF((3, 1, 1), (0))},
+    {"regroup left, both crossed", PATCH_OF((3, 1, 3, 1, 2), (12)), FILE_OF(6, 2, 6, 2, 4, 0, 0), 0,
+     FILE_OF(6, 6, 2, 2, 4, 0, 0), PATCH_OF((0), (0))},
+    {"front", PATCH_OF((4, 1, 2), (14)), FILE_OF(7, 2, 3), 0, FILE_OF(6, 0, 7, 2, 3), PATCH_OF((4, 0, 2), (0))},
+};
+
+/* Every number of a refusal, and which comes first. */
+static const struct feed_row refused_rows[] = {
+    {"no patch", NONE, FILE_OF(1), 1, NONE, NONE},
+    {"no second section", FILE_OF(1), FILE_OF(1), 1, NONE, NONE},
+    {"node tree cut short", PATCH_OF((1), (4, 0)), FILE_OF(1), 1, NONE, NONE},
+    {"unlisted type kind", PATCH_OF((19), (0)), FILE_OF(1), 2, NONE, NONE},
+    {"unlisted node kind", PATCH_OF((1), (19)), FILE_OF(1), 2, NONE, NONE},
+    {"bytes after the nodes", PATCH_OF((1), (0, 0)), FILE_OF(1), 3, NONE, NONE},
+    {"bytes after the patch", RAW(0, 1, 1, 0, 1, 0, 0), FILE_OF(1), 3, NONE, NONE},
+    {"silent is not nullable", PATCH_OF((1), (1, 3, 0, 0)), FILE_OF(1), 6, NONE, NONE},
+    {"left on a sequence", PATCH_OF((3, 1, 1), (5)), FILE_OF(5, 1), 7, NONE, NONE},
+    {"a node that the slice does not reach", PATCH_OF((3, 1, 1), (9, 0, 5)), FILE_OF(5, 1), 7, NONE, NONE},
+    {"no slice", PATCH_OF((1), (0)), NONE, 11, NONE, NONE},
+    {"slice cut short", PATCH_OF((4, 1, 1), (0)), FILE_OF(7, 2), 11, NONE, NONE},
+    {"unlisted slice kind", PATCH_OF((1), (0)), FILE_OF(200), 12, NONE, NONE},
+    {"bytes after the slice", PATCH_OF((1), (0)), FILE_OF(2, 1), 13, NONE, NONE},
+    {"bytes after the slice section", PATCH_OF((1), (0)), RAW(0, 1, 2, 0), 13, NONE, NONE},
+    {"a slice of the type given, not taken", PATCH_OF((1), (14)), FILE_OF(6, 0, 1), 14, NONE, NONE},
+    {"a cue comes once", PATCH_OF((0), (10, 0, 0)), FILE_OF(2), 14, NONE, NONE},
+    {"case 7, a crossed first part that has not come", PATCH_OF((3, 1, 1), (0)), FILE_OF(6, 1, 1), 14, NONE, NONE},
+    {"a slice that silent does not look at", PATCH_OF((3, 1, 1), (1, 0)), FILE_OF(7, 1, 1), 14, NONE, NONE},
+
+    {"reading the patch before the slice", PATCH_OF((1), (19)), FILE_OF(200), 2, NONE, NONE},
+    {"typing the patch before the slice, 7", PATCH_OF((1), (5)), FILE_OF(200), 7, NONE, NONE},
+    {"typing the patch before the slice, 6", PATCH_OF((1), (1, 1)), NONE, 6, NONE, NONE},
+    {"the patch before no slice", PATCH_OF((1), (0, 0)), NONE, 3, NONE, NONE},
+    {"the first fault of the slice, 14 and then 12", PATCH_OF((4, 1, 1), (0)), FILE_OF(7, 5, 200), 14, NONE, NONE},
+    {"the first fault of the slice, 12 and then 14", PATCH_OF((4, 1, 1), (0)), FILE_OF(7, 200, 5), 12, NONE, NONE},
+    {"the first fault of the slice, 14 and then 13", PATCH_OF((1), (0)), FILE_OF(3, 1), 14, NONE, NONE},
+};
+
+static void count_feed(bool holds, const char *name, size_t output_room, size_t left_room)
+{
+    char text[200];
+    snprintf(text, sizeof text, "%s, patch buffer of %zu", name, left_room);
+    count(holds, "Feed", text, output_room);
+}
+
+/* The call of a row with buffers of these lengths: 20 if either is too short for an answer that the row accepts. */
+static void check_rooms(const struct feed_row *row, size_t output_room, size_t left_room)
+{
+    const struct bytes none = NONE;
+    uint8_t *patch = copy_of(row->patch), *slice = copy_of(row->slice);
+    uint8_t *output_memory = lent_memory(output_room), *left_memory = lent_memory(left_room);
+    uint8_t *output = output_room > 0 ? output_memory + MARGIN : NULL;
+    uint8_t *left = left_room > 0 ? left_memory + MARGIN : NULL;
+    bool accepted = row->number == WOSTHILE_ACCEPTED;
+    bool fits = accepted && output_room >= row->output.count && left_room >= row->left.count;
+    uint32_t number = accepted && !fits ? WOSTHILE_BUFFER_TOO_SHORT : row->number;
+    struct bytes sent = fits ? row->output : none, remaining = fits ? row->left : none;
+    wosthile_fed answer =
+        wosthile_feed(patch, row->patch.count, slice, row->slice.count, output, output_room, left, left_room);
+    bool right = answer.number == number && answer.output == sent.count && answer.patch == remaining.count;
+    right = right && holds(output_memory, output_room, sent) && holds(left_memory, left_room, remaining);
+    right = right && unaltered(patch, row->patch) && unaltered(slice, row->slice);
+    count_feed(right, row->name, output_room, left_room);
+    uint8_t *memory[] = {patch, slice, output_memory, left_memory};
+    for (size_t which = 0; which < sizeof memory / sizeof memory[0]; which++) {
+        free(memory[which]);
+    }
+}
+
+/* Of the buffer for an answer: none, all too short if there are few, exact, and a little or much too long. */
+static size_t next_room(size_t room, size_t needed)
+{
+    if (room < needed) {
+        return needed < 100 || room + 1 >= needed ? room + 1 : needed - 1;
+    }
+    return room < needed + 2 ? room + 1 : room + 1000;
+}
+
+/* Each buffer at all of these lengths while the other is one short, exact or long; neither, and both one short. */
+static void check_feed(const struct feed_row *row)
+{
+    size_t output = row->output.count, left = row->left.count, most = WOSTHILE_PATCH_FILE_MAX;
+    for (size_t room = 0; room < output + 1500; room = next_room(room, output)) {
+        check_rooms(row, room, left);
+        check_rooms(row, room, most);
+        check_rooms(row, room, left > 0 ? left - 1 : 0);
+    }
+    for (size_t room = 0; room < left + 1500; room = next_room(room, left)) {
+        check_rooms(row, output, room);
+        check_rooms(row, WOSTHILE_SLICE_FILE_MAX, room);
+        check_rooms(row, output > 0 ? output - 1 : 0, room);
+    }
+    check_rooms(row, 0, 0);
+}
+
+/* A patch file of two sections, which are released. */
+static struct bytes patch_of(struct bytes type, struct bytes nodes)
+{
+    size_t length = type.count + nodes.count;
+    uint8_t *patch = malloc(length);
+    if (patch == NULL) {
+        abort();
+    }
+    append(append(patch, type), nodes);
+    struct bytes files[] = {type, nodes};
+    release(files, sizeof files / sizeof files[0]);
+    return (struct bytes){patch, length};
+}
+
+/* A feed with files of many bytes, all of which are released. */
+static void check_large(const char *name, struct bytes patch, struct bytes slice, uint32_t number, struct bytes output,
+                        struct bytes left)
+{
+    struct feed_row row = {name, patch, slice, number, output, left};
+    check_feed(&row);
+    struct bytes files[] = {patch, slice, output, left};
+    release(files, sizeof files / sizeof files[0]);
+}
+
+/* The longest files of all: an output of 513 bytes, and a patch of 8482, fed nothing, that is left as it was. */
+static void check_longest(void)
+{
+    const struct bytes lane = RAW(4, 2), level = RAW(2), pass = RAW(0), none = NONE, spent_lane = RAW(4, 0);
+    const struct bytes awaited = RAW(7, 3), not_yet = RAW(3), come = RAW(7, 4, 1, 2), last = RAW(4, 255, 255);
+    const struct bytes silent = RAW(7, 0), chain_silent = RAW(10, 1), carrying = RAW(1);
+    struct bytes link = file_of((struct section){chain_silent, spent_lane, 127, pass});
+    struct bytes final = file_of((struct section){carrying, spent_lane, 127, pass});
+    const struct bytes each = {link.at + 2, link.count - 2}, end = {final.at + 2, final.count - 2};
+
+    check_large("128 levels come at once", patch_of(repeated(lane, 127, level), repeated(none, 0, pass)),
+                repeated(come, 127, last), 0, repeated(come, 127, last),
+                patch_of(repeated(spent_lane, 127, pass), repeated(none, 0, pass)));
+    struct bytes largest = patch_of(repeated(lane, 127, level), repeated(each, 31, end));
+    count(largest.count == WOSTHILE_PATCH_FILE_MAX, "sizes", "the longest patch file", 0);
+    check_large("the longest patch file", largest, repeated(awaited, 127, not_yet), 0, repeated(silent, 127, pass),
+                patch_of(repeated(lane, 127, level), repeated(each, 31, end)));
+    struct bytes files[] = {link, final};
+    release(files, sizeof files / sizeof files[0]);
+}
+
+/* Refusals of large files; the fault in the slice and the short buffers come after the limits of the patch. */
+static void check_limits(void)
+{
+    const struct bytes lane = RAW(4, 1), cue = RAW(1), pass = RAW(0), front = RAW(14), chain = RAW(10, 0), none = NONE;
+    const struct bytes unlisted = RAW(200), patch = PATCH_OF((1), (0)), slice = FILE_OF(2);
+    check_large("a type of 257", patch_of(repeated(lane, 128, cue), repeated(none, 0, pass)),
+                repeated(none, 0, unlisted), 4, none, none);
+    check_large("front gives 257", patch_of(repeated(lane, 127, cue), repeated(none, 0, front)),
+                repeated(none, 0, unlisted), 4, none, none);
+    check_large("65 nodes", patch_of(repeated(none, 0, cue), repeated(chain, 32, pass)), repeated(none, 0, unlisted), 5,
+                none, none);
+    check_large("63 nodes", patch_of(repeated(none, 0, cue), repeated(chain, 31, pass)), repeated(none, 0, cue), 0,
+                repeated(none, 0, cue), patch_of(repeated(none, 0, cue), repeated(chain, 31, pass)));
+    check_large("a patch file of a mebibyte", lengthened(patch, 1 << 20), repeated(none, 0, cue), 3, none, none);
+    check_large("a slice file of a mebibyte", patch_of(repeated(none, 0, cue), repeated(none, 0, pass)),
+                lengthened(slice, 1 << 20), 13, none, none);
+}
+
+/* One feed of a run, its slice and what it answers; the room is that of the buffer for the patch left. */
+struct run_step {
+    struct bytes slice;
+    size_t room;
+    uint32_t number;
+    struct bytes output, left;
+};
+
+/* A comet, then Saturn beside a lamp; the patch sends a cue before all of it. */
+static const struct bytes run_start = PATCH_OF((3, 1, 4, 1, 2), (10, 14, 9, 2, 0));
+
+static const struct run_step run_steps[] = {
+    {FILE_OF(5, 1), 8482, 0, FILE_OF(6, 2, 5, 1), PATCH_OF((3, 1, 4, 1, 2), (10, 0, 0))},
+    {FILE_OF(7, 1, 1), 8482, 14, NONE, NONE},
+    {FILE_OF(5, 2), 11, 20, NONE, NONE},
+    {FILE_OF(5, 2), 12, 0, FILE_OF(5, 2), PATCH_OF((3, 0, 4, 1, 2), (10, 0, 0))},
+    {FILE_OF(6, 2, 7, 2, 3), 8482, 14, NONE, NONE},
+    {FILE_OF(6, 0, 7, 2, 3), 8482, 0, FILE_OF(6, 0, 7, 2, 3), PATCH_OF((4, 0, 2), (10, 0, 0))},
+    {FILE_OF(6, 0, 7, 2, 3), 8482, 14, NONE, NONE},
+    {FILE_OF(7, 0, 4, 1, 44), 8482, 0, FILE_OF(7, 0, 4, 1, 44), PATCH_OF((4, 0, 0), (10, 0, 0))},
+    {FILE_OF(7, 0, 0), 8482, 0, FILE_OF(7, 0, 0), PATCH_OF((4, 0, 0), (10, 0, 0))},
+};
+
+/* Two patch buffers: each feed is handed the one, and writes the other; they are swapped if it was accepted. */
+static void check_run(void)
+{
+    static uint8_t buffers[2][WOSTHILE_PATCH_FILE_MAX], output[WOSTHILE_SLICE_FILE_MAX];
+    uint8_t *patch = buffers[0], *left = buffers[1];
+    size_t length = run_start.count;
+    append(patch, run_start);
+    for (size_t index = 0; index < sizeof run_steps / sizeof run_steps[0]; index++) {
+        const struct run_step *step = &run_steps[index];
+        wosthile_fed fed = wosthile_feed(patch, length, step->slice.at, step->slice.count, output, sizeof output, left,
+                                         step->room);
+        bool right = fed.number == step->number && fed.output == step->output.count && fed.patch == step->left.count;
+        right = right && unaltered(output, step->output) && unaltered(left, step->left);
+        count(right, "Feed", "a run of feeds, step", index);
+        if (fed.number == WOSTHILE_ACCEPTED) {
+            uint8_t *fed_patch = patch;
+            patch = left;
+            left = fed_patch;
+            length = fed.patch;
+        }
+    }
+}
+
+/* The patch and the slice may be the same bytes, or lie across one another; a length of 0 is no bytes. */
+static void check_shared_memory(void)
+{
+    /* Pass on a cue; its first section is the slice in which the cue has not come. */
+    const uint8_t patch[] = {0, 1, 1, 0, 1, 0};
+    uint8_t output[4] = {9, 9, 9, 9}, left[7] = {9, 9, 9, 9, 9, 9, 9};
+    wosthile_fed fed = wosthile_feed(patch, 6, patch, 3, output, 4, left, 7);
+    bool right = fed.number == 0 && fed.output == 3 && fed.patch == 6 && output[3] == 9 && left[6] == 9;
+    count(right && memcmp(output, patch, 3) == 0 && memcmp(left, patch, 6) == 0, "Feed", "the slice in the patch", 0);
+    memset(output, 9, sizeof output);
+    memset(left, 9, sizeof left);
+    fed = wosthile_feed(patch, 6, patch, 6, output, 4, left, 7);
+    count(fed.number == 13 && output[0] == 9 && left[0] == 9, "Feed", "patch and slice are the same bytes", 0);
+    fed = wosthile_feed(patch, 0, patch, 3, output, 4, left, 7);
+    count(fed.number == 1 && output[0] == 9 && left[0] == 9, "Feed", "a patch of length 0", 0);
+    fed = wosthile_feed(patch, 6, patch, 0, output, 4, left, 7);
+    count(fed.number == 11 && output[0] == 9 && left[0] == 9, "Feed", "a slice of length 0", 0);
+    fed = wosthile_feed(patch, 6, patch, 3, output, 0, left, 7);
+    count(fed.number == 20 && output[0] == 9 && left[0] == 9, "Feed", "an output buffer of length 0", 0);
+    fed = wosthile_feed(patch, 6, patch, 3, output, 4, left, 0);
+    count(fed.number == 20 && output[0] == 9 && left[0] == 9, "Feed", "a patch buffer of length 0", 0);
+}
+
+int main(void)
+{
+    for (size_t row = 0; row < sizeof node_rows / sizeof node_rows[0]; row++) {
+        check_feed(&node_rows[row]);
+    }
+    for (size_t row = 0; row < sizeof refused_rows / sizeof refused_rows[0]; row++) {
+        check_feed(&refused_rows[row]);
+    }
+    check_longest();
+    check_limits();
+    check_run();
+    check_shared_memory();
+    printf("%d passed, %d failed\n", passed, failed);
+    return failed != 0;
+}
