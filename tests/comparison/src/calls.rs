@@ -1,8 +1,10 @@
-//! Random calls of the four operations: type-directed, most of them accepted, and damaged ones.
+//! Random calls of the five operations: type-directed, most of them accepted, and damaged ones.
 
 use std::fmt;
 
+use crate::comparison::second_answer;
 use crate::damage::{damage, few_bytes, type_about_the_limit, SLICE_KINDS, TYPE_KINDS};
+use crate::feeds::feed_files;
 use crate::files::{decimal, section};
 use crate::patch_damage::damage_patch;
 use crate::patches::any_patch;
@@ -17,15 +19,40 @@ pub enum Operation {
     Admit,
     Left,
     Join,
+    Feed,
 }
+
+/// A lent buffer, and the length of its longest answer.
+#[derive(Clone, Copy, Debug)]
+pub struct Buffer {
+    pub name: &'static str,
+    pub longest: usize,
+}
+
+const TYPE_BUFFER: Buffer = Buffer {
+    name: "type buffer",
+    longest: 257,
+};
+const SLICE_BUFFER: Buffer = Buffer {
+    name: "slice buffer",
+    longest: 513,
+};
+const PATCH_BUFFER: Buffer = Buffer {
+    name: "patch buffer",
+    longest: 8482,
+};
+
+/// A buffer that is longer than any answer has so many bytes more.
+const TOO_LONG: usize = 500;
 
 impl Operation {
     /// Every operation, in the order of the table.
-    pub const ALL: [Operation; 4] = [
+    pub const ALL: [Operation; 5] = [
         Operation::Check,
         Operation::Admit,
         Operation::Left,
         Operation::Join,
+        Operation::Feed,
     ];
 
     /// What its files are called.
@@ -34,34 +61,56 @@ impl Operation {
             Operation::Check => &["patch"],
             Operation::Admit | Operation::Left => &["type", "slice"],
             Operation::Join => &["type", "first slice", "second slice"],
+            Operation::Feed => &["patch", "slice"],
         }
+    }
+
+    /// The buffers that are lent to it.
+    pub fn buffers(self) -> &'static [Buffer] {
+        match self {
+            Operation::Check | Operation::Left => &[TYPE_BUFFER],
+            Operation::Admit => &[],
+            Operation::Join => &[SLICE_BUFFER],
+            Operation::Feed => &[SLICE_BUFFER, PATCH_BUFFER],
+        }
+    }
+
+    /// Whether its first file is a patch; of the others it is a type.
+    fn takes_patch(self) -> bool {
+        matches!(self, Operation::Check | Operation::Feed)
     }
 }
 
-/// One call: a patch file, or a type file and one or two slice files; and the length of the lent
-/// buffer.
+/// One call: a patch file, or a type file, and up to two slice files; and the lengths of the lent
+/// buffers.
 #[derive(Clone, Debug)]
 pub struct Call {
     pub operation: Operation,
     pub files: Vec<Vec<u8>>,
-    pub lent: usize,
+    pub lent: Vec<usize>,
 }
 
 impl Call {
-    /// How many bytes the answer has, if the files are accepted; never more than a thousand.
-    fn needs(&self) -> usize {
-        let mut room = [0; 1000];
-        let written = match (self.operation, self.files.as_slice()) {
-            (Operation::Check, [patch]) => second_interpreter::check(patch, &mut room),
-            (Operation::Left, [stream, slice]) => {
-                second_interpreter::left(stream, slice, &mut room)
-            }
-            (Operation::Join, [stream, first, second]) => {
-                second_interpreter::join(stream, first, second, &mut room)
-            }
-            _ => Ok(0),
-        };
-        written.unwrap_or(0)
+    /// A call with buffers in which every answer fits.
+    pub fn roomy(operation: Operation, files: Vec<Vec<u8>>) -> Self {
+        let buffers = operation.buffers().iter();
+        Call {
+            operation,
+            files,
+            lent: buffers.map(|buffer| buffer.longest).collect(),
+        }
+    }
+
+    /// How many bytes each answer has, if the files are accepted; else none.
+    pub fn needs(&self) -> Vec<usize> {
+        let buffers = self.operation.buffers();
+        let mut room: Vec<Vec<u8>> = (buffers.iter())
+            .map(|buffer| vec![0; buffer.longest])
+            .collect();
+        let mut lent: Vec<&mut [u8]> = room.iter_mut().map(Vec::as_mut_slice).collect();
+        let files: Vec<&[u8]> = self.files.iter().map(Vec::as_slice).collect();
+        let answer = second_answer(self.operation, &files, &mut lent);
+        answer.written[..buffers.len()].to_vec()
     }
 }
 
@@ -71,7 +120,7 @@ impl fmt::Display for Call {
         for (name, file) in self.operation.files().iter().zip(&self.files) {
             writeln!(out, "{name}, {} bytes: {}", file.len(), decimal(file))?;
         }
-        write!(out, "lent buffer of {} bytes", self.lent)
+        write!(out, "lent buffers of these lengths: {:?}", self.lent)
     }
 }
 
@@ -119,17 +168,13 @@ impl Iterator for Calls {
 /// A call whose files are in order, with a buffer that is long enough.
 fn accepted(random: &mut Random) -> Call {
     let operation = random.pick(&Operation::ALL);
-    let mut files = if operation == Operation::Check {
-        vec![any_patch(random)]
-    } else {
-        stream_files(random).to_vec()
+    let mut files = match operation {
+        Operation::Check => vec![any_patch(random)],
+        Operation::Feed => feed_files(random).to_vec(),
+        _ => stream_files(random).to_vec(),
     };
     files.truncate(operation.files().len());
-    Call {
-        operation,
-        files,
-        lent: 1000,
-    }
+    Call::roomy(operation, files)
 }
 
 /// The files of a type, of a slice of it, and of a slice of what that one leaves.
@@ -149,11 +194,11 @@ fn stream_files(random: &mut Random) -> [Vec<u8>; 3] {
 
 /// Puts a fault in one file.
 fn spoil(random: &mut Random, call: &mut Call) {
-    if call.operation == Operation::Check {
+    let which = random.below(call.files.len());
+    if which == 0 && call.operation.takes_patch() {
         damage_patch(random, &mut call.files[0]);
         return;
     }
-    let which = random.below(call.files.len());
     let other = call.files[random.below(call.files.len())].clone();
     let file = &mut call.files[which];
     match random.below(12) {
@@ -171,24 +216,32 @@ fn spoil(random: &mut Random, call: &mut Call) {
     }
 }
 
-/// Chooses the buffer: exact, a little short, very short, of the greatest size, or far too long.
+/// Chooses the buffers.
 fn lend(random: &mut Random, call: &mut Call) {
-    call.lent = match random.below(20) {
-        0..=7 => call.needs(),
-        8..=11 => 1000,
-        12 => call.needs() + 1,
-        13 => 257,
-        14 => 513,
-        15 => call.needs().saturating_sub(1),
-        16 => call.needs().saturating_sub(2),
+    let buffers = call.operation.buffers();
+    call.lent = (call.needs().into_iter().zip(buffers))
+        .map(|(needs, buffer)| length(random, needs, buffer))
+        .collect();
+}
+
+/// Exact, a little short, very short, of the greatest size, or far too long.
+fn length(random: &mut Random, needs: usize, buffer: &Buffer) -> usize {
+    match random.below(20) {
+        0..=7 => needs,
+        8..=11 => buffer.longest + TOO_LONG,
+        12 => needs + 1,
+        13..=14 => buffer.longest,
+        15 => needs.saturating_sub(1),
+        16 => needs.saturating_sub(2),
         17 => random.pick(&[0, 1, 2]),
-        _ => random.below(520),
-    };
+        18 => random.below(520),
+        _ => random.below(2 * needs + 1),
+    }
 }
 
 /// The call cut at every length of every file (at some of a very long one), with every listed kind
-/// at every place of a short file, and with every length of buffer up to two bytes more than it
-/// needs.
+/// at every place of a short file, and with every length of a buffer up to two bytes more than it
+/// needs (some of a very long one).
 fn sweep(call: &Call) -> Vec<Call> {
     let mut calls = Vec::new();
     for (which, file) in call.files.iter().enumerate() {
@@ -201,22 +254,20 @@ fn sweep(call: &Call) -> Vec<Call> {
             calls.extend(kinds_at_every_place(call, which));
         }
     }
-    if call.operation != Operation::Admit {
-        calls.extend((0..=call.needs() + 2).map(|lent| Call {
-            lent,
-            ..call.clone()
-        }));
+    for (which, needs) in call.needs().into_iter().enumerate() {
+        for length in (0..=needs + 2).step_by(1 + needs / 1000) {
+            let mut lent = call.clone();
+            lent.lent[which] = length;
+            calls.push(lent);
+        }
     }
     calls
 }
 
 fn kinds_at_every_place(call: &Call, which: usize) -> Vec<Call> {
     let mut calls = Vec::new();
-    let listed = if call.operation == Operation::Check {
-        15
-    } else {
-        8
-    };
+    let patch = which == 0 && call.operation.takes_patch();
+    let listed = if patch { 15 } else { 8 };
     for at in 0..call.files[which].len() {
         for kind in (0..listed).chain([19, 200, 255]) {
             let mut changed = call.clone();

@@ -10,12 +10,31 @@ use crate::random::Random;
 const MARGIN: usize = 16;
 
 /// What an operation answers in numbers.
-#[derive(Clone, Copy, Debug, PartialEq, Eq)]
+#[derive(Clone, Copy, Debug, Default, PartialEq, Eq)]
 pub struct Answer {
     /// 0, or the number of the first fault.
     pub number: u32,
-    /// The bytes written, or for Admit 1 if the slice is complete; 0 on a refusal.
-    pub value: usize,
+    /// For Admit 1 if the slice is complete; 0 on a refusal.
+    pub complete: u32,
+    /// The bytes written to each lent buffer; 0 on a refusal, and where there is no such buffer.
+    pub written: [usize; 2],
+}
+
+impl Answer {
+    fn of_written(answer: library::Written) -> Self {
+        Answer {
+            number: answer.number,
+            complete: 0,
+            written: [answer.written, 0],
+        }
+    }
+}
+
+/// What both have answered, and the files that stand at the front of the lent buffers.
+#[derive(Clone, Debug)]
+pub struct Agreed {
+    pub answer: Answer,
+    pub files: Vec<Vec<u8>>,
 }
 
 /// Bytes between two margins.
@@ -51,109 +70,150 @@ impl Place {
     }
 }
 
-/// The library's answer. `files` are handed over where they stand.
-fn library_answer(operation: Operation, files: &[&[u8]], lent: &mut [u8]) -> Answer {
-    let (number, value) = match (operation, files) {
-        (Operation::Check, [patch]) => {
-            let answer = library::check(patch, lent);
-            (answer.number, answer.written)
-        }
-        (Operation::Admit, [stream, slice]) => {
-            let answer = library::admit(stream, slice);
-            (answer.number, answer.complete as usize)
-        }
-        (Operation::Left, [stream, slice]) => {
-            let answer = library::left(stream, slice, lent);
-            (answer.number, answer.written)
-        }
-        (Operation::Join, [stream, first, second]) => {
-            let answer = library::join(stream, first, second, lent);
-            (answer.number, answer.written)
-        }
-        _ => unreachable!("a call has the files of its operation"),
-    };
-    Answer { number, value }
+/// Whether all the bytes of these places are the same, their margins included.
+fn same(some: &[Place], others: &[Place]) -> bool {
+    (some.iter().zip(others)).all(|(one, other)| one.whole == other.whole)
 }
 
-/// The second interpreter's answer.
-fn second_answer(operation: Operation, files: &[&[u8]], lent: &mut [u8]) -> Answer {
-    let result = match (operation, files) {
-        (Operation::Check, [patch]) => second_interpreter::check(patch, lent),
-        (Operation::Admit, [stream, slice]) => {
-            second_interpreter::admit(stream, slice).map(usize::from)
+/// The library's answer. `files` are handed over where they stand.
+fn library_answer(operation: Operation, files: &[&[u8]], lent: &mut [&mut [u8]]) -> Answer {
+    match (operation, files, lent) {
+        (Operation::Check, [patch], [lent]) => Answer::of_written(library::check(patch, lent)),
+        (Operation::Admit, [stream, slice], []) => {
+            let answer = library::admit(stream, slice);
+            Answer {
+                number: answer.number,
+                complete: answer.complete,
+                written: [0, 0],
+            }
         }
-        (Operation::Left, [stream, slice]) => second_interpreter::left(stream, slice, lent),
-        (Operation::Join, [stream, first, second]) => {
-            second_interpreter::join(stream, first, second, lent)
+        (Operation::Left, [stream, slice], [lent]) => {
+            Answer::of_written(library::left(stream, slice, lent))
         }
-        _ => unreachable!("a call has the files of its operation"),
-    };
-    match result {
-        Ok(value) => Answer { number: 0, value },
-        Err(number) => Answer { number, value: 0 },
+        (Operation::Join, [stream, first, second], [lent]) => {
+            Answer::of_written(library::join(stream, first, second, lent))
+        }
+        (Operation::Feed, [patch, slice], [output, left]) => {
+            let answer = library::feed(patch, slice, output, left);
+            Answer {
+                number: answer.number,
+                complete: 0,
+                written: [answer.output, answer.patch],
+            }
+        }
+        _ => unreachable!("a call has the files and the buffers of its operation"),
     }
 }
 
+/// The second interpreter's answer.
+pub fn second_answer(operation: Operation, files: &[&[u8]], lent: &mut [&mut [u8]]) -> Answer {
+    let mut answer = Answer::default();
+    let result = match (operation, files, lent) {
+        (Operation::Check, [patch], [lent]) => {
+            second_interpreter::check(patch, lent).map(|written| answer.written[0] = written)
+        }
+        (Operation::Admit, [stream, slice], []) => second_interpreter::admit(stream, slice)
+            .map(|complete| answer.complete = u32::from(complete)),
+        (Operation::Left, [stream, slice], [lent]) => {
+            second_interpreter::left(stream, slice, lent).map(|written| answer.written[0] = written)
+        }
+        (Operation::Join, [stream, first, second], [lent]) => {
+            second_interpreter::join(stream, first, second, lent)
+                .map(|written| answer.written[0] = written)
+        }
+        (Operation::Feed, [patch, slice], [output, left]) => {
+            second_interpreter::feed(patch, slice, output, left)
+                .map(|(output, patch)| answer.written = [output, patch])
+        }
+        _ => unreachable!("a call has the files and the buffers of its operation"),
+    };
+    answer.number = result.err().unwrap_or(0);
+    answer
+}
+
+/// What one of the two has made of a call.
+struct Outcome {
+    answer: Answer,
+    lent: Vec<Place>,
+}
+
+type Interpreter = fn(Operation, &[&[u8]], &mut [&mut [u8]]) -> Answer;
+
+/// Hands the files to one of the two, with buffers that hold these bytes.
+fn outcome(interpreter: Interpreter, call: &Call, files: &[&[u8]], before: &[Place]) -> Outcome {
+    let mut lent = before.to_vec();
+    let mut buffers: Vec<&mut [u8]> = lent.iter_mut().map(Place::bytes_mut).collect();
+    let answer = interpreter(call.operation, files, &mut buffers);
+    Outcome { answer, lent }
+}
+
 /// Hands the call to both. Answers what they agree on, or says what differs.
-pub fn compare(call: &Call, random: &mut Random) -> Result<Answer, String> {
-    let places: Vec<Place> = call
-        .files
-        .iter()
+pub fn compare(call: &Call, random: &mut Random) -> Result<Agreed, String> {
+    let places: Vec<Place> = (call.files.iter())
         .map(|file| Place::holding(random, file))
         .collect();
-    let before: Vec<Vec<u8>> = places.iter().map(|place| place.whole.clone()).collect();
+    let handed = places.clone();
     let files: Vec<&[u8]> = places.iter().map(Place::bytes).collect();
-    let untouched = Place::random(random, call.lent);
-    let mut ours = untouched.clone();
-    let mut theirs = untouched.clone();
+    let before: Vec<Place> = (call.lent.iter())
+        .map(|length| Place::random(random, *length))
+        .collect();
+    let ours = outcome(library_answer, call, &files, &before);
+    let theirs = outcome(second_answer, call, &files, &before);
 
-    let answer = library_answer(call.operation, &files, ours.bytes_mut());
-    let expected = second_answer(call.operation, &files, theirs.bytes_mut());
-
-    let altered = places
-        .iter()
-        .zip(&before)
-        .any(|(place, bytes)| place.whole != *bytes);
-    let fault = if answer != expected {
+    let bytes = |outcome: &Outcome| -> Vec<Vec<u8>> {
+        (outcome.lent.iter())
+            .map(|place| place.bytes().to_vec())
+            .collect()
+    };
+    let fault = if ours.answer != theirs.answer {
         "the answers differ"
-    } else if ours.bytes() != theirs.bytes() {
+    } else if bytes(&ours) != bytes(&theirs) {
         "the lent buffers differ"
-    } else if ours.whole != theirs.whole {
-        "a byte beside the lent buffer was altered"
-    } else if altered {
+    } else if !same(&ours.lent, &theirs.lent) {
+        "a byte beside a lent buffer was altered"
+    } else if !same(&places, &handed) {
         "a file was altered"
-    } else if !stays(call.operation, &answer, ours.bytes(), untouched.bytes()) {
+    } else if !stays(&ours, &before) {
         "both altered a byte that stays as it was"
     } else {
-        return Ok(answer);
+        return Ok(agreed(ours));
     };
-    Err(report(
-        fault,
-        call,
-        &untouched,
-        [(&answer, &ours), (&expected, &theirs)],
-    ))
+    Err(report(fault, call, &before, [&ours, &theirs]))
 }
 
-/// Nothing behind the written bytes has changed, and nothing at all on a refusal or by Admit.
-fn stays(operation: Operation, answer: &Answer, after: &[u8], before: &[u8]) -> bool {
-    let written = if operation == Operation::Admit {
-        0
-    } else {
-        answer.value
-    };
-    written <= after.len() && after[written..] == before[written..]
+/// Nothing behind the written bytes has changed, and nothing at all on a refusal.
+fn stays(outcome: &Outcome, before: &[Place]) -> bool {
+    let lent = outcome.lent.iter().zip(before);
+    lent.zip(outcome.answer.written)
+        .all(|((after, before), written)| {
+            let (after, before) = (after.bytes(), before.bytes());
+            written <= after.len() && after[written..] == before[written..]
+        })
 }
 
-fn report(fault: &str, call: &Call, before: &Place, sides: [(&Answer, &Place); 2]) -> String {
+fn agreed(outcome: Outcome) -> Agreed {
+    let lent = outcome.lent.iter().zip(outcome.answer.written);
+    let files = lent.map(|(place, written)| place.bytes()[..written].to_vec());
+    Agreed {
+        files: files.collect(),
+        answer: outcome.answer,
+    }
+}
+
+fn report(fault: &str, call: &Call, before: &[Place], sides: [&Outcome; 2]) -> String {
     let mut text = format!("{fault}\n{call}\n");
-    text += &format!(
-        "before, with {MARGIN} bytes on either side: {}\n",
-        decimal(&before.whole)
-    );
-    for (name, (answer, place)) in ["library", "second interpreter"].iter().zip(sides) {
-        text += &format!("{name}: number {}, value {}\n", answer.number, answer.value);
-        text += &format!("{name}, buffer after: {}\n", decimal(&place.whole));
+    for (place, buffer) in before.iter().zip(call.operation.buffers()) {
+        let bytes = decimal(&place.whole);
+        text += &format!(
+            "{} before, with {MARGIN} bytes on either side: {bytes}\n",
+            buffer.name
+        );
+    }
+    for (name, side) in ["library", "second interpreter"].iter().zip(sides) {
+        text += &format!("{name}: {:?}\n", side.answer);
+        for (place, buffer) in side.lent.iter().zip(call.operation.buffers()) {
+            text += &format!("{name}, {} after: {}\n", buffer.name, decimal(&place.whole));
+        }
     }
     text
 }

@@ -16,6 +16,12 @@ pub fn count(file: &[u8]) -> usize {
     }
 }
 
+/// The contents of a file's first section; as much of them as there is.
+pub fn contents(file: &[u8]) -> &[u8] {
+    let end = file.len().min(2 + count(file));
+    file.get(2..end).unwrap_or(&[])
+}
+
 /// Overwrites the count, if the file has one.
 pub fn set_count(file: &mut [u8], count: usize) {
     let count = count.min(65_535);

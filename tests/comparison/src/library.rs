@@ -20,6 +20,18 @@ pub struct Admitted {
     pub complete: u32,
 }
 
+/// The answer of Feed.
+#[repr(C)]
+#[derive(Clone, Copy, Debug, PartialEq, Eq)]
+pub struct Fed {
+    /// 0, or the number of the first fault.
+    pub number: u32,
+    /// The bytes that stand at the front of the output buffer.
+    pub output: usize,
+    /// The bytes that stand at the front of the buffer for the patch left.
+    pub patch: usize,
+}
+
 extern "C" {
     fn wosthile_check(
         patch: *const u8,
@@ -51,6 +63,16 @@ extern "C" {
         joined: *mut u8,
         joined_length: usize,
     ) -> Written;
+    fn wosthile_feed(
+        patch: *const u8,
+        patch_length: usize,
+        slice: *const u8,
+        slice_length: usize,
+        output: *mut u8,
+        output_length: usize,
+        left: *mut u8,
+        left_length: usize,
+    ) -> Fed;
 }
 
 /// Bytes of length 0 go as NULL, which the header allows.
@@ -118,6 +140,23 @@ pub fn join(type_file: &[u8], first: &[u8], second: &[u8], joined: &mut [u8]) ->
             second.len(),
             start_mut(joined),
             joined.len(),
+        )
+    }
+}
+
+/// Calls `wosthile_feed`.
+pub fn feed(patch: &[u8], slice: &[u8], output: &mut [u8], left: &mut [u8]) -> Fed {
+    // SAFETY: as for Check; the two lent buffers are borrowed exclusively, so they are apart.
+    unsafe {
+        wosthile_feed(
+            start(patch),
+            patch.len(),
+            start(slice),
+            slice.len(),
+            start_mut(output),
+            output.len(),
+            start_mut(left),
+            left.len(),
         )
     }
 }

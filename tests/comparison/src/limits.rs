@@ -40,9 +40,9 @@ fn lines(noise: &mut Random) -> Result<String, String> {
         let call = Call {
             operation: Operation::Check,
             files: vec![patch],
-            lent: 257,
+            lent: vec![257],
         };
-        let answer = compare(&call, noise)?;
+        let answer = compare(&call, noise)?.answer;
         text += &format!("{name}: {}\n", answer.number);
     }
     Ok(text)

@@ -1,5 +1,5 @@
 //! `compare --calls N --seed S` or `compare --seconds N --seed S`: compares the library with the
-//! second interpreter.
+//! second interpreter, in single calls and, after every so many of them, in a run of feeds.
 //!
 //! Ends with status 1 at the first difference, or if the calls did not meet what they should; with
 //! 2 on wrong options.
@@ -8,7 +8,10 @@ use std::process::ExitCode;
 use std::time::{Duration, Instant};
 
 use comparison::random::Random;
-use comparison::{compare, limits, Calls, Tally};
+use comparison::{compare, limits, Calls, Runs, Tally};
+
+/// After so many calls there is a run.
+const CALLS_PER_RUN: u64 = 100;
 
 /// How long to go on.
 enum Extent {
@@ -45,10 +48,17 @@ fn run(options: &Options, tally: &mut Tally) -> Result<(), String> {
     // no say in which calls are made.
     let mut noise = Random::new(!options.seed);
     limits::compare_stored(&mut noise)?;
+    let mut runs = Runs::new(options.seed.wrapping_add(1 << 32));
     for (number, call) in (1_u64..).zip(Calls::new(options.seed)) {
         compare(&call, &mut noise)
-            .and_then(|answer| tally.add(&call, &answer))
+            .and_then(|agreed| tally.add(&call, &agreed))
             .map_err(|text| format!("seed {}, call {number}: {text}", options.seed))?;
+        if number % CALLS_PER_RUN == 0 {
+            runs.compare_run(&mut noise, tally).map_err(|text| {
+                let run = number / CALLS_PER_RUN;
+                format!("seed {}, run {run}: {text}", options.seed)
+            })?;
+        }
         let over = match options.extent {
             Extent::Calls(calls) => number >= calls,
             Extent::Time(limit) => number % 256 == 0 && begin.elapsed() >= limit,
@@ -77,8 +87,9 @@ fn main() -> ExitCode {
         println!("{gap}");
     }
     println!(
-        "{} calls with seed {}: no difference",
+        "{} calls and {} runs with seed {}: no difference",
         tally.total(),
+        tally.runs.total(),
         options.seed
     );
     if gaps.is_empty() {

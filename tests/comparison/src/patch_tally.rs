@@ -53,7 +53,7 @@ impl PatchTally {
         self.accepted += u64::from(matches!(answer.number, 0 | 20));
         if answer.number == 0 {
             let nodes = &file[2 + count(file)..];
-            self.add_accepted(nodes, &roots(nodes), answer.value - 2);
+            self.add_accepted(nodes, &roots(nodes), answer.written[0] - 2);
         }
     }
 

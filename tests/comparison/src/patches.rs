@@ -5,7 +5,8 @@
 use second_interpreter::{output_type, patch_file, Node, Type};
 
 use crate::random::Random;
-use crate::types::{self, type_end, write_type, Shape, BESIDE, CUE, EMPTY, LEVEL};
+use crate::trees::type_of;
+use crate::types::{self, type_end, write_type, Shape};
 
 /// A patch of 63 nodes has so many forks.
 pub const MOST_FORKS: usize = 31;
@@ -15,9 +16,11 @@ const BOTH: u8 = 4;
 const THEN: u8 = 9;
 const CHAIN: u8 = 10;
 
-/// The kinds of nodes without parts, and those among them that make no type smaller.
+/// The kinds of nodes without parts; those among them that make no type smaller, and those that
+/// change when a sequence is crossed.
 const LEAVES: [u8; 12] = [0, 1, 2, 3, 5, 6, 7, 8, 11, 12, 13, 14];
 const KEEPING: [u8; 5] = [0, 11, 12, 13, 14];
+const CHANGING: [u8; 5] = [7, 8, 11, 12, 13];
 
 /// So many kinds are tried at a leaf before one is taken that fits everywhere.
 const TRIES: usize = 8;
@@ -29,6 +32,7 @@ struct Style {
     chains: usize,
     thens: usize,
     keeping: usize,
+    changing: usize,
     misfits: usize,
     /// Whether a type may grow past its limit.
     boundless: bool,
@@ -41,8 +45,22 @@ impl Style {
             chains: random.pick(&[10, 40, 80, 100]),
             thens: random.pick(&[20, 50, 90]),
             keeping: random.pick(&[0, 50, 90]),
+            changing: 0,
             misfits: random.pick(&[0, 0, 0, 0, 0, 0, 0, 3]),
             boundless: random.chance(4),
+        }
+    }
+
+    /// Many nodes that change when a sequence is crossed.
+    fn crossing(random: &mut Random) -> Self {
+        Style {
+            shape: random.pick(&Shape::ALL),
+            chains: random.pick(&[20, 50]),
+            thens: 90,
+            keeping: random.pick(&[0, 30, 70]),
+            changing: random.pick(&[30, 60]),
+            misfits: 0,
+            boundless: false,
         }
     }
 }
@@ -59,13 +77,35 @@ pub fn any_patch(random: &mut Random) -> Vec<u8> {
     patch_of(random, forks)
 }
 
+/// A patch file on a stream in which much follows one another: for runs, in which it is crossed
+/// again and again.
+pub fn crossing_patch(random: &mut Random) -> Vec<u8> {
+    let style = types::Style::following(random);
+    let forks = match random.below(10) {
+        0..=5 => random.between(2, 12),
+        6..=8 => random.between(8, 40),
+        _ => random.between(40, types::MOST_FORKS),
+    };
+    let input = a_type(random, &style, forks);
+    let forks = match random.below(4) {
+        0..=2 => random.below(12),
+        _ => node_forks(random),
+    };
+    let style = Style::crossing(random);
+    grown(random, style, &input, forks)
+}
+
 /// A patch file with so many forks among its nodes, and one leaf more than that.
 pub fn patch_of(random: &mut Random, forks: usize) -> Vec<u8> {
     let input = any_type(random);
     let style = Style::any(random);
+    grown(random, style, &input, forks)
+}
+
+fn grown(random: &mut Random, style: Style, input: &Type, forks: usize) -> Vec<u8> {
     let mut grower = Grower { random, style };
-    let root = grower.grow(&input, forks, Type::LIMIT);
-    patch_file(&input, &root.node)
+    let root = grower.grow(input, forks, Type::LIMIT);
+    patch_file(input, &root.node)
 }
 
 /// How many forks the next patch has: mostly few, often as many as the limit allows.
@@ -92,24 +132,13 @@ fn type_forks(random: &mut Random) -> usize {
 fn any_type(random: &mut Random) -> Type {
     let style = types::Style::any(random);
     let forks = type_forks(random);
-    let mut tree = Vec::new();
-    write_type(random, &style, forks, &mut tree);
-    type_of(&tree)
+    a_type(random, &style, forks)
 }
 
-/// The type with this tree.
-fn type_of(tree: &[u8]) -> Type {
-    let parts = |make: fn(Type, Type) -> Type| {
-        let second = type_end(tree, 1);
-        make(type_of(&tree[1..]), type_of(&tree[second..]))
-    };
-    match tree[0] {
-        EMPTY => Type::Empty,
-        CUE => Type::Cue,
-        LEVEL => Type::Level,
-        BESIDE => parts(Type::beside),
-        _ => parts(Type::sequence),
-    }
+fn a_type(random: &mut Random, style: &types::Style, forks: usize) -> Type {
+    let mut tree = Vec::new();
+    write_type(random, style, forks, &mut tree);
+    type_of(&tree)
 }
 
 /// A nullable type with so many forks.
@@ -193,10 +222,7 @@ impl Grower<'_> {
             return self.misfit(input);
         }
         for _ in 0..TRIES {
-            let keeping = self.random.chance(self.style.keeping);
-            let kind = self
-                .random
-                .pick(if keeping { &KEEPING[..] } else { &LEAVES });
+            let kind = self.leaf_kind();
             let node = self.leaf_of(kind, room);
             match output_type(&node, input) {
                 Ok(gives) if gives.size() <= room => return Grown { node, gives },
@@ -207,6 +233,17 @@ impl Grower<'_> {
             node: Node::Cue,
             gives: Type::Cue,
         }
+    }
+
+    fn leaf_kind(&mut self) -> u8 {
+        let kinds: &[u8] = if self.random.chance(self.style.changing) {
+            &CHANGING
+        } else if self.random.chance(self.style.keeping) {
+            &KEEPING
+        } else {
+            &LEAVES
+        };
+        self.random.pick(kinds)
     }
 
     fn leaf_of(&mut self, kind: u8, room: usize) -> Node {

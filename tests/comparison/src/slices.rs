@@ -12,17 +12,58 @@ pub struct Come {
 
 /// How much comes; the chances are in a hundred.
 #[derive(Clone, Copy, Debug)]
-struct Pace {
-    come: usize,
-    cross: usize,
+pub struct Pace {
+    /// That a cue or a level comes.
+    pub come: usize,
+    /// That a sequence is crossed, and all of its first part comes with it.
+    pub cross: usize,
+    /// That a sequence is crossed of whose first part nothing is left to come.
+    pub cross_spent: usize,
 }
 
-/// A slice of the type with this tree.
-pub fn slice_of(random: &mut Random, tree: &[u8]) -> Come {
-    let pace = Pace {
-        come: random.pick(&[0, 10, 50, 90, 100]),
-        cross: random.pick(&[0, 10, 50, 90, 100]),
+impl Pace {
+    /// Nothing at all.
+    pub const NOTHING: Pace = Pace {
+        come: 0,
+        cross: 0,
+        cross_spent: 0,
     };
+    /// All that is left.
+    pub const ALL: Pace = Pace {
+        come: 100,
+        cross: 100,
+        cross_spent: 100,
+    };
+
+    /// Any pace.
+    pub fn any(random: &mut Random) -> Self {
+        let come = random.pick(&[0, 10, 50, 90, 100]);
+        let cross = random.pick(&[0, 10, 50, 90, 100]);
+        Pace {
+            come,
+            cross,
+            cross_spent: cross,
+        }
+    }
+
+    /// Little by little: a stream comes in many slices, and crosses when its first part has come.
+    pub fn gentle(random: &mut Random) -> Self {
+        Pace {
+            come: random.pick(&[5, 10, 20, 40, 70]),
+            cross: random.pick(&[0, 2, 5, 10]),
+            cross_spent: random.pick(&[40, 80, 100]),
+        }
+    }
+}
+
+/// A slice of the type with this tree, at any pace.
+pub fn slice_of(random: &mut Random, tree: &[u8]) -> Come {
+    let pace = Pace::any(random);
+    slice_at(random, pace, tree)
+}
+
+/// A slice of the type with this tree, at this pace.
+pub fn slice_at(random: &mut Random, pace: Pace, tree: &[u8]) -> Come {
     let mut writer = Writer {
         random,
         pace,
@@ -52,7 +93,7 @@ impl Writer<'_> {
         let kind = self.tree[self.at];
         self.at += 1;
         match kind {
-            SEQUENCE if complete || self.random.chance(self.pace.cross) => self.crossed(complete),
+            SEQUENCE if complete || self.crosses() => self.crossed(complete),
             SEQUENCE => self.in_first(),
             BESIDE => {
                 self.come.slice.push(7);
@@ -65,6 +106,17 @@ impl Writer<'_> {
             CUE => self.leaf(&[1], CUE),
             level => self.leaf(&[3], level),
         }
+    }
+
+    /// Whether the sequence at hand is crossed, though it need not be.
+    fn crosses(&mut self) -> bool {
+        let first = &self.tree[self.at..type_end(self.tree, self.at)];
+        let spent = first.iter().all(|kind| matches!(*kind, EMPTY | BESIDE));
+        self.random.chance(if spent {
+            self.pace.cross_spent
+        } else {
+            self.pace.cross
+        })
     }
 
     fn leaf(&mut self, slice: &[u8], left: u8) {

@@ -3,13 +3,15 @@
 use std::fmt;
 
 use crate::calls::{Call, Operation};
-use crate::comparison::Answer;
+use crate::comparison::Agreed;
+use crate::feed_tally::{FeedTally, Standing};
 use crate::patch_tally::PatchTally;
+use crate::run_tally::RunTally;
 
 /// The numbers that the operations can answer.
 const NUMBERS: [u32; 13] = [0, 1, 2, 3, 4, 5, 6, 7, 11, 12, 13, 14, 20];
 
-/// Runs of fewer calls than this are not judged by what they met.
+/// Fewer calls than this are not judged by what they met.
 const JUDGED_FROM: u64 = 100_000;
 
 /// The least share of accepted calls, in per cent.
@@ -18,7 +20,7 @@ const LEAST_ACCEPTED: u64 = 30;
 /// Whether the operation can answer this number.
 fn is_possible(operation: Operation, number: u32) -> bool {
     match number {
-        5..=7 => operation == Operation::Check,
+        5..=7 => matches!(operation, Operation::Check | Operation::Feed),
         11..=14 => operation != Operation::Check,
         20 => operation != Operation::Admit,
         _ => true,
@@ -31,22 +33,30 @@ pub struct Tally {
     counts: [[u64; NUMBERS.len()]; Operation::ALL.len()],
     complete: u64,
     patches: PatchTally,
+    /// The accepted feeds, alone and in runs.
+    pub feeds: FeedTally,
+    /// The runs, whose feeds are not among the calls.
+    pub runs: RunTally,
 }
 
 impl Tally {
     /// Counts one answer. A number that the operation does not have is an error.
-    pub fn add(&mut self, call: &Call, answer: &Answer) -> Result<(), String> {
-        let operation = call.operation;
+    pub fn add(&mut self, call: &Call, agreed: &Agreed) -> Result<(), String> {
+        let (operation, answer) = (call.operation, &agreed.answer);
         let column = NUMBERS
             .iter()
             .position(|number| *number == answer.number && is_possible(operation, *number))
             .ok_or_else(|| format!("{operation:?} answers {}", answer.number))?;
         self.counts[operation as usize][column] += 1;
-        if operation == Operation::Admit && answer.value == 1 {
+        if operation == Operation::Admit && answer.complete == 1 {
             self.complete += 1;
         }
         if operation == Operation::Check {
             self.patches.add(&call.files[0], answer);
+        }
+        if operation == Operation::Feed && answer.number == 0 {
+            self.feeds
+                .add(Standing::Alone, &call.files, &agreed.files)?;
         }
         Ok(())
     }
@@ -56,17 +66,19 @@ impl Tally {
         self.counts[operation as usize].iter().sum()
     }
 
-    /// All calls.
+    /// All calls outside runs.
     pub fn total(&self) -> u64 {
         self.counts.iter().flatten().sum()
     }
 
-    /// What a run of this length should have met and did not.
+    /// What a comparison of this length should have met and did not.
     pub fn gaps(&self) -> Vec<String> {
         if self.total() < JUDGED_FROM {
             return Vec::new();
         }
         let mut gaps = self.patches.gaps();
+        gaps.extend(self.feeds.gaps());
+        gaps.extend(self.runs.gaps());
         for operation in Operation::ALL {
             let counts = &self.counts[operation as usize];
             if counts[0] * 100 < self.calls(operation) * LEAST_ACCEPTED {
@@ -113,6 +125,6 @@ impl fmt::Display for Tally {
             "\nof {admitted} admitted slices {} were complete",
             self.complete
         )?;
-        write!(out, "\n{}", self.patches)
+        write!(out, "\n{}\n{}\n{}", self.patches, self.feeds, self.runs)
     }
 }

@@ -69,6 +69,16 @@ impl Style {
         }
     }
 
+    /// Much follows one another, and much is awaited.
+    pub fn following(random: &mut Random) -> Self {
+        Style {
+            shape: random.pick(&Shape::ALL),
+            sequences: random.pick(&[50, 70, 90]),
+            empties: random.pick(&[0, 0, 10]),
+            levels: random.pick(&[0, 50, 100]),
+        }
+    }
+
     fn leaf(&self, random: &mut Random) -> u8 {
         if random.chance(self.empties) {
             EMPTY
