@@ -4,6 +4,8 @@
 //! library's and the second interpreter's. `bench --count N` makes every call N times, library and
 //! then second interpreter, row by row; `instructions.sh` counts what it executes.
 
+mod feeds;
+mod nodes;
 mod patches;
 mod rows;
 mod streams;
@@ -12,7 +14,7 @@ mod timing;
 
 use std::process::ExitCode;
 
-use rows::Side;
+use rows::{Lent, Side};
 use table::{Instructions, Measured};
 
 fn counts(file: &str) -> Result<Vec<Instructions>, String> {
@@ -35,9 +37,9 @@ fn print_table(instructions: &[Instructions]) -> Result<(), String> {
             rows.len()
         ));
     }
-    if let Some(row) = rows.iter().find(|row| !timing::agree(row)) {
+    if let Some(row) = rows.iter().find(|row| !timing::is_sound(row)) {
         return Err(format!(
-            "{:?}, {}: the answers differ",
+            "{:?}, {}: the answers differ, or are not those of its group",
             row.operation, row.name
         ));
     }
@@ -58,9 +60,10 @@ fn print_table(instructions: &[Instructions]) -> Result<(), String> {
 }
 
 fn repeat_all(times: u64) {
+    let mut lent = Lent::holding(0);
     for row in rows::all() {
-        timing::wosthile_bench_repeat(&row, Side::Library, times);
-        timing::wosthile_bench_repeat(&row, Side::Second, times);
+        timing::wosthile_bench_repeat(&row, Side::Library, &mut lent, times);
+        timing::wosthile_bench_repeat(&row, Side::Second, &mut lent, times);
     }
 }
 

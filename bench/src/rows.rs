@@ -1,10 +1,11 @@
-//! The rows of the table: one call each. Those of Check are in [`crate::patches`].
+//! The rows of the table: one call each. Those of Check are in [`crate::patches`], those of Feed in
+//! [`crate::feeds`].
 
 use comparison::files::{section, set_count};
 use comparison::{library, Operation};
 
-use crate::patches;
 use crate::streams::{slice_tree, type_tree, Shape, Share};
+use crate::{feeds, patches};
 
 /// The nodes of the largest type.
 pub const LARGEST: usize = 255;
@@ -36,6 +37,26 @@ pub struct Row {
     pub files: Vec<Vec<u8>>,
 }
 
+/// The lent buffers, which every answer fits; only Feed takes the second.
+#[derive(Clone, Debug, PartialEq, Eq)]
+pub struct Lent {
+    first: [u8; 1000],
+    patch: [u8; 9000],
+}
+
+impl Lent {
+    /// Buffers that hold this byte everywhere.
+    pub fn holding(byte: u8) -> Self {
+        Lent {
+            first: [byte; 1000],
+            patch: [byte; 9000],
+        }
+    }
+}
+
+/// What a call answers: its number, and its lengths or whether the slice is complete.
+pub type Answer = (u32, [usize; 2]);
+
 /// Which of the two is measured.
 #[derive(Clone, Copy, Debug, PartialEq, Eq)]
 pub enum Side {
@@ -60,37 +81,48 @@ impl Row {
         self.files.iter().map(Vec::len).sum()
     }
 
-    /// Makes the call; answers its number and its length, or whether the slice is complete.
-    pub fn call(&self, side: Side, lent: &mut [u8]) -> (u32, usize) {
+    /// Makes the call.
+    pub fn call(&self, side: Side, lent: &mut Lent) -> Answer {
         match side {
             Side::Library => self.call_library(lent),
             Side::Second => self.call_second(lent),
         }
     }
 
-    fn call_library(&self, lent: &mut [u8]) -> (u32, usize) {
-        let files = &self.files;
+    fn call_library(&self, lent: &mut Lent) -> Answer {
+        let (files, first) = (&self.files, &mut lent.first);
         let answer = match self.operation {
-            Operation::Check => library::check(&files[0], lent),
+            Operation::Check => library::check(&files[0], first),
             Operation::Admit => {
                 let answer = library::admit(&files[0], &files[1]);
-                return (answer.number, answer.complete as usize);
+                return (answer.number, [answer.complete as usize, 0]);
             }
-            Operation::Left => library::left(&files[0], &files[1], lent),
-            Operation::Join => library::join(&files[0], &files[1], &files[2], lent),
+            Operation::Left => library::left(&files[0], &files[1], first),
+            Operation::Join => library::join(&files[0], &files[1], &files[2], first),
+            Operation::Feed => {
+                let answer = library::feed(&files[0], &files[1], first, &mut lent.patch);
+                return (answer.number, [answer.output, answer.patch]);
+            }
         };
-        (answer.number, answer.written)
+        (answer.number, [answer.written, 0])
     }
 
-    fn call_second(&self, lent: &mut [u8]) -> (u32, usize) {
-        let files = &self.files;
+    fn call_second(&self, lent: &mut Lent) -> Answer {
+        let (files, first) = (&self.files, &mut lent.first);
         let answer = match self.operation {
-            Operation::Check => second_interpreter::check(&files[0], lent),
+            Operation::Check => second_interpreter::check(&files[0], first),
             Operation::Admit => second_interpreter::admit(&files[0], &files[1]).map(usize::from),
-            Operation::Left => second_interpreter::left(&files[0], &files[1], lent),
-            Operation::Join => second_interpreter::join(&files[0], &files[1], &files[2], lent),
+            Operation::Left => second_interpreter::left(&files[0], &files[1], first),
+            Operation::Join => second_interpreter::join(&files[0], &files[1], &files[2], first),
+            Operation::Feed => {
+                let fed = second_interpreter::feed(&files[0], &files[1], first, &mut lent.patch);
+                return fed.map_or_else(
+                    |number| (number, [0, 0]),
+                    |(output, patch)| (0, [output, patch]),
+                );
+            }
         };
-        answer.map_or_else(|number| (number, 0), |value| (0, value))
+        answer.map_or_else(|number| (number, [0, 0]), |value| (0, [value, 0]))
     }
 }
 
@@ -116,10 +148,13 @@ const ON_STREAMS: [Operation; 3] = [Operation::Admit, Operation::Left, Operation
 pub fn all() -> Vec<Row> {
     let mut rows = patches::legal();
     rows.extend(ON_STREAMS.into_iter().flat_map(legal));
+    rows.extend(feeds::legal());
     rows.extend(patches::growing());
     rows.extend(ON_STREAMS.into_iter().flat_map(growing));
+    rows.extend(feeds::growing());
     rows.extend(patches::refused());
     rows.extend(ON_STREAMS.into_iter().flat_map(refused));
+    rows.extend(feeds::refused());
     rows
 }
 

@@ -21,6 +21,8 @@ pub struct Measured {
 const FASTER: f64 = 2.0;
 /// The cost per byte at the largest size is to be at most so many times that at a quarter of it.
 const FLAT: f64 = 1.5;
+/// Every accepted row is to take less than so many nanoseconds: one per cent of a frame.
+const SHORT: f64 = 166_000.0;
 /// A cost is known to about this factor.
 const NOISE: f64 = 1.1;
 
@@ -159,7 +161,8 @@ pub fn goals(measured: &[Measured]) -> String {
             text += &verdict(&format!("{goal}, by {cost}"), &misses(measured, *cost));
         }
     }
-    text
+    let goal = "every accepted row takes less than 166 microseconds, one per cent of a frame";
+    text + &verdict(goal, &long(measured))
 }
 
 fn verdict(goal: &str, misses: &[String]) -> String {
@@ -178,6 +181,14 @@ fn slow(measured: &[Measured], cost: Cost) -> Vec<String> {
         .iter()
         .filter(|one| one.row.group != Group::Refused && one.ratio(cost) < FASTER)
         .map(|one| format!("{}: {:.2}", one.name(), one.ratio(cost)))
+        .collect()
+}
+
+fn long(measured: &[Measured]) -> Vec<String> {
+    measured
+        .iter()
+        .filter(|one| one.row.group != Group::Refused && one.times.library >= SHORT)
+        .map(|one| format!("{}: {:.0}", one.name(), one.times.library))
         .collect()
 }
 

@@ -3,16 +3,13 @@
 use std::hint::black_box;
 use std::time::{Duration, Instant};
 
-use crate::rows::{Row, Side};
+use crate::rows::{Group, Lent, Row, Side};
 
 /// A round goes on for about this long.
 const ROUND: Duration = Duration::from_millis(4);
 
 /// The fastest of so many rounds is taken: what else runs on the machine can only slow a round.
 const ROUNDS: usize = 9;
-
-/// The length of the lent buffer, which every answer fits.
-const LENT: usize = 1000;
 
 /// Nanoseconds per call.
 #[derive(Clone, Copy, Debug)]
@@ -25,16 +22,16 @@ pub struct Times {
 /// in it alone.
 #[no_mangle]
 #[inline(never)]
-pub fn wosthile_bench_repeat(row: &Row, side: Side, times: u64) {
-    let mut lent = [0; LENT];
+pub fn wosthile_bench_repeat(row: &Row, side: Side, lent: &mut Lent, times: u64) {
     for _ in 0..times {
-        black_box(black_box(row).call(side, black_box(&mut lent)));
+        black_box(black_box(row).call(side, black_box(lent)));
     }
 }
 
 fn elapsed(row: &Row, side: Side, times: u64) -> Duration {
+    let mut lent = Lent::holding(0);
     let begin = Instant::now();
-    wosthile_bench_repeat(row, side, times);
+    wosthile_bench_repeat(row, side, &mut lent, times);
     begin.elapsed()
 }
 
@@ -91,9 +88,12 @@ pub fn time(rows: &[Row]) -> Vec<Times> {
         .collect()
 }
 
-/// Both sides give the same answer and leave the same bytes; otherwise their times say nothing.
-pub fn agree(row: &Row) -> bool {
-    let (mut ours, mut theirs) = ([7; LENT], [7; LENT]);
-    let same = row.call(Side::Library, &mut ours) == row.call(Side::Second, &mut theirs);
-    same && ours == theirs
+/// Both sides give the same answer and leave the same bytes, and only a row that is there for it is
+/// refused; otherwise their times say nothing.
+pub fn is_sound(row: &Row) -> bool {
+    let (mut ours, mut theirs) = (Lent::holding(7), Lent::holding(7));
+    let answer = row.call(Side::Library, &mut ours);
+    let same = answer == row.call(Side::Second, &mut theirs) && ours == theirs;
+    let refused = answer.0 != 0;
+    same && refused == (row.group == Group::Refused)
 }

@@ -1,0 +1,250 @@
+//! The rows of Feed: a patch, and a slice of its input type of which this share has come.
+
+use comparison::files::{contents, section};
+use comparison::types::{BESIDE, CUE, LEVEL, SEQUENCE};
+use comparison::Operation;
+
+use crate::nodes::*;
+use crate::rows::{claiming, lengthened, Group, Row, LARGEST, SIZES};
+use crate::streams::{slice_tree, type_tree, Shape, Share};
+
+/// A name, a patch, and how much of its input comes.
+type Fed = (String, Vec<u8>, Share);
+
+fn fed(name: &str, patch: Vec<u8>, share: Share) -> Fed {
+    (name.to_string(), patch, share)
+}
+
+fn row(group: Group, (name, patch, share): Fed) -> Row {
+    let slice = section(&slice_tree(contents(&patch), share));
+    Row {
+        group,
+        name,
+        operation: Operation::Feed,
+        files: vec![patch, slice],
+    }
+}
+
+/// Small, typical and largest calls.
+pub fn legal() -> Vec<Row> {
+    let mut rows = small();
+    rows.extend(Shape::ALL.into_iter().flat_map(largest_of));
+    rows.extend(deep_chains());
+    rows.extend(changing());
+    rows.extend(waiting());
+    rows.extend(crossing());
+    rows.into_iter().map(|fed| row(Group::Legal, fed)).collect()
+}
+
+fn small() -> Vec<Fed> {
+    let prepend = [CHAIN, FRONT, THEN, CUE_NODE, PASS];
+    let typical = [
+        CHAIN, SPREAD, BOTH, CHAIN, LEFT, SECOND, CHAIN, RIGHT, SECOND,
+    ];
+    let balanced = type_tree(Shape::Balanced, 31);
+    let swap = [BOTH, RIGHT, LEFT];
+    vec![
+        fed("small, pass", patch(&[CUE], &[PASS]), Share::All),
+        fed("small, prepend", patch(&[CUE], &prepend), Share::Nothing),
+        fed(
+            "small, swap",
+            patch(&[BESIDE, CUE, LEVEL], &swap),
+            Share::Half,
+        ),
+        fed("typical, 9 nodes", patch(&balanced, &typical), Share::Half),
+    ]
+}
+
+/// The largest patches of one shape. Where all has come, every sequence is crossed.
+fn largest_of((shape, name): (Shape, &str)) -> Vec<Fed> {
+    let shares = [
+        ("nothing", Share::Nothing),
+        ("half", Share::Half),
+        ("all", Share::All),
+    ];
+    let mut rows = Vec::new();
+    for (kind, file) in largest(shape) {
+        for (come, share) in shares {
+            let name = format!("63, {kind}, {name}, {come}");
+            rows.push(fed(&name, file.clone(), share));
+        }
+    }
+    rows
+}
+
+/// Chains of pass: on the least there is, and on the longest slice.
+fn deep_chains() -> Vec<Fed> {
+    let levels = lanes(LARGEST, LEVEL);
+    let mut rows = Vec::new();
+    for (shape, name) in [
+        (Shape::DeepLeft, "deep left"),
+        (Shape::DeepRight, "deep right"),
+    ] {
+        let nodes = nodes_of(shape, CHAIN, &[PASS]);
+        let cue = format!("63, chains on a cue, {name}");
+        let longest = format!("63, chains on 128 levels, {name}");
+        rows.push(fed(&cue, patch(&[CUE], &nodes), Share::All));
+        rows.push(fed(&longest, patch(&levels, &nodes), Share::All));
+    }
+    rows
+}
+
+/// The largest patches along which one stream is changed again and again.
+fn changing() -> Vec<Fed> {
+    let mut rows = Vec::new();
+    for (name, file) in chains().into_iter().chain(seeking()) {
+        let waits = format!("63, {name}, nothing");
+        let comes = format!("63, {name}, all");
+        rows.push(fed(&waits, file.clone(), Share::Nothing));
+        rows.push(fed(&comes, file, Share::All));
+    }
+    let swaps = tree_of(Shape::DeepLeft, 31, CHAIN, &|_| vec![BOTH, RIGHT, LEFT]);
+    let levels = lanes(LARGEST, LEVEL);
+    rows.push(fed(
+        "63, swaps, deep left",
+        patch(&levels, &swaps),
+        Share::All,
+    ));
+    rows
+}
+
+/// Second, which waits for a large stream and sends its empty slice: alone, and below chains.
+fn waiting() -> Vec<Fed> {
+    let mut rows = Vec::new();
+    for (shape, name) in [
+        (Shape::DeepLeft, "nested left"),
+        (Shape::DeepRight, "nested right"),
+    ] {
+        for (kind, fork) in [("lanes", BESIDE), ("sequences", SEQUENCE)] {
+            let awaited = tree_of(shape, LARGEST - 2, fork, &|_| vec![CUE]);
+            let tree = [&[SEQUENCE, CUE], awaited.as_slice()].concat();
+            let chained = below_chains(Shape::DeepLeft, SECOND);
+            let alone = format!("second on 253, {kind} {name}");
+            let below = format!("63, second on 253, {kind} {name}");
+            rows.push(fed(&alone, patch(&tree, &[SECOND]), Share::Nothing));
+            rows.push(fed(&below, patch(&tree, &chained), Share::Nothing));
+        }
+    }
+    rows
+}
+
+/// The largest patch of chains, in which this node stands first and then pass.
+fn below_chains(shape: Shape, first: u8) -> Vec<u8> {
+    tree_of(shape, MOST_NODES, CHAIN, &|place| {
+        vec![if place == 0 { first } else { PASS }]
+    })
+}
+
+/// Spread before and after a crossing, first when it is crossed, and pairs, all of 255 nodes.
+fn crossing() -> Vec<Fed> {
+    let spread = patch(&cue_then_lanes(LARGEST - 2), &[SPREAD]);
+    let first = [&[SEQUENCE], lanes(LARGEST - 2, LEVEL).as_slice(), &[CUE]].concat();
+    let chained = below_chains(Shape::DeepRight, FIRST);
+    let levels = lanes(127, LEVEL);
+    vec![
+        fed("spread, gives 255, nothing", spread.clone(), Share::Nothing),
+        fed("spread, gives 255, all", spread, Share::All),
+        fed("first of 253, all", patch(&first, &[FIRST]), Share::All),
+        fed("63, first of 253, all", patch(&first, &chained), Share::All),
+        fed(
+            "both, gives 255, all",
+            patch(&levels, &[BOTH, PASS, PASS]),
+            Share::All,
+        ),
+    ]
+}
+
+/// One node on types of a growing size, and patches of a growing number of nodes.
+pub fn growing() -> Vec<Row> {
+    let mut rows = Vec::new();
+    for (shape, series) in Shape::ALL {
+        for nodes in SIZES {
+            let group = Group::Growing {
+                series,
+                nodes,
+                largest: LARGEST,
+            };
+            let name = format!("pass, {series}, {nodes} nodes in the type");
+            let file = patch(&type_tree(shape, nodes), &[PASS]);
+            rows.push(row(group, (name, file, Share::Half)));
+        }
+    }
+    let series = [
+        ("pairs of pass, balanced", Shape::Balanced, BOTH),
+        ("chains of pass, deep left", Shape::DeepLeft, CHAIN),
+        ("chains of pass, deep right", Shape::DeepRight, CHAIN),
+    ];
+    for (series, shape, fork) in series {
+        for nodes in PATCH_SIZES {
+            let group = Group::Growing {
+                series,
+                nodes,
+                largest: MOST_NODES,
+            };
+            let name = format!("{series}, {nodes} nodes");
+            let tree = tree_of(shape, nodes, fork, &|_| vec![PASS]);
+            rows.push(row(group, (name, patch(&[CUE], &tree), Share::All)));
+        }
+    }
+    rows
+}
+
+/// Refused calls: with long files, and with a fault at the very end of the largest files.
+pub fn refused() -> Vec<Row> {
+    let levels = lanes(LARGEST, LEVEL);
+    let nodes = nodes_of(Shape::DeepLeft, CHAIN, &silent_largest());
+    let file = patch(&levels, &nodes);
+    let slice = section(&slice_tree(&levels, Share::All));
+    let cut = section(&slice[2..slice.len() - 1]);
+    let mut misplaced = slice.clone();
+    let last = misplaced.len() - 3;
+    misplaced[last] = 2;
+    let rows = [
+        (
+            "patch file of a mebibyte",
+            lengthened(&file, 1 << 20),
+            slice.clone(),
+        ),
+        (
+            "slice file of a mebibyte",
+            file.clone(),
+            lengthened(&slice, 1 << 20),
+        ),
+        (
+            "slice claims 65,535 bytes, full",
+            file.clone(),
+            claiming(lengthened(&slice, 65_537)),
+        ),
+        (
+            "65,535 chains",
+            patch(&levels, &[CHAIN; 65_535]),
+            slice.clone(),
+        ),
+        ("slice cut at its last byte", file.clone(), cut),
+        (
+            "misplaced kind at the end of the slice",
+            file.clone(),
+            misplaced,
+        ),
+        (
+            "wrong shape in the last node",
+            patch(&levels, &wrong_shape_at_the_end()),
+            slice,
+        ),
+    ];
+    rows.into_iter()
+        .map(|(name, patch, slice)| Row {
+            group: Group::Refused,
+            name: name.to_string(),
+            operation: Operation::Feed,
+            files: vec![patch, slice],
+        })
+        .collect()
+}
+
+fn wrong_shape_at_the_end() -> Vec<u8> {
+    let last = MOST_NODES / 2;
+    tree_of(Shape::DeepLeft, MOST_NODES, CHAIN, &|place| {
+        vec![if place == last { FIRST } else { PASS }]
+    })
+}
