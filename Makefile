@@ -2,7 +2,7 @@
 # make prove     the proofs alone, without the edits; what has not changed is not proved again
 # make example   builds the library and runs examples/calls.c against it
 # make lib       the library alone: target/staticlib/libwosthile.a
-# make fuzz      random calls, compared with the second interpreter: make fuzz SECONDS=600 SEED=7
+# make fuzz      random calls and runs of feeds, compared with the second interpreter: make fuzz SECONDS=600 SEED=7
 # make bench     times and instruction counts of the library beside the second interpreter
 # make install   archive, header and wosthile.pc: make install PREFIX=/usr/local DESTDIR=
 # make clean     removes all that was built

@@ -1,6 +1,15 @@
-/* A patch and the type that it gives, what has come of a small show, what is left of it, and two slices as one. */
+/* A small show: its patch is checked, fed slice by slice, and fed two of the slices as one. */
 #include <stdio.h>
+#include <string.h>
 #include <wosthile.h>
+
+static const uint8_t show[] = {0, 5, 3, 1, 4, 1, 2};                       /* a comet's cue, then Saturn's and a lamp */
+static const uint8_t start[] = {0, 5, 3, 1, 4, 1, 2, 0, 5, 9, 0, 4, 6, 5}; /* on that show: pass, then swap the sides */
+static const uint8_t comet[] = {0, 2, 5, 2};                               /* the comet has come */
+static const uint8_t saturn[] = {0, 5, 6, 0, 7, 2, 3};                     /* crossed; Saturn has come, no lamp yet */
+static const uint8_t lamp[] = {0, 5, 7, 0, 4, 1, 44};                      /* the lamp is at 300 */
+
+static uint8_t output[WOSTHILE_SLICE_FILE_MAX], buffers[2][WOSTHILE_PATCH_FILE_MAX];
 
 static void print_file(const char *what, const uint8_t *file, size_t length)
 {
@@ -11,26 +20,59 @@ static void print_file(const char *what, const uint8_t *file, size_t length)
     printf("\n");
 }
 
+struct frame {
+    const char *what;
+    const uint8_t *slice;
+    size_t length;
+};
+
+static const struct frame frames[] = {
+    {"the comet", comet, sizeof comet},
+    {"the comet again", comet, sizeof comet},
+    {"Saturn", saturn, sizeof saturn},
+    {"the lamp", lamp, sizeof lamp},
+};
+
+/* Never in place: one buffer holds the patch that is fed, the other takes the patch left, and then they swap. */
+static void feed_in_turn(void)
+{
+    uint8_t *patch = buffers[0], *left = buffers[1];
+    size_t length = sizeof start;
+    memcpy(patch, start, length);
+    for (size_t index = 0; index < sizeof frames / sizeof frames[0]; index++) {
+        struct frame frame = frames[index];
+        wosthile_fed fed = wosthile_feed(patch, length, frame.slice, frame.length, output, sizeof output, left,
+                                         WOSTHILE_PATCH_FILE_MAX);
+        if (fed.number != WOSTHILE_ACCEPTED) {
+            printf("%s: refused with %u, and the patch stays\n", frame.what, fed.number);
+            continue;
+        }
+        print_file(frame.what, output, fed.output);
+        uint8_t *swapped = patch;
+        patch = left;
+        left = swapped;
+        length = fed.patch;
+    }
+    print_file("the patch left", patch, length);
+}
+
 int main(void)
 {
-    const uint8_t show[] = {0, 5, 3, 1, 4, 1, 2};                       /* a comet's cue, then Saturn's cue beside a lamp */
-    const uint8_t patch[] = {0, 5, 3, 1, 4, 1, 2, 0, 5, 9, 0, 4, 6, 5}; /* of that show; then pass, and swap the two sides */
-    const uint8_t comet[] = {0, 2, 5, 2};                               /* the comet has come */
-    const uint8_t saturn[] = {0, 7, 6, 0, 7, 2, 4, 1, 44};              /* crossed; Saturn has come, the lamp is at 300 */
-    uint8_t given[WOSTHILE_TYPE_FILE_MAX], left[WOSTHILE_TYPE_FILE_MAX], both[WOSTHILE_SLICE_FILE_MAX];
+    uint8_t type[WOSTHILE_TYPE_FILE_MAX], both[WOSTHILE_SLICE_FILE_MAX];
+    wosthile_written checked = wosthile_check(start, sizeof start, type, sizeof type);
+    print_file("the patch gives", type, checked.written);
 
-    wosthile_written checked = wosthile_check(patch, sizeof patch, given, sizeof given);
-    print_file("the patch gives", given, checked.written);
-
-    wosthile_admitted seen = wosthile_admit(show, sizeof show, comet, sizeof comet);
-    printf("the comet: number %u, complete %u\n", seen.number, seen.complete);
-
-    wosthile_written rest = wosthile_left(show, sizeof show, comet, sizeof comet, left, sizeof left);
-    seen = wosthile_admit(left, rest.written, saturn, sizeof saturn);
-    printf("Saturn, of what the comet leaves: number %u, complete %u\n", seen.number, seen.complete);
+    feed_in_turn();
 
     wosthile_written joined =
         wosthile_join(show, sizeof show, comet, sizeof comet, saturn, sizeof saturn, both, sizeof both);
-    print_file("both as one slice", both, joined.written);
+    print_file("comet and Saturn as one", both, joined.written);
+    wosthile_fed fed = wosthile_feed(start, sizeof start, both, joined.written, output, sizeof output, buffers[0],
+                                     sizeof buffers[0]);
+    print_file("fed as one", output, fed.output);
+
+    wosthile_written rest = wosthile_left(show, sizeof show, both, joined.written, type, sizeof type);
+    wosthile_admitted seen = wosthile_admit(type, rest.written, lamp, sizeof lamp);
+    printf("the lamp, of what they leave: number %u, complete %u\n", seen.number, seen.complete);
     return 0;
 }
