@@ -5,11 +5,11 @@
  * by side. A slice says what has come of a stream so far. A patch is a tree of nodes that takes a stream of one type to
  * a stream of another. Five operations work on the files of all three:
  *
- *   wosthile_feed    feeds a slice to a patch: what the patch sends, and the patch that is left for the next slice
  *   wosthile_check   is this a patch, and which type has the stream that it sends?
  *   wosthile_admit   is this a slice of that type, and has everything come?
  *   wosthile_left    what the slice leaves of the type: what is still to come
  *   wosthile_join    two slices, the second of what the first leaves, as one slice
+ *   wosthile_feed    what the patch sends for a slice, and the patch that is left for the next slice
  *
  * Files. A section is a count of two bytes, the high byte first, and then that many bytes. They hold one tree in
  * preorder: the root, then its parts from left to right. A type file and a slice file are one section; a patch file is

@@ -98,6 +98,17 @@ fn changing() -> Vec<Fed> {
         rows.push(fed(&waits, file.clone(), Share::Nothing));
         rows.push(fed(&comes, file, Share::All));
     }
+    let regroups = tree_of(Shape::DeepLeft, MOST_NODES, CHAIN, &|place| {
+        vec![[REGROUP_RIGHT, REGROUP_LEFT][place % 2]]
+    });
+    let three_parts = tree_of(Shape::DeepLeft, 5, SEQUENCE, &|place| {
+        lanes([81, 83, 85][place], LEVEL)
+    });
+    rows.push(fed(
+        "63, regroups of levels, deep left",
+        patch(&three_parts, &regroups),
+        Share::All,
+    ));
     let swaps = tree_of(Shape::DeepLeft, 31, CHAIN, &|_| vec![BOTH, RIGHT, LEFT]);
     let levels = lanes(LARGEST, LEVEL);
     rows.push(fed(

@@ -11,8 +11,9 @@ use crate::run_tally::RunTally;
 /// The numbers that the operations can answer.
 const NUMBERS: [u32; 13] = [0, 1, 2, 3, 4, 5, 6, 7, 11, 12, 13, 14, 20];
 
-/// Fewer calls than this are not judged by what they met.
-const JUDGED_FROM: u64 = 100_000;
+/// Fewer calls than this are not judged by what they met: what is seldom, late in a run, might be
+/// missed by chance.
+const JUDGED_FROM: u64 = 300_000;
 
 /// The least share of accepted calls, in per cent.
 const LEAST_ACCEPTED: u64 = 30;
