@@ -187,7 +187,7 @@ wosthile_written wosthile_join(const uint8_t *type, size_t type_len, const uint8
  * patch; then with 20 if either buffer is too short. A refusal alters neither buffer, so the next feed is handed the
  * patch that this one was handed.
  *
- * What a node sends and leaves; b is complete, and p, q and r are any slices.
+ * What a node sends and leaves; b and c are complete, and p, q and r are any slices.
  *
  *   node             on           sends                                        leaves
  *   pass             p            p                                            pass

@@ -101,8 +101,8 @@ pub fn heading() -> String {
         "call", "handed in", "ns", "ns", "as fast", "ns/byte", "instr.", "instr.",
     );
     format!(
-        "The library beside the second interpreter, which keeps trees on the heap. A time is the\n\
-         median of several rounds, after warming. Lent buffers are not cleared between calls.\n\
+        "The library beside the second interpreter, which keeps trees on the heap. A time is that\n\
+         of the fastest of several rounds, after warming. Lent buffers are not cleared between calls.\n\
          Where half has come, the second slice of Join is the other half.\n\n\
          {columns}\n{units}"
     )
