@@ -7,7 +7,7 @@ use Prim.Native.Nat.{ℕ, zero, suc, _+_, _*_, _≤_}
 use lib.Dec.{eqb}
 use lib.ListN.{length, getD}
 use Rattle.stream.specs.Types.{Ty, seq, par, size}
-use Rattle.stream.specs.Reading.{Reading, read, fault}
+use Rattle.stream.specs.Reading.{read, fault}
 use Rattle.stream.specs.Prefixes.{Prefix, crossed, beside, IsPrefix, derivative}
 use Rattle.stream.specs.Buffers.{front}
 use Rattle.stream.specs.TypeFiles.{type-bytes}

@@ -11,19 +11,18 @@ use Rattle.stream.specs.declared.Fault.the-variants.{NoRoom}
 use Rattle.stream.specs.Faults.{number}
 use Rattle.stream.specs.Types.{Ty, size}
 use Rattle.stream.specs.Types.Laws.{limit-is}
-use Rattle.stream.specs.Prefixes.{Prefix, IsPrefix, derivative}
+use Rattle.stream.specs.Prefixes.{Prefix, derivative}
 use Rattle.stream.specs.Prefixes.Laws.{derivative-size}
 use Rattle.stream.specs.Reading.{accepted, refused, section-bytes}
 use Rattle.stream.specs.Buffers.{front}
 use Rattle.stream.specs.TypeFiles.{type-bytes}
 use Rattle.stream.specs.SliceFiles.{prefix-bytes, slice-file-bytes, slice-file}
 use Rattle.stream.specs.SliceFiles.Laws.{prefix-length}
-use Rattle.files.specs.declared.prefixes.Prefix.{Prefix as Known}
 use Rattle.files.specs.TypeReads.Laws.{type-width}
 use Rattle.files.specs.SliceReads.{width as prefix-width}
 use Rattle.files.specs.SliceReads.Laws.{prefix-width as prefix-long}
 use Rattle.writing.specs.Writing.Standing.{slice-file-size}
-use Rattle.node.specs.Nodes.{Node, Types, output-type, count, node-limit, Fits}
+use Rattle.node.specs.Nodes.{Node, count, node-limit}
 use Rattle.node.specs.Nodes.Laws.{output-type-is, output-small}
 use Rattle.node.specs.Feeding.{sends, leaves}
 use Rattle.node.specs.Feeding.Laws.{fed}
