@@ -4,7 +4,7 @@ use mathlib.Core.List.{List, [], _∷_}
 use Prim.Native.Nat.{ℕ, _+_, _≤_}
 use native.Mathlib.Omega.{arith}
 use lib.ListN.{getD}
-use Rattle.stream.specs.Types.{Ty, size, kind, first-part, second-part}
+use Rattle.stream.specs.Types.{Ty, size, first-part, second-part}
 use Rattle.stream.specs.Prefixes.{Prefix, Complete, IsPrefix, of-first, of-crossed, of-beside, empty-prefix, derivative}
 use Rattle.files.specs.SliceReads.{width, PrefixAt, SomePrefixAt, PrefixEnds}
 use Rattle.files.specs.SliceReads.Laws.{kind-at, in-first-at, crossed-first-at, crossed-second-at, beside-first-at, beside-second-at}
@@ -18,10 +18,6 @@ pub record Spent (type : Ty) (p : Prefix) : Type 0 where
   pub is-complete : Complete (sends type first p)
   pub part-size : size (first-part type) ≤ size type
   pub node : leaves type first p ≡ silent (derivative (first-part type) (sends type first p))
-
--- Second takes a sequence.
-pub second-sequence : {type output : Ty} → Types type second output → kind type ≡ 3
-second-sequence types-second = refl
 
 -- Second sends nothing of the second part, and stays.
 pub record Waits (type : Ty) (p : Prefix) : Type 0 where

@@ -1,9 +1,9 @@
 -- What the nodes without parts promise and ask when they are fed: contracts inside the library, which no demand rests on.
 use mathlib.Core.Path.{_≡_}
 use mathlib.Core.List.{List, [], _∷_}
-use Prim.Native.Nat.{ℕ, suc, _≤_}
+use Prim.Native.Nat.{ℕ, suc, _+_, _≤_}
 use lib.ListN.{length}
-use Rattle.stream.specs.Types.{Ty, empty, Nullable, type-limit}
+use Rattle.stream.specs.Types.{Ty, empty, Nullable, size, type-limit, first-part, second-part}
 use Rattle.stream.specs.Buffers.{front}
 use Rattle.stream.specs.Prefixes.{Prefix, cue-come, level-come, IsPrefix, empty-prefix}
 use Rattle.stream.specs.SliceFiles.{prefix-bytes}
@@ -54,13 +54,15 @@ pub record LeafFed (n : Node) (slice : List ℕ) (place : ℕ) (out remainder ou
   pub each : (due : LeafDue n slice place out remainder)
       → Delivers (sends (due .type) n (due .prefix)) (leaves (due .type) n (due .prefix)) out remainder out-after remainder-after fed
 
--- The same for second, which asks the type.
-pub record SecondDue (types : List ℕ) (at : ℕ) (slice : List ℕ) (place : ℕ) (out remainder : List ℕ) : Type 0 where
+-- The same for second, which asks both parts of the type: where they stand, one behind the other.
+pub record SecondDue (types : List ℕ) (at next : ℕ) (slice : List ℕ) (place : ℕ) (out remainder : List ℕ) : Type 0 where
   pub due : LeafDue second slice place out remainder
-  pub type-at : TypeAt types at (due .type)
+  pub first-at : TypeAt types at (first-part (due .type))
+  pub second-at : TypeAt types next (second-part (due .type))
+  pub ends : next ≡ at + size (first-part (due .type))
 
-pub record SecondFed (types : List ℕ) (at : ℕ) (slice : List ℕ) (place : ℕ) (out remainder out-after remainder-after : List ℕ) (fed : Sent) : Type 0 where
-  pub each : (asked : SecondDue types at slice place out remainder)
+pub record SecondFed (types : List ℕ) (at next : ℕ) (slice : List ℕ) (place : ℕ) (out remainder out-after remainder-after : List ℕ) (fed : Sent) : Type 0 where
+  pub each : (asked : SecondDue types at next slice place out remainder)
       → (let due = asked .due in
       Delivers (sends (due .type) second (due .prefix)) (leaves (due .type) second (due .prefix)) out remainder out-after remainder-after fed)
 

@@ -2,7 +2,6 @@
 // bytes with room for it.
 use files::prefixes::complete_width;
 use files::prefixes::skip_prefix;
-use files::types::skip_type;
 use writing::appending::append;
 use writing::appending::append_kind;
 use writing::copy;
@@ -116,20 +115,20 @@ pub fn feed_first(slice: &[u8], place: usize, out: &mut [u8], remainder: &mut [u
     }
 }
 
-// Second sends nothing of the second part until the crossing, and then what comes of it.
+// Second sends nothing of the second part until the crossing, and then what comes of it. The parts of its type stand at `first`
+// and `second`.
 pub fn feed_second(
     types: &[u8],
-    at: usize,
+    first: usize,
+    second: usize,
     slice: &[u8],
     place: usize,
     out: &mut [u8],
     remainder: &mut [u8],
 ) -> Sent
-    requires { ⌜ SecondDue (now types) at (now slice) place (now out) (now remainder) ⌝ }
-    ensures { λ r. ⌜ SecondFed (now (types .entry)) at (now (slice .entry)) place (now (out .entry)) (now (remainder .entry)) (now (out .exit)) (now (remainder .exit)) r ⌝ }
+    requires { ⌜ SecondDue (now types) first second (now slice) place (now out) (now remainder) ⌝ }
+    ensures { λ r. ⌜ SecondFed (now (types .entry)) first second (now (slice .entry)) place (now (out .entry)) (now (remainder .entry)) (now (out .exit)) (now (remainder .exit)) r ⌝ }
 {
-    let first = at + 1;
-    let second = skip_type(types, first);
     if slice[place] == 5 {
         let sent = write_empty(types, second, out);
         return leave(8, sent, remainder);

@@ -1,26 +1,25 @@
 -- One feed of a node without parts: what the function for its kind is asked, and that its answer and the type that is given make
 -- the step.
 use mathlib.Core.Path.{_≡_, refl, ap, _∙_}
-use mathlib.Core.List.{List, []}
-use Prim.Native.Nat.{ℕ, zero, suc, _≤_, _<_}
+use mathlib.Core.List.{List}
+use Prim.Native.Nat.{ℕ, zero, suc, _+_, _≤_, _<_}
 use native.Mathlib.Omega.{arith}
 use lib.ListN.{length, getD}
 use Rattle.stream.specs.Types.{Ty, Nullable, type-limit}
 use Rattle.stream.specs.Prefixes.{cue-come}
-use Rattle.stream.specs.SliceFiles.{prefix-bytes}
 use Rattle.files.specs.SliceReads.{width as prefix-width}
-use Rattle.files.specs.SliceReads.Laws.{prefix-width as prefix-length}
 use Rattle.node.specs.Nodes.{Node, silent, emit-cue, emit-level, second, Types, types-silent}
 use Rattle.node.specs.Feeding.{sends, leaves}
 use Rattle.node.specs.PatchFiles.{node-bytes}
 use Rattle.patches.specs.PatchReads.{node-arity}
 use Rattle.patches.specs.PatchReads.Laws.{Case, by-byte, silent-at, kind-listed}
 use Rattle.sending.specs.declared.Sent.{Sent}
-use Rattle.sending.specs.Sending.{Delivers, EmitsCue, LeafDue, LeafFed, SecondDue, SecondFed, SilentDue, SilentFed, LevelDue, LevelFed}
+use Rattle.sending.specs.Sending.{Delivers, EmitsCue, LeafDue, LeafFed, SilentDue, SilentFed, LevelDue, LevelFed}
 use Rattle.step.specs.declared.Step.{Step}
-use Rattle.step.specs.Steps.{FeedDue, FeedsNode, GiveDue, GivesLeaf}
-use Rattle.step.specs.Steps.Laws.{front-leads, left-width}
+use Rattle.step.specs.Steps.{FeedDue, FeedsNode, GiveDue, GivesLeaf, BehindDue, FeedsBehind}
+use Rattle.step.specs.Steps.Laws.{left-width}
 use Rattle.step.proofs.Below.{count-positive}
+use Rattle.step.proofs.Giving.{makes-step}
 
 silent-nullable : {s t o : Ty} → Types s (silent t) o → Nullable t
 silent-nullable (types-silent null) = null
@@ -67,9 +66,14 @@ module _ {types : List ℕ} {at : ℕ} {nodes : List ℕ} {from : ℕ} {slice : 
           left-room = left-room;
         }
 
-    pub second-due : getD nodes from 0 ≡ 8 → SecondDue types at slice place out remainder
+    pub behind-due : getD nodes from 0 ≡ 8 → BehindDue types at slice place out remainder given
     unfolding leaf-due
-    second-due kind = record { due = leaf-due kind refl; type-at = due .stand .type-at }
+    behind-due kind =
+        record {
+          leaf = leaf-due kind refl;
+          type-at = due .stand .type-at;
+          room = rw (is-node {n = second} kind refl) at (due .room .for-type);
+        }
 
     -- Silent, cue and level:
 
@@ -115,12 +119,6 @@ module _ {types : List ℕ} {at : ℕ} {nodes : List ℕ} {from : ℕ} {slice : 
     unfolding leaf-due
     leaf-fed kind only leaf feeds =
         record { leaf = ap node-arity kind ∙ leaf; each = λ due. rw (is-node due kind only) (feeds .each (leaf-due due kind only)) }
-
-    pub second-fed : getD nodes from 0 ≡ 8 → SecondFed types at slice place out remainder out-now remainder-now sent
-        → LeafFeeds types at nodes from slice place out remainder given out-now remainder-now sent
-    unfolding leaf-due second-due
-    second-fed kind feeds =
-        record { leaf = ap node-arity kind; each = λ due. rw (is-node due {n = second} kind refl) (feeds .each (second-due due kind)) }
 
     pub silent-fed : getD nodes from 0 ≡ 1 → SilentFed nodes from out remainder out-now remainder-now sent
         → LeafFeeds types at nodes from slice place out remainder given out-now remainder-now sent
@@ -177,19 +175,13 @@ module _ {types : List ℕ} {at : ℕ} {nodes : List ℕ} {from : ℕ} {slice : 
     leaf-steps feeds gives =
         record {
           each = λ due.
-              let o = sends (due .type) (due .node) (due .prefix) in
-              let n = leaves (due .type) (due .node) (due .prefix) in
-              let delivered = feeds .each due in
-              let typed = gives .each (give-due feeds due) in
-              record {
-                ends = typed .0;
-                sent = gives .sent ∙ delivered .leaves .sent;
-                left = gives .left ∙ delivered .leaves .left;
-                sized = typed .1;
-                output = front-leads (prefix-bytes o []) out (delivered .output) (omega (arith, prefix-length o [], due .room .for-output));
-                node-left =
-                    front-leads (node-bytes n []) remainder (delivered .leaves .buffer)
-                    (omega (arith, left-width (due .feedable), due .room .for-nodes));
-                type-given = typed .2;
-              };
+              makes-step _ _ (feeds .each due) (due .room .for-output) (omega (arith, left-width (due .feedable), due .room .for-nodes))
+              (gives .sent) (gives .left) (gives .each (give-due feeds due));
         }
+
+  -- Second is fed with the type that it gives.
+  pub behind-fed : {out-after remainder-after given-after : List ℕ} {step : Step} → getD nodes from 0 ≡ 8
+      → FeedsBehind types at (from + 1) slice place out remainder given out-after remainder-after given-after step
+      → FeedsNode types at nodes from slice place out remainder given out-after remainder-after given-after step
+  unfolding leaf-due behind-due node-bytes
+  behind-fed kind feeds = record { each = λ due. rw (is-node due {n = second} kind refl) (feeds .each (behind-due due kind)) }

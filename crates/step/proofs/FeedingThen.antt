@@ -19,10 +19,7 @@ use Rattle.files.specs.SliceReads.{PrefixAt, TypeSpans, CompleteWide, width as 
 use Rattle.files.specs.SliceReads.Laws.{prefix-width as prefix-bytes-long, width-positive, prefix-kind, prefix-inside, kind-at, in-first-at, crossed-first-at, crossed-second-at}
 use Rattle.writing.specs.Writing.Laws.{part, back}
 use Rattle.node.specs.Nodes.{Node, then, Types, types-then, output-type, count}
-use Rattle.node.specs.Nodes.Laws.{output-type-is}
 use Rattle.node.specs.Feeding.{sends, leaves}
-use Rattle.node.specs.Checking.{typing}
-use Rattle.node.specs.Checking.Laws.{typing-complete}
 use Rattle.node.specs.PatchFiles.{node-bytes}
 use Rattle.node.specs.PatchFiles.Laws.{node-length}
 use Rattle.patches.specs.PatchReads.{width, NodeAt}
@@ -30,10 +27,10 @@ use Rattle.patches.specs.PatchReads.Laws.{then-forks, Parts, parts-at, node-bef
 use Rattle.typing.specs.declared.Typed.{Typed}
 use Rattle.typing.specs.declared.Typed.the-variants.{Gives, Failed}
 use Rattle.typing.specs.Typing.{TypingDue, TypesNode, Answers}
-use Rattle.typing.specs.Typing.Laws.{is-given, is-refused}
 use Rattle.step.specs.declared.Step.{Step}
-use Rattle.step.specs.Steps.{Leads, Feedable, Room, FeedDue, Steps, FeedsNode, PartsDue, FeedsParts, nodes-below}
+use Rattle.step.specs.Steps.{Leads, Feedable, Room, FeedDue, Steps, FeedsNode, GivesType, PartsDue, FeedsParts, nodes-below}
 use Rattle.step.proofs.Below.{below-one, then-count, parts-count, parts-fewer}
+use Rattle.step.proofs.Giving.{no-fault, gives-type, node-answered}
 use Rattle.step.specs.Steps.Laws.{front-leads, byte-leads, leads-inside, leads-room, leads-on, left-width}
 
 -- How the parts of then are typed.
@@ -410,40 +407,27 @@ module _ {types : List ℕ} {at : ℕ} {nodes : List ℕ} {from : ℕ} {slice : 
 
         -- The type of the second node is asked for.
         module _ {v : List ℕ} {answer : Typed} (typed : TypesNode types second nodes (step .end) (part (1 + step .size) given-now) v answer) where
-          answers : Answers (step .end + width (parts .second)) (typing second-type (parts .second)) (part (1 + step .size) given-now) v answer
+          answered : Answers (step .end + width (parts .second)) (accepted second-given) (part (1 + step .size) given-now) v answer
           unfolding second-due
-          answers = typed .each second-due
-
-          is-typed : typing second-type (parts .second) ≡ accepted second-given
-          is-typed = typing-complete (typings .second-types) (feedable .fits .1) ∙ ap accepted (sym (output-type-is (typings .second-types)))
+          answered = node-answered typed second-due (typings .second-types) (feedable .fits .1)
 
           -- A node that is fed has a type.
           pub never-fails : {fault : Fault} → answer ≡ Failed fault → ⊥
-          never-fails e =
-              let r = sym is-typed ∙ is-refused _ _ (sym e ∙ answers .answers) in
-              let z : _≡_ {A = ℕ} 0 1 = cc in
-              omega arith
-
-          -- Its type is written behind the first's, for there is room.
-
-          room-for-type : length (type-bytes second-given []) ≤ length (part (1 + step .size) given-now)
-          room-for-type =
-              omega (arith, room-behind .for-type, leads-room given-leads (1 + step .size), steps .sized, type-width second-given)
-
-          type-leads : Leads (type-bytes second-given []) (part (1 + step .size) given-now) v
-          type-leads = front-leads _ _ (answers .writes second-given is-typed .in-front room-for-type) room-for-type
+          never-fails = no-fault answered
 
           module _ {end other : ℕ} (gives : answer ≡ Gives end other) where
+            -- Its type is written behind the first's, for there is room.
+            second-gives : GivesType (step .end + width (parts .second)) second-given (part (1 + step .size) given-now) v end other
+            second-gives =
+                gives-type answered (omega (arith, room-behind .for-type, leads-room given-leads (1 + step .size), steps .sized)) gives
+
             -- Where the second node ends, the size of its type, and its bytes.
 
             ends : end ≡ step .end + width (parts .second)
-            ends = is-given _ _ (sym gives ∙ answers .answers) .ends
+            ends = second-gives .ends
 
             sized : other ≡ size second-given
-            sized =
-                let g = is-given _ _ (sym gives ∙ answers .answers) in
-                let same : g .type ≡ second-given = (let d = sym (g .given) ∙ is-typed in cc) in
-                g .sized ∙ ap size same
+            sized = second-gives .sized
 
             taken : take (end - step .end) (drop (step .end) nodes) ≡ node-bytes (parts .second) []
             taken =
@@ -481,7 +465,7 @@ module _ {types : List ℕ} {at : ℕ} {nodes : List ℕ} {from : ℕ} {slice : 
               -- With the second behind the first.
 
               sequence-leads : Leads (3 ∷ type-bytes first-given [] ++ type-bytes second-given []) given (back (1 + step .size) given-now v)
-              sequence-leads = leads-on given-leads (omega (arith, steps .sized, type-width first-given)) type-leads
+              sequence-leads = leads-on given-leads (omega (arith, steps .sized, type-width first-given)) (second-gives .type-given)
 
               then-leads : Leads (9 ∷ node-bytes left [] ++ node-bytes (parts .second) []) remainder (back (1 + step .left) remainder-now x)
               then-leads = leads-on remainder-leads (omega (arith, steps .left)) node-leads

@@ -1,62 +1,75 @@
--- The type that a node without parts gives: the second pass does not fail at a node that has a type.
+-- The type that a node gives where it has been fed: the second pass does not fail at a node that has a type. With the type given
+-- the step is done.
 use mathlib.Core.Path.{_≡_, refl, sym, _∙_}
 use mathlib.Core.List.{List, []}
-use Prim.Native.Nat.{ℕ, _+_}
+use Prim.Native.Nat.{ℕ, _+_, _≤_}
 use native.Mathlib.Omega.{arith}
+use lib.ListN.{length}
 use Rattle.stream.specs.declared.Fault.{Fault}
-use Rattle.stream.specs.Types.{size}
+use Rattle.stream.specs.Types.{Ty, size}
+use Rattle.stream.specs.Prefixes.{Prefix}
 use Rattle.stream.specs.Reading.{accepted}
 use Rattle.stream.specs.TypeFiles.{type-bytes}
+use Rattle.stream.specs.SliceFiles.{prefix-bytes}
 use Rattle.files.specs.TypeReads.Laws.{type-width}
-use Rattle.node.specs.Nodes.{output-type}
+use Rattle.files.specs.SliceReads.{width as prefix-width}
+use Rattle.files.specs.SliceReads.Laws.{prefix-width as prefix-length}
+use Rattle.node.specs.Nodes.{Node, Types, output-type, Fits}
 use Rattle.node.specs.Nodes.Laws.{output-type-is}
 use Rattle.node.specs.Checking.Laws.{typing-complete}
+use Rattle.node.specs.PatchFiles.{node-bytes}
 use Rattle.patches.specs.PatchReads.{width}
 use Rattle.sending.specs.declared.Sent.{Sent}
+use Rattle.sending.specs.Sending.{Delivers}
 use Rattle.typing.specs.declared.Typed.{Typed}
 use Rattle.typing.specs.declared.Typed.the-variants.{Gives, Failed}
-use Rattle.typing.specs.Typing.{typed, Answers, TypesNode}
+use Rattle.typing.specs.Typing.{typed, Answers, TypingDue, TypesNode}
 use Rattle.typing.specs.Typing.Laws.{is-refused}
 use Rattle.step.specs.declared.Step.{Step}
-use Rattle.step.specs.Steps.{Leads, GiveDue, GivesLeaf}
+use Rattle.step.specs.Steps.{GiveDue, GivesType, Steps}
 use Rattle.step.specs.Steps.Laws.{front-leads}
+
+module _ {end : ℕ} {t : Ty} {given given-after : List ℕ} {answer : Typed} (answered : Answers end (accepted t) given given-after answer) where
+  -- The answer is no fault, if there is a type.
+  pub no-fault : {fault : Fault} → answer ≡ Failed fault → ⊥
+  no-fault fails =
+      let refuses = is-refused _ _ (sym fails ∙ answered .answers) in
+      let z : _≡_ {A = ℕ} 0 1 = cc in
+      omega arith
+
+  -- So it says where the node ends and how large the type is, and the type is written.
+  pub gives-type : {next many : ℕ} → size t ≤ length given → answer ≡ Gives next many → GivesType end t given given-after next many
+  unfolding typed
+  gives-type {next} {many} room gives =
+      let same : Gives next many ≡ Gives end (size t) = sym gives ∙ answered .answers in
+      let fits : length (type-bytes t []) ≤ length given = omega (arith, type-width t) in
+      record { ends = cc; sized = cc; type-given = front-leads (type-bytes t []) given (answered .writes t refl .in-front fits) fits }
 
 module _ {types : List ℕ} {at : ℕ} {nodes : List ℕ} {from : ℕ} {given given-after : List ℕ} {answer : Typed}
     (told : TypesNode types at nodes from given given-after answer) where
-  -- The answer at such a node is the type that the rules give.
-  is-answered : (due : GiveDue types at nodes from given)
+  -- The answer at a node that has a type is the type that the rules give.
+  pub node-answered : {output : Ty} (due : TypingDue types at nodes from) → Types (due .type) (due .node) output → Fits (due .type) (due .node)
       → Answers (from + width (due .node)) (accepted (output-type (due .type) (due .node))) given given-after answer
-  is-answered due =
-      rw (output-type-is (due .is-typed), ← typing-complete (due .is-typed) (due .fits))
-      (told .each (record { type = due .type; node = due .node; type-at = due .type-at; node-at = due .node-at }))
+  node-answered due is-typed fits = rw (output-type-is is-typed, ← typing-complete is-typed fits) (told .each due)
 
-  -- It is no fault.
-  pub failed-leaf : {fed : Sent} {step : Step} (fault : Fault) → answer ≡ Failed fault → step .sent ≡ fed .sent → step .left ≡ fed .left
-      → GivesLeaf types at nodes from fed given given-after step
-  failed-leaf {fed} {step} fault fails sent left = record { sent = sent; left = left; each = λ due. absurd (impossible due) }
-    where
-      impossible : GiveDue types at nodes from given → ⊥
-      impossible due =
-          let refuses = is-refused _ _ (sym fails ∙ is-answered due .answers) in
-          let z : _≡_ {A = ℕ} 0 1 = cc in
-          omega arith
+  -- The same where the node has no parts.
+  pub leaf-answered : (due : GiveDue types at nodes from given)
+      → Answers (from + width (due .node)) (accepted (output-type (due .type) (due .node))) given given-after answer
+  leaf-answered due =
+      node-answered (record { type = due .type; node = due .node; type-at = due .type-at; node-at = due .node-at }) (due .is-typed) (due .fits)
 
-  -- So it says where the node ends and how large the type is, and the type is written.
-  pub given-leaf : {end many : ℕ} (fed : Sent) → answer ≡ Gives end many
-      → GivesLeaf types at nodes from fed given given-after (record { end = end; sent = fed .sent; left = fed .left; size = many })
-  unfolding typed
-  given-leaf {end} {many} fed gives = record { sent = refl; left = refl; each = each }
-    where
-      each : (due : GiveDue types at nodes from given)
-          → (end ≡ from + width (due .node)) × (many ≡ size (output-type (due .type) (due .node)))
-          × Leads (type-bytes (output-type (due .type) (due .node)) []) given given-after
-      each due =
-          let output = output-type (due .type) (due .node) in
-          let answered = is-answered due in
-          let same : Gives end many ≡ Gives (from + width (due .node)) (size output) = sym gives ∙ answered .answers in (
-            cc,
-            cc,
-            front-leads (type-bytes output []) given
-                (answered .writes output refl .in-front (omega (arith, type-width output, due .room)))
-                (omega (arith, type-width output, due .room)),
-          )
+-- What was sent and left makes the step with the type given, if there was room for it.
+pub makes-step : {end : ℕ} (o : Prefix) (n : Node) {t : Ty} {out remainder given out-now remainder-now given-after : List ℕ} {fed : Sent} {step : Step}
+    → Delivers o n out remainder out-now remainder-now fed → prefix-width o ≤ length out → width n ≤ length remainder
+    → step .sent ≡ fed .sent → step .left ≡ fed .left → GivesType end t given given-after (step .end) (step .size)
+    → Steps end o n t out remainder given out-now remainder-now given-after step
+makes-step o n {out = out} {remainder = remainder} delivered output-room left-room sent left gives =
+    record {
+      ends = gives .ends;
+      sent = sent ∙ delivered .leaves .sent;
+      left = left ∙ delivered .leaves .left;
+      sized = gives .sized;
+      output = front-leads (prefix-bytes o []) out (delivered .output) (omega (arith, prefix-length o []));
+      node-left = front-leads (node-bytes n []) remainder (delivered .leaves .buffer) left-room;
+      type-given = gives .type-given;
+    }

@@ -15,11 +15,12 @@ use Rattle.stream.specs.SliceFiles.{prefix-bytes}
 use Rattle.files.specs.TypeReads.{TypeAt}
 use Rattle.files.specs.SliceReads.{PrefixAt, width as prefix-width}
 use Rattle.writing.specs.Writing.{LeftFileDue}
-use Rattle.node.specs.Nodes.{Node, both, Types, output-type, count, node-limit, Fits}
+use Rattle.node.specs.Nodes.{Node, both, second, Types, output-type, count, node-limit, Fits}
 use Rattle.node.specs.Feeding.{sends, leaves}
 use Rattle.node.specs.PatchFiles.{node-bytes, read-node, patch-file-bytes}
 use Rattle.patches.specs.PatchReads.{node-arity, width, NodeAt}
 use Rattle.sending.specs.declared.Sent.{Sent}
+use Rattle.sending.specs.Sending.{LeafDue}
 use Rattle.step.specs.declared.Step.{Step}
 pub mod Laws
 
@@ -78,6 +79,12 @@ pub record FeedsNode (types : List ℕ) (at : ℕ) (nodes : List ℕ) (from : �
       → Steps (from + width (due .node)) (sends (due .type) (due .node) (due .prefix)) (leaves (due .type) (due .node) (due .prefix))
       (output-type (due .type) (due .node)) out remainder given out-after remainder-after given-after step
 
+-- A node that ends at `end` gives the type t, and both its end and the size of the type are told.
+pub record GivesType (end : ℕ) (t : Ty) (given given-after : List ℕ) (next many : ℕ) : Type 0 where
+  pub ends : next ≡ end
+  pub sized : many ≡ size t
+  pub type-given : Leads (type-bytes t []) given given-after
+
 -- The type that a node without parts gives, beside what it sent and left.
 pub record GiveDue (types : List ℕ) (at : ℕ) (nodes : List ℕ) (from : ℕ) (given : List ℕ) : Type 0 where
   pub type : Ty
@@ -94,8 +101,19 @@ pub record GivesLeaf (types : List ℕ) (at : ℕ) (nodes : List ℕ) (from : �
   pub sent : step .sent ≡ fed .sent
   pub left : step .left ≡ fed .left
   pub each : (due : GiveDue types at nodes from given)
-      → (step .end ≡ from + width (due .node)) × (step .size ≡ size (output-type (due .type) (due .node)))
-      × Leads (type-bytes (output-type (due .type) (due .node)) []) given given-after
+      → GivesType (from + width (due .node)) (output-type (due .type) (due .node)) given given-after (step .end) (step .size)
+
+-- Second is to be fed, of the type at `at`, and there is room for the type that it gives.
+pub record BehindDue (types : List ℕ) (at : ℕ) (slice : List ℕ) (place : ℕ) (out remainder given : List ℕ) : Type 0 where
+  pub leaf : LeafDue second slice place out remainder
+  pub type-at : TypeAt types at (leaf .type)
+  pub room : size (output-type (leaf .type) second) ≤ length given
+
+pub record FeedsBehind (types : List ℕ) (at end : ℕ) (slice : List ℕ) (place : ℕ) (out remainder given out-after remainder-after given-after : List ℕ) (step : Step) : Type 0 where
+  pub each : (due : BehindDue types at slice place out remainder given)
+      → (let leaf = due .leaf in
+      Steps end (sends (leaf .type) second (leaf .prefix)) (leaves (leaf .type) second (leaf .prefix)) (output-type (leaf .type) second)
+      out remainder given out-after remainder-after given-after step)
 
 -- Two nodes one behind the other are fed in turn: what they send has the kind 6 if *then* is crossed, 7 for *both*. After a
 -- crossing the second node's remainder is left alone.

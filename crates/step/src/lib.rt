@@ -17,6 +17,7 @@ use sending::feed_second;
 use sending::feed_silent;
 use sending::feed_spread;
 use typing::Typed;
+use typing::give_type;
 use typing::type_leaf;
 use typing::type_node;
 use writing::copy;
@@ -24,7 +25,7 @@ use writing::write_left_file;
 use writing::write_section;
 ghost use mathlib.Core.Path.{_≡_};
 ghost use lib.ListN.{getD};
-ghost use Rattle.step.specs.Steps.{FeedDue, FeedsNode, GiveDue, GivesLeaf, PartsDue, FeedsParts, PatchLeftDue, PatchLeftWritten};
+ghost use Rattle.step.specs.Steps.{FeedDue, FeedsNode, GiveDue, GivesLeaf, BehindDue, FeedsBehind, PartsDue, FeedsParts, PatchLeftDue, PatchLeftWritten};
 
 // How a feed leaves a node: where the node ends, how many bytes it sends, how many the node left has, and how many nodes the type
 // that it gives.
@@ -59,6 +60,30 @@ fn give(types: &[u8], at: usize, nodes: &[u8], from: usize, fed: Sent, given: &m
     }
 }
 
+// Feeds *second*, which ends at `end`. Where its part of the type stands is found once, for what it sends and for the type that it
+// gives.
+fn feed_behind(
+    types: &[u8],
+    at: usize,
+    end: usize,
+    slice: &[u8],
+    place: usize,
+    out: &mut [u8],
+    remainder: &mut [u8],
+    given: &mut [u8],
+) -> Step
+    requires { ⌜ BehindDue (now types) at (now slice) place (now out) (now remainder) (now given) ⌝ }
+    ensures { λ r. ⌜ FeedsBehind (now (types .entry)) at end (now (slice .entry)) place (now (out .entry)) (now (remainder .entry)) (now (given .entry)) (now (out .exit)) (now (remainder .exit)) (now (given .exit)) r ⌝ }
+{
+    let first = at + 1;
+    let second = skip_type(types, first);
+    let fed = feed_second(types, first, second, slice, place, out, remainder);
+    match give_type(types, second, end, given) {
+        Typed::Failed(_) => Step::new(end, fed.sent, fed.left, 0),
+        Typed::Gives(next, size) => Step::new(next, fed.sent, fed.left, size),
+    }
+}
+
 // Feeds the prefix at `place`, of the type at `at`, to the node at `from`.
 pub fn feed_node(
     types: &[u8],
@@ -85,7 +110,9 @@ pub fn feed_node(
         5 => feed_left(slice, place, out, remainder),
         6 => feed_right(slice, place, out, remainder),
         7 => feed_first(slice, place, out, remainder),
-        8 => feed_second(types, at, slice, place, out, remainder),
+        8 => {
+            return feed_behind(types, at, from + 1, slice, place, out, remainder, given);
+        }
         9 => {
             return feed_then(types, at, nodes, from, slice, place, out, remainder, given);
         }

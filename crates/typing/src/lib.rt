@@ -36,7 +36,7 @@ fn limit(end: usize, size: usize) -> Typed
 }
 
 // Gives the type at `at`.
-fn give_type(types: &[u8], at: usize, end: usize, out: &mut [u8]) -> Typed
+pub fn give_type(types: &[u8], at: usize, end: usize, out: &mut [u8]) -> Typed
     requires { ⌜ SomeTypeAt (now types) at ⌝ }
     ensures { λ r. ⌜ Given gives (now (types .entry)) at end (now (out .entry)) (now (out .exit)) r ⌝ }
 {

@@ -2,29 +2,20 @@
 -- what stands behind the first part, which is as long as every complete prefix of its type.
 use borrow.Author.Needs.{needs}
 use native.Mathlib.Omega.{arith}
-use Rattle.files.specs.TypeReads.Laws.{starts-inside}
 use Rattle.files.specs.SliceReads.Laws.{prefix-inside}
 use Rattle.sending.specs.Sending.Laws.{leaf-inside, copy-due, copied}
-use Rattle.sending.proofs.SecondWaits.{first-type, first-spans, crossed-part, waiting-due, waiting}
+use Rattle.sending.proofs.SecondWaits.{first-spans, crossed-part, waiting-due, waiting}
 use Rattle.sending.proofs.feed_second.Statement.{statement}
 use Rattle.sending.proofs.feed_second.Tie as tie
 
-abbrev entry : tie.After-skip-type → tie.Start
+abbrev entry : tie.After-shared-slice-known3 → tie.Start
 entry c = c .before .before .before .before .before
 
-add-first : tie.Need-add-first
-add-first c = omega (arith, starts-inside (c .before .before .before .before .pre .type-at))
-
-skip-type-requires : tie.Need-skip-type-requires
-skip-type-requires c κs = first-type (c .before .before .before .before .pre)
-
 shared-slice-read-if1 : tie.Need-shared-slice-read-if1
-shared-slice-read-if1 c = leaf-inside (entry (c .before) .pre .due)
+shared-slice-read-if1 c = leaf-inside (entry c .pre .due)
 
 write-empty-requires : tie.Need-write-empty-requires
-write-empty-requires c κs =
-    let skipped = c .before .before .before in
-    waiting-due (entry skipped .pre) (c .before .if1 .taken) (skipped .skip-type .ensures)
+write-empty-requires c κs = let tested = c .before in waiting-due (entry (tested .before) .pre) (tested .if1 .taken)
 
 leave-requires : tie.Need-leave-requires
 leave-requires c κs = search needs
@@ -40,33 +31,25 @@ returns c =
     let left = c .before .before in
     let sent = left .before .before .before .before in
     let tested = sent .before .before in
-    record {
-      each = λ asked.
-          waiting asked (tested .if1 .taken) (tested .before .before .skip-type .ensures) (sent .write-empty .ensures) (left .leave .ensures);
-    }
+    record { each = λ asked. waiting asked (tested .if1 .taken) (sent .write-empty .ensures) (left .leave .ensures) }
 
 add-rest : tie.Need-add-rest
-add-rest c = omega (arith, leaf-inside (entry (c .before .before) .pre .due))
+add-rest c = omega (arith, leaf-inside (entry (c .before) .pre .due))
 
 complete-width-requires : tie.Need-complete-width-requires
-complete-width-requires c κs = let skipped = c .before .before in first-spans (entry skipped .pre) (skipped .skip-type .ensures)
+complete-width-requires c κs = first-spans (entry (c .before) .pre)
 
 add-rest-2 : tie.Need-add-rest-2
 add-rest-2 c =
     let tested = c .before in
-    let skipped = tested .before .before in
-    omega (
-      arith,
-      prefix-inside (crossed-part (entry skipped .pre) (skipped .skip-type .ensures) (c .complete-width .ensures) (tested .if1 .left) .0),
-    )
+    omega (arith, prefix-inside (crossed-part (entry (tested .before) .pre) (c .complete-width .ensures) (tested .if1 .left) .0))
 
 copy-prefix-requires : tie.Need-copy-prefix-requires
 copy-prefix-requires c κs =
     let wide = c .before in
     let tested = wide .before in
-    let skipped = tested .before .before in
-    copy-due (entry skipped .pre .due)
-    (crossed-part (entry skipped .pre) (skipped .skip-type .ensures) (wide .complete-width .ensures) (tested .if1 .left) .0)
+    let asked = entry (tested .before) .pre in
+    copy-due (asked .due) (crossed-part asked (wide .complete-width .ensures) (tested .if1 .left) .0)
 
 leave-requires-2 : tie.Need-leave-requires-2
 leave-requires-2 c κs = search needs
@@ -82,10 +65,9 @@ returns-2 c =
     let left = c .before .before in
     let sent = left .before .before .before .before in
     let wide = sent .before .before in
-    let tested = wide .before in
     record {
       each = λ asked.
-          let crossed = crossed-part asked (tested .before .before .skip-type .ensures) (wide .complete-width .ensures) (tested .if1 .left) in
+          let crossed = crossed-part asked (wide .complete-width .ensures) (wide .before .if1 .left) in
           copied (asked .due) (crossed .0) (sent .copy-prefix .ensures) (left .leave2 .ensures) (crossed .1);
     }
 
@@ -93,8 +75,6 @@ pub feed-second-spec : {M : Type 1} → statement M
 feed-second-spec =
     tie.close
     (tie.spec
-    add-first
-    skip-type-requires
     shared-slice-read-if1
     write-empty-requires
     leave-requires

@@ -40,10 +40,10 @@ use Rattle.sending.proofs.feed_pass.Reads as feed-pass-reads
 use Rattle.sending.proofs.feed_regroup_left.Reads as feed-regroup-left-reads
 use Rattle.sending.proofs.feed_regroup_right.Reads as feed-regroup-right-reads
 use Rattle.sending.proofs.feed_right.Reads as feed-right-reads
-use Rattle.sending.proofs.feed_second.Reads as feed-second-reads
 use Rattle.sending.proofs.feed_silent.Reads as feed-silent-reads
 use Rattle.sending.proofs.feed_spread.Reads as feed-spread-reads
 use Rattle.step.proofs.Step.new.Reads as new-reads
+use Rattle.step.proofs.feed_behind.Reads as feed-behind-reads
 use Rattle.step.proofs.give.Reads as give-reads
 use Rattle.typing.proofs.type_node.Reads as type-node-reads
 use Rattle.writing.proofs.copy.Reads as copy-reads
@@ -55,7 +55,7 @@ use Rattle.step.proofs.FeedingThen as feeding-then
 use Rattle.step.specs.Steps.{nodes-below}
 use Rattle.step.proofs.Below.{both-count, parts-fewer}
 use Rattle.step.proofs.FeedingBoth.{both-due, both-fed}
-use Rattle.step.proofs.FeedingLeaf.{LeafFeeds, leaf-due, second-due, silent-due, cue-due, level-due, leaf-fed, second-fed, silent-fed, cue-fed, level-fed, other-fed, arrives, give-due, leaf-steps}
+use Rattle.step.proofs.FeedingLeaf.{LeafFeeds, leaf-due, behind-due, silent-due, cue-due, level-due, leaf-fed, silent-fed, cue-fed, level-fed, other-fed, arrives, give-due, leaf-steps, behind-fed}
 use Rattle.step.proofs.FeedingParts as feeding-parts
 use Rattle.step.proofs.+feed_both+feed_chain+feed_coming+feed_node+feed_parts+feed_then.{statement}
 use Rattle.step.proofs.+feed_both+feed_chain+feed_coming+feed_node+feed_parts+feed_then.Tie.{close}
@@ -163,8 +163,8 @@ module _ (t : ℕ) where
     feed-right-reads.Learnt,
     feed-first-reads.Asked,
     feed-first-reads.Learnt,
-    feed-second-reads.Asked,
-    feed-second-reads.Learnt,
+    feed-behind-reads.Asked,
+    feed-behind-reads.Learnt,
     then-below,
     feed-then.Post,
     chain-below,
@@ -230,12 +230,11 @@ module _ (t : ℕ) where
       (⊎-elim (λ w. arrives (w .8) (w .9) (w .10) (leaf-fed (w .0 .keys6) refl refl (w .3 .ensures)))
       (⊎-elim (λ w. arrives (w .8) (w .9) (w .10) (leaf-fed (w .0 .keys7) refl refl (w .3 .ensures)))
       (⊎-elim (λ w. arrives (w .8) (w .9) (w .10) (leaf-fed (w .0 .keys8) refl refl (w .3 .ensures)))
-      (⊎-elim (λ w. arrives (w .8) (w .9) (w .10) (second-fed (w .0 .keys9) (w .3 .ensures)))
       (⊎-elim (λ w. arrives (w .8) (w .9) (w .10) (leaf-fed (w .0 .keys12) refl refl (w .3 .ensures)))
       (⊎-elim (λ w. arrives (w .8) (w .9) (w .10) (leaf-fed (w .0 .keys13) refl refl (w .3 .ensures)))
       (⊎-elim (λ w. arrives (w .8) (w .9) (w .10) (leaf-fed (w .0 .keys14) refl refl (w .3 .ensures)))
       (⊎-elim (λ w. arrives (w .8) (w .9) (w .10) (leaf-fed (w .0 .keys15) refl refl (w .3 .ensures)))
-      (λ w. other-fed (w .0 .rest) (leaf-start c .pre .1))))))))))))) (c .match .came)
+      (λ w. other-fed (w .0 .rest) (leaf-start c .pre .1)))))))))))) (c .match .came)
 
   feed-node-shared-slice-read-match : feed-node-lts.Need-shared-slice-read-match calls-node node-here feed-node.Post
   feed-node-shared-slice-read-match c = starts-inside (node-entry c .pre .1 .stand .node-at)
@@ -278,13 +277,11 @@ module _ (t : ℕ) where
   feed-node-feed-first-requires : feed-node-lts.Need-feed-first-requires calls-node node-here feed-node.Post
   feed-node-feed-first-requires c κs = leaf-due (node-entry (c .before .before .before) .pre .1) (c .before .before .match .keys8) refl
 
-  feed-node-feed-second-requires : feed-node-lts.Need-feed-second-requires calls-node node-here feed-node.Post
-  feed-node-feed-second-requires c κs = second-due (node-entry (c .before .before .before) .pre .1) (c .before .before .match .keys9)
+  feed-node-add-feed-behind : feed-node-lts.Need-add-feed-behind calls-node node-here feed-node.Post
+  feed-node-add-feed-behind c = omega (arith, starts-inside (node-entry (c .before) .pre .1 .stand .node-at))
 
-  feed-node-feed-then-requires : feed-node-lts.Need-feed-then-requires calls-node node-here feed-node.Post
-  feed-node-feed-then-requires c κs =
-      let entry = node-entry (c .before .before .before .before) in
-      (omega (arith, entry .pre .0), (entry .pre .1, c .before .before .before .match .keys10))
+  feed-node-feed-behind-requires : feed-node-lts.Need-feed-behind-requires calls-node node-here feed-node.Post
+  feed-node-feed-behind-requires c κs = behind-due (node-entry (c .before .before .before .before) .pre .1) (c .before .before .before .match .keys9)
 
   feed-node-same-length-4 : feed-node-lts.Need-same-length-4 calls-node node-here feed-node.Post
   feed-node-same-length-4 c = search needs
@@ -296,12 +293,14 @@ module _ (t : ℕ) where
   feed-node-same-length-6 c = search needs
 
   feed-node-returns-2 : feed-node-lts.Need-returns-2 calls-node node-here feed-node.Post
-  feed-node-returns-2 c = c .before .before .before .before .before .before .feed-then .ensures
+  feed-node-returns-2 c =
+      let fed = c .before .before .before .before .before .before in
+      behind-fed (fed .before .before .before .before .match .keys9) (fed .feed-behind .ensures)
 
-  feed-node-feed-chain-requires : feed-node-lts.Need-feed-chain-requires calls-node node-here feed-node.Post
-  feed-node-feed-chain-requires c κs =
+  feed-node-feed-then-requires : feed-node-lts.Need-feed-then-requires calls-node node-here feed-node.Post
+  feed-node-feed-then-requires c κs =
       let entry = node-entry (c .before .before .before .before) in
-      (omega (arith, entry .pre .0), (entry .pre .1, c .before .before .before .match .keys11))
+      (omega (arith, entry .pre .0), (entry .pre .1, c .before .before .before .match .keys10))
 
   feed-node-same-length-7 : feed-node-lts.Need-same-length-7 calls-node node-here feed-node.Post
   feed-node-same-length-7 c = search needs
@@ -313,7 +312,24 @@ module _ (t : ℕ) where
   feed-node-same-length-9 c = search needs
 
   feed-node-returns-3 : feed-node-lts.Need-returns-3 calls-node node-here feed-node.Post
-  feed-node-returns-3 c = c .before .before .before .before .before .before .feed-chain .ensures
+  feed-node-returns-3 c = c .before .before .before .before .before .before .feed-then .ensures
+
+  feed-node-feed-chain-requires : feed-node-lts.Need-feed-chain-requires calls-node node-here feed-node.Post
+  feed-node-feed-chain-requires c κs =
+      let entry = node-entry (c .before .before .before .before) in
+      (omega (arith, entry .pre .0), (entry .pre .1, c .before .before .before .match .keys11))
+
+  feed-node-same-length-10 : feed-node-lts.Need-same-length-10 calls-node node-here feed-node.Post
+  feed-node-same-length-10 c = search needs
+
+  feed-node-same-length-11 : feed-node-lts.Need-same-length-11 calls-node node-here feed-node.Post
+  feed-node-same-length-11 c = search needs
+
+  feed-node-same-length-12 : feed-node-lts.Need-same-length-12 calls-node node-here feed-node.Post
+  feed-node-same-length-12 c = search needs
+
+  feed-node-returns-4 : feed-node-lts.Need-returns-4 calls-node node-here feed-node.Post
+  feed-node-returns-4 c = c .before .before .before .before .before .before .feed-chain .ensures
 
   feed-node-feed-regroup-right-requires : feed-node-lts.Need-feed-regroup-right-requires calls-node node-here feed-node.Post
   feed-node-feed-regroup-right-requires c κs = leaf-due (node-entry (c .before .before .before) .pre .1) (c .before .before .match .keys12) refl
@@ -330,17 +346,17 @@ module _ (t : ℕ) where
   feed-node-give-requires : feed-node-lts.Need-give-requires calls-node node-here feed-node.Post
   feed-node-give-requires c κs = give-due (leaf-feeds (c .before)) (leaf-start (c .before) .pre .1)
 
-  feed-node-returns-4 : feed-node-lts.Need-returns-4 calls-node node-here feed-node.Post
-  feed-node-returns-4 c = leaf-steps (leaf-feeds (c .before .before .before .before)) (c .before .before .give .ensures)
+  feed-node-returns-5 : feed-node-lts.Need-returns-5 calls-node node-here feed-node.Post
+  feed-node-returns-5 c = leaf-steps (leaf-feeds (c .before .before .before .before)) (c .before .before .give .ensures)
 
-  feed-node-same-length-10 : feed-node-lts.Need-same-length-10 calls-node node-here feed-node.Post
-  feed-node-same-length-10 c = feed-node-returns-4 c .each (leaf-start (c .before .before .before .before) .pre .1) .output .long
+  feed-node-same-length-13 : feed-node-lts.Need-same-length-13 calls-node node-here feed-node.Post
+  feed-node-same-length-13 c = feed-node-returns-5 c .each (leaf-start (c .before .before .before .before) .pre .1) .output .long
 
-  feed-node-same-length-11 : feed-node-lts.Need-same-length-11 calls-node node-here feed-node.Post
-  feed-node-same-length-11 c = feed-node-returns-4 c .each (leaf-start (c .before .before .before .before) .pre .1) .node-left .long
+  feed-node-same-length-14 : feed-node-lts.Need-same-length-14 calls-node node-here feed-node.Post
+  feed-node-same-length-14 c = feed-node-returns-5 c .each (leaf-start (c .before .before .before .before) .pre .1) .node-left .long
 
-  feed-node-same-length-12 : feed-node-lts.Need-same-length-12 calls-node node-here feed-node.Post
-  feed-node-same-length-12 c = feed-node-returns-4 c .each (leaf-start (c .before .before .before .before) .pre .1) .type-given .long
+  feed-node-same-length-15 : feed-node-lts.Need-same-length-15 calls-node node-here feed-node.Post
+  feed-node-same-length-15 c = feed-node-returns-5 c .each (leaf-start (c .before .before .before .before) .pre .1) .type-given .long
 
   -- feed_both
 
@@ -1181,26 +1197,31 @@ pub +feed-both+feed-chain+feed-coming+feed-node+feed-parts+feed-then-spec : {M :
     (feed-node-feed-left-requires t)
     (feed-node-feed-right-requires t)
     (feed-node-feed-first-requires t)
-    (feed-node-feed-second-requires t)
-    (feed-node-feed-then-requires t)
+    (feed-node-add-feed-behind t)
+    (feed-node-feed-behind-requires t)
     (feed-node-same-length-4 t)
     (feed-node-same-length-5 t)
     (feed-node-same-length-6 t)
     (feed-node-returns-2 t)
-    (feed-node-feed-chain-requires t)
+    (feed-node-feed-then-requires t)
     (feed-node-same-length-7 t)
     (feed-node-same-length-8 t)
     (feed-node-same-length-9 t)
     (feed-node-returns-3 t)
+    (feed-node-feed-chain-requires t)
+    (feed-node-same-length-10 t)
+    (feed-node-same-length-11 t)
+    (feed-node-same-length-12 t)
+    (feed-node-returns-4 t)
     (feed-node-feed-regroup-right-requires t)
     (feed-node-feed-regroup-left-requires t)
     (feed-node-feed-spread-requires t)
     (feed-node-feed-front-requires t)
     (feed-node-give-requires t)
-    (feed-node-same-length-10 t)
-    (feed-node-same-length-11 t)
-    (feed-node-same-length-12 t)
-    (feed-node-returns-4 t))
+    (feed-node-same-length-13 t)
+    (feed-node-same-length-14 t)
+    (feed-node-same-length-15 t)
+    (feed-node-returns-5 t))
     (λ t. feed-parts-lts.spec
     (calls-parts t)
     (parts-here t)

@@ -1,7 +1,7 @@
 -- `give` meets its contract: the second pass gives the type of a node that has one (`Giving`).
 use borrow.Author.Needs.{needs}
 use mathlib.Core.Path.{refl}
-use Rattle.step.proofs.Giving.{failed-leaf, given-leaf}
+use Rattle.step.proofs.Giving.{no-fault, gives-type, leaf-answered}
 use Rattle.step.proofs.give.Statement.{statement}
 use Rattle.step.proofs.give.Tie as tie
 
@@ -26,7 +26,12 @@ same-length c = search needs
 returns : tie.Need-returns
 returns c =
     let answered = c .before .before .before .before .before in
-    rw (c .new .ensures) (failed-leaf (answered .type-leaf .ensures) _ (c .before .enum-told .given .1) refl refl)
+    rw (c .new .ensures)
+    (record {
+      sent = refl;
+      left = refl;
+      each = λ due. absurd (no-fault (leaf-answered (answered .type-leaf .ensures) due) (c .before .enum-told .given .1));
+    })
 
 same-length-2 : tie.Need-same-length-2
 same-length-2 c = search needs
@@ -34,7 +39,12 @@ same-length-2 c = search needs
 returns-2 : tie.Need-returns-2
 returns-2 c =
     let answered = c .before .before .before .before .before .before in
-    rw (c .new2 .ensures) (given-leaf (answered .type-leaf .ensures) _ (c .before .before .end .given .1))
+    rw (c .new2 .ensures)
+    (record {
+      sent = refl;
+      left = refl;
+      each = λ due. gives-type (leaf-answered (answered .type-leaf .ensures) due) (due .room) (c .before .before .end .given .1);
+    })
 
 pub give-spec : {M : Type 1} → statement M
 give-spec =
