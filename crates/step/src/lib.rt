@@ -84,7 +84,8 @@ fn feed_behind(
     }
 }
 
-// Feeds the prefix at `place`, of the type at `at`, to the node at `from`.
+// Feeds the prefix at `place`, of the type at `at`, to the node at `from`. A node is fed by its kind; a kind above 14 is refused where
+// the patch is read, and does not stand here.
 pub fn feed_node(
     types: &[u8],
     at: usize,
