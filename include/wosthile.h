@@ -89,36 +89,59 @@ extern "C" {
 /*
  * The number in every answer. 1 to 4 speak of a type or a patch, 5 to 7 of a patch alone, 11 to 14 of a slice, 20 of
  * a lent buffer. Where one place has several faults, 4 and 5 come before 1 and 1 before 2; in a slice 11 comes before
- * 12 and 12 before 14.
+ * 12 and 12 before 14. What each says stands in wosthile_sentence.
  */
 enum wosthile_number {
-    /* The call was accepted. */
     WOSTHILE_ACCEPTED = 0,
-    /* A section is longer than the bytes remain, or a tree needs a byte past its section. */
     WOSTHILE_CUT_SHORT = 1,
-    /* A kind byte is not listed. */
     WOSTHILE_UNLISTED_KIND = 2,
-    /* Bytes stand after a whole tree in its section, or after the last section. */
     WOSTHILE_BYTES_LEFT_OVER = 3,
-    /* A type needs a 256th node. */
     WOSTHILE_TYPE_TOO_LARGE = 4,
-    /* A patch needs a 64th node. */
     WOSTHILE_PATCH_TOO_LARGE = 5,
-    /* The type that a silent node carries is not nullable. */
     WOSTHILE_NOT_NULLABLE = 6,
-    /* The input of a node lacks the shape that the node takes. */
     WOSTHILE_WRONG_SHAPE = 7,
-    /* A slice is cut short: its section or its tree needs more bytes than there are. */
     WOSTHILE_SLICE_CUT_SHORT = 11,
-    /* A slice has a kind above 7. */
     WOSTHILE_SLICE_UNLISTED_KIND = 12,
-    /* A slice has bytes left over, in its section or after it. */
     WOSTHILE_SLICE_BYTES_LEFT_OVER = 13,
-    /* A slice has a kind that does not belong there; 1, 3 or 5 where a crossed first part has to be complete is one. */
     WOSTHILE_SLICE_MISPLACED_KIND = 14,
-    /* The lent buffer, or either of two, is too short for this answer. */
     WOSTHILE_BUFFER_TOO_SHORT = 20
 };
+
+/* The sentence of a number, for a log or a screen. */
+static inline const char *wosthile_sentence(uint32_t number)
+{
+    switch (number) {
+    case WOSTHILE_ACCEPTED:
+        return "The call was accepted.";
+    case WOSTHILE_CUT_SHORT:
+        return "A section is longer than the bytes remain, or a tree needs a byte past its section.";
+    case WOSTHILE_UNLISTED_KIND:
+        return "A kind byte is not listed.";
+    case WOSTHILE_BYTES_LEFT_OVER:
+        return "Bytes stand after a whole tree in its section, or after the last section.";
+    case WOSTHILE_TYPE_TOO_LARGE:
+        return "A type needs a 256th node.";
+    case WOSTHILE_PATCH_TOO_LARGE:
+        return "A patch needs a 64th node.";
+    case WOSTHILE_NOT_NULLABLE:
+        return "The type that a silent node carries is not nullable.";
+    case WOSTHILE_WRONG_SHAPE:
+        return "The input of a node lacks the shape that the node takes.";
+    case WOSTHILE_SLICE_CUT_SHORT:
+        return "A slice is cut short: its section or its tree needs more bytes than there are.";
+    case WOSTHILE_SLICE_UNLISTED_KIND:
+        return "A slice has a kind above 7.";
+    case WOSTHILE_SLICE_BYTES_LEFT_OVER:
+        return "A slice has bytes left over, in its section or after it.";
+    case WOSTHILE_SLICE_MISPLACED_KIND:
+        return "A slice has a kind that does not belong there; "
+               "1, 3 or 5 where a crossed first part has to be complete is one.";
+    case WOSTHILE_BUFFER_TOO_SHORT:
+        return "The lent buffer, or either of two, is too short for this answer.";
+    default:
+        return "No operation answers this number.";
+    }
+}
 
 /* The answer of an operation that writes a file. */
 typedef struct {
