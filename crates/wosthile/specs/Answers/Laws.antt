@@ -30,20 +30,23 @@ use Rattle.node.specs.PatchFiles.{patch-file, patch-file-bytes, PatchFile}
 use Rattle.node.specs.PatchFiles.Laws.{patch-file-complete, patch-file-sound, patch-file-accepted, patch-file-length, patch-file-is-bytes, patch-file-refusals}
 use Rattle.wosthile.specs.Answers.{check, admit, left, join, FedFiles, feed, with-room, fits-both, patch-numbers, admit-numbers, feed-numbers, contains, Listed}
 
--- No refusal has the number 0.
+-- No refusal has the number 0, and none has more than two digits.
+pub number-bounds : (e : Fault) → (1 ≤ number e) × (number e ≤ 20)
+number-bounds CutShort = (omega arith, omega arith)
+number-bounds Unlisted = (omega arith, omega arith)
+number-bounds LeftOver = (omega arith, omega arith)
+number-bounds TypeTooLarge = (omega arith, omega arith)
+number-bounds TooManyNodes = (omega arith, omega arith)
+number-bounds NotNullable = (omega arith, omega arith)
+number-bounds WrongShape = (omega arith, omega arith)
+number-bounds SliceCutShort = (omega arith, omega arith)
+number-bounds SliceUnlisted = (omega arith, omega arith)
+number-bounds SliceLeftOver = (omega arith, omega arith)
+number-bounds SliceMisplaced = (omega arith, omega arith)
+number-bounds NoRoom = (omega arith, omega arith)
+
 pub number-positive : (e : Fault) → 1 ≤ number e
-number-positive CutShort = omega arith
-number-positive Unlisted = omega arith
-number-positive LeftOver = omega arith
-number-positive TypeTooLarge = omega arith
-number-positive TooManyNodes = omega arith
-number-positive NotNullable = omega arith
-number-positive WrongShape = omega arith
-number-positive SliceCutShort = omega arith
-number-positive SliceUnlisted = omega arith
-number-positive SliceLeftOver = omega arith
-number-positive SliceMisplaced = omega arith
-number-positive NoRoom = omega arith
+number-positive e = number-bounds e .0
 
 -- What the operations make of files that the rules allow
 
@@ -297,7 +300,7 @@ feed-sized slice f b = record { sized = λ w e. go w (f .input) (f .node) (f .ou
         (record { output = slice-sized ((fed (a .types) h) .sent) (output-small (a .types) (a .fits)); patch = patch-sized (leaves-allowed a h) })
 
 -- An accepted feed was of a patch file.
-fed-patch : (patch slice : List ℕ) (w : FedFiles) → Bytes patch → feed patch slice ≡ accepted w → PatchFile patch
+pub fed-patch : (patch slice : List ℕ) (w : FedFiles) → Bytes patch → feed patch slice ≡ accepted w → PatchFile patch
 unfolding feed
 fed-patch patch slice w b e =
     let x = go-on-accepted (patch-file patch) (λ c. go-on (slice-file (c .patch .input) slice) (λ p. accepted (fed-files (c .patch .input) (c .patch .node) p))) w e in

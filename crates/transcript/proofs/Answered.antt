@@ -1,0 +1,49 @@
+-- What Check and Feed answer where they are lent enough for every answer: 20 does not come.
+use mathlib.Core.Path.{_≡_, refl, sym, ap, _∙_}
+use mathlib.Core.Bool.{Bool, true}
+use mathlib.Core.List.{List}
+use Prim.Native.Nat.{ℕ, _≤_}
+use native.Mathlib.Nat.{le-trans}
+use native.Mathlib.Omega.{arith}
+use lib.ListN.{length}
+use borrow.Author.Tests.{le-leb}
+use Rattle.stream.specs.Reading.{Bytes, Result, accepted, refused}
+use Rattle.wosthile.specs.declared.Written.{Written}
+use Rattle.wosthile.specs.declared.Fed.{Fed}
+use Rattle.wosthile.specs.Answers.{check, feed, FedFiles, with-room, fits-one, fits-both, number-of, written, fed, after}
+use Rattle.wosthile.specs.Answers.Laws.{number-bounds, enough-room, both-fit, check-sized, feed-sized-of-bytes}
+use Rattle.wosthile.specs.Promises.{CheckPromise, FeedPromise}
+
+-- No number has more than two digits.
+pub number-short : {A : Type 0} (r : Result A) → number-of r ≤ 20
+number-short (accepted a) = omega arith
+number-short (refused e) = number-bounds e .1
+
+-- With room for every answer, room changes nothing.
+roomy : {A : Type 0} (fits : A → Bool) (r : Result A) → ((a : A) → r ≡ accepted a → fits a ≡ true) → with-room fits r ≡ r
+unfolding with-room
+roomy fits (accepted a) h = enough-room fits (accepted a) refl (h a refl)
+roomy fits (refused e) h = refl
+
+pub checked : (file lent : List ℕ) {answer : Written} {lent-after : List ℕ} → Bytes file → 257 ≤ length lent
+    → CheckPromise file lent answer lent-after → answer .number ≡ number-of (check file)
+unfolding written
+checked file lent b room promise =
+    ap (λ (a : Written). a .number) (promise .answers)
+    ∙ ap number-of
+    (roomy (fits-one (length lent)) (check file) (λ type e. le-leb (length type) (length lent) (le-trans (check-sized file b .sized type e .short) room)))
+
+-- A feed with its outcome, 20 aside.
+pub record FedBy (outcome : Result FedFiles) (output left : List ℕ) (answer : Fed) (output-after left-after : List ℕ) : Type 0 where
+  pub answers : answer ≡ fed outcome
+  pub output-buffer : output-after ≡ after (λ w. w .output) outcome output
+  pub left-buffer : left-after ≡ after (λ w. w .patch) outcome left
+
+pub fed-by : (patch slice output left : List ℕ) {answer : Fed} {output-after left-after : List ℕ} → Bytes patch → Bytes slice
+    → 513 ≤ length output → 8482 ≤ length left → FeedPromise patch slice output left answer output-after left-after
+    → FedBy (feed patch slice) output left answer output-after left-after
+fed-by patch slice output left b c h k promise =
+    let e =
+      roomy (fits-both (length output) (length left)) (feed patch slice)
+          (λ w e. let s = feed-sized-of-bytes patch slice b c .sized w e in both-fit w (le-trans (s .output .short) h) (le-trans (s .patch .short) k)) in
+    record { answers = rw e at (promise .answers); output-buffer = rw e at (promise .output-buffer); left-buffer = rw e at (promise .left-buffer) }

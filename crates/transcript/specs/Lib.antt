@@ -1,0 +1,2 @@
+pub mod Transcripts
+pub mod Playing
