@@ -1,2 +1,3 @@
 pub mod Transcripts
 pub mod Playing
+pub mod Sessions

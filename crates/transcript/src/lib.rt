@@ -6,8 +6,8 @@ use wosthile::check;
 use wosthile::feed;
 use writing::copy;
 ghost use mathlib.Core.Path.{_≡_};
-ghost use Prim.Native.Nat.{_+_, _*_, _≤_, _<_};
-ghost use lib.ListN.{length};
+ghost use Prim.Native.Nat.{_*_, _-_, _≤_, _<_};
+ghost use lib.ListN.{length, take, drop};
 ghost use Rattle.stream.specs.Buffers.{front};
 ghost use Rattle.writing.specs.Writing.Laws.{Begun};
 ghost use Rattle.transcript.specs.Transcripts.{hexadecimal, number-line, fed-line};
@@ -209,4 +209,18 @@ pub fn play(input: &[u8], stage: Stage, patch: &mut [u8], out: &mut [u8]) -> Pla
         taken,
         written,
     }
+}
+
+// Moves the bytes from `from` to `held` to the front, so that more can be read behind them, and says how many there are.
+pub fn move_to_front(from: usize, held: usize, input: &mut [u8]) -> usize
+    requires { ⌜ (from ≤ held) × (held ≤ length (now input)) ⌝ }
+    ensures { λ r. ⌜ Begun (take (held - from) (drop from (now (input .entry)))) (now (input .entry)) (now (input .exit)) r ⌝ }
+{
+    let kept = held - from;
+    let mut at = 0;
+    while at < kept {
+        input[at] = input[from + at];
+        at += 1;
+    }
+    kept
 }

@@ -1,0 +1,109 @@
+// The program of document 01: it reads a patch and slices, each after its length, from standard input, feeds them in turn, and
+// prints a line for each slice. What it prints for what it reads is the library's (`transcript`); here are the reads and writes.
+use libc::STDIN_FILENO;
+use libc::STDOUT_FILENO;
+use transcript::Stage;
+use transcript::move_to_front;
+use transcript::play;
+ghost use mathlib.Core.Path.{_≡_};
+ghost use Prim.Native.Nat.{_≤_};
+ghost use lib.ListN.{length};
+ghost use Rattle.transcript.specs.Playing.{Inside};
+
+// Where the program stands: its stage, the part of the input that it holds, from one place to another, and whether it goes on.
+struct Desk {
+    stage: Stage,
+    from: usize,
+    held: usize,
+    open: bool,
+}
+
+// Room for two of the longest files, so that a read is a large one whatever is held.
+fn input_buffer() -> [u8; 131072]
+    ensures { λ r. ⌜ 131072 ≡ length r ⌝ }
+{
+    [0; 131072]
+}
+
+fn patch_buffer() -> [u8; 8482]
+    ensures { λ r. ⌜ 8482 ≡ length r ⌝ }
+{
+    [0; 8482]
+}
+
+// Reads what has come behind the bytes that are held; at the end of the input the program ends.
+fn read_more(stage: Stage, from: usize, held: usize, input: &mut [u8]) -> Desk
+    requires { ⌜ (from ≤ held) × (held ≤ length (now input)) ⌝ }
+    ensures { λ r. ⌜ (r .stage ≡ stage) × (r .from ≤ r .held) × (r .held ≤ length (now (input .exit))) ⌝ }
+{
+    let kept = move_to_front(from, held, input);
+    let room: &mut [u8] = &mut input[kept..];
+    let got = libc::read(STDIN_FILENO, room);
+    let came = io::count(got, room);
+    Desk {
+        stage,
+        from: 0,
+        held: kept + came,
+        open: came > 0,
+    }
+}
+
+// A program that has stopped reads no more.
+fn has_stopped(stage: Stage) -> bool {
+    match stage {
+        Stage::Awaiting => false,
+        Stage::Feeding(_) => false,
+        Stage::Stopped => true,
+    }
+}
+
+// Plays what is held and writes its lines; reads more if no file was whole.
+fn turn(desk: Desk, input: &mut [u8], patch: &mut [u8], lines: &mut [u8]) -> Desk
+    requires { ⌜ Inside (desk .stage) (now patch) × (8482 ≤ length (now patch)) × (desk .from ≤ desk .held) × (desk .held ≤ length (now input)) ⌝ }
+    ensures { λ r. ⌜ Inside (r .stage) (now (patch .exit)) × (r .from ≤ r .held) × (r .held ≤ length (now (input .exit))) ⌝ }
+{
+    let before = desk.stage;
+    let from = desk.from;
+    let held = desk.held;
+    let played = play(&input[from..held], before, patch, lines);
+    let stage = played.stage;
+    let taken = played.taken;
+    let written = played.written;
+    let is_written = io::write_all(STDOUT_FILENO, &lines[..written]);
+    if !is_written || has_stopped(stage) {
+        return Desk {
+            stage,
+            from,
+            held,
+            open: false,
+        };
+    }
+    if taken == 0 {
+        return read_more(stage, from, held, input);
+    }
+    Desk {
+        stage,
+        from: from + taken,
+        held,
+        open: true,
+    }
+}
+
+// A loop that is proved has to end, and nothing says that the input does: it counts its turns down from a number that no run
+// uses up.
+fn main() {
+    let mut input = input_buffer();
+    let mut patch = patch_buffer();
+    let mut lines = io::large_buffer();
+    let mut desk = Desk {
+        stage: Stage::Awaiting,
+        from: 0,
+        held: 0,
+        open: true,
+    };
+    let mut turns = u64::MAX;
+    while turns > 0 && desk.open {
+        desk = turn(desk, &mut input, &mut patch, &mut lines);
+        turns -= 1;
+    }
+}
