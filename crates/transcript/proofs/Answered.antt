@@ -44,6 +44,6 @@ pub fed-by : (patch slice output left : List ℕ) {answer : Fed} {output-after l
     → FedBy (feed patch slice) output left answer output-after left-after
 fed-by patch slice output left b c h k promise =
     let e =
-      roomy (fits-both (length output) (length left)) (feed patch slice)
-          (λ w e. let s = feed-sized-of-bytes patch slice b c .sized w e in both-fit w (le-trans (s .output .short) h) (le-trans (s .patch .short) k)) in
+    roomy (fits-both (length output) (length left)) (feed patch slice)
+    (λ w e. let s = feed-sized-of-bytes patch slice b c .sized w e in both-fit w (le-trans (s .output .short) h) (le-trans (s .patch .short) k)) in
     record { answers = rw e at (promise .answers); output-buffer = rw e at (promise .output-buffer); left-buffer = rw e at (promise .left-buffer) }

@@ -116,7 +116,7 @@ module _ (patch slice lent : List ℕ) (n : ℕ) where
   slice-fed w f e room {patch-left} {lent-after} {kept} {written} long stands begun =
       let keeps = front-length (w .patch) patch (omega (arith, f .patch-short)) in
       let fields : line (accepted w) ≡ fed-line (f .output) (f .type) =
-        ap₂ fed-line (ap contents (f .output-is) ∙ section-contents (f .output) []) (ap contents (f .patch-is) ∙ section-contents (f .type) (f .nodes)) in
+      ap₂ fed-line (ap contents (f .output-is) ∙ section-contents (f .output) []) (ap contents (f .patch-is) ∙ section-contents (f .type) (f .nodes)) in
       record {
         inside = omega (arith, f .patch-short, ap length stands, keeps);
         long = ap length stands ∙ keeps;

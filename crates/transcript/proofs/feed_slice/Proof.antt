@@ -146,10 +146,11 @@ part-put-fed-end-2 c = let n = c .before .before .before in omega (arith, type-c
 
 put-fed-requires : tie.Need-put-fed-requires
 put-fed-requires c κs =
-    let n = c .before .before .before .before .before in
-    (omega (arith, ap length (output-field n), sent n .sections .output-short),
+    let n = c .before .before .before .before .before in (
+      omega (arith, ap length (output-field n), sent n .sections .output-short),
       omega (arith, ap length (type-field n), sent n .sections .type-short),
-      start (call n) .pre .0 .line-room)
+      start (call n) .pre .0 .line-room,
+    )
 
 kept-inside : (c : tie.After-count-of) → call c .feed .result .patch ≤ length (left-of (call c))
 kept-inside c = let s = sent c in omega (arith, s .kept, s .sections .patch-short, s .left-long, start (call c) .pre .2)

@@ -62,8 +62,8 @@ loop-again c =
     let all = drop (args .from) (args .input .now) in
     let byte = moved (args .from) (l .loop .at) (args .input .now) (l .loop .input) (l .loop .inv .1) (omega arith) in
     let one-more : take (l .loop .at + 1) all ≡ take (l .loop .at) all ++ getD all (l .loop .at) 0 ∷ [] =
-      ap (λ n. take n all) (add-one (l .loop .at))
-      ∙ take-suc all (l .loop .at) 0 (omega (arith, length-drop (args .from) (args .input .now))) in
+    ap (λ n. take n all) (add-one (l .loop .at))
+    ∙ take-suc all (l .loop .at) 0 (omega (arith, length-drop (args .from) (args .input .now))) in
     (omega arith, rw (one-more, byte) (byte-on (l .loop .inv .1) _ (omega arith)))
 
 same-length : tie.Need-same-length Inv-loop μ-loop

@@ -59,11 +59,12 @@ loop-again c =
     let l = c .before .before .before .before in
     let start = l .before .before .before in
     let s = start .args .source .now in
-    let twice : 2 * (l .loop .at + 1) ≡ 2 * l .loop .at + 1 + 1 = omega arith in
-    (omega arith,
+    let twice : 2 * (l .loop .at + 1) ≡ 2 * l .loop .at + 1 + 1 = omega arith in (
+      omega arith,
       rw (hexadecimal-more s (l .loop .at) (omega arith), twice, c .before .digit .ensures, c .digit2 .ensures)
           (byte-on (byte-on (l .loop .inv .1) _ (omega arith)) _ (omega arith)),
-      simp length-set (l .loop .inv .2))
+      simp length-set (l .loop .inv .2),
+    )
 
 same-length : tie.Need-same-length Inv-loop μ-loop
 same-length c = c .before .loop .inv .2
