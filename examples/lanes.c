@@ -1,0 +1,283 @@
+#include "lanes.h"
+
+#include <assert.h>
+#include <stdio.h>
+#include <stdlib.h>
+#include <string.h>
+
+enum { TYPE_EMPTY = 0, TYPE_SEQUENCE = 3, TYPE_BESIDE = 4 };
+enum { CUE_COME = 2, LEVEL_COME = 4, IN_FIRST = 5, CROSSED = 6 };
+
+/* Reads the part that begins at a node, and notes the lanes below it. False if the bytes end before the part does. */
+static bool read_part(struct lanes *lanes, struct file type, size_t *node)
+{
+    size_t here = *node;
+    if (here >= TYPE_NODES_MAX || 2 + here >= type.length || type.bytes[2 + here] > TYPE_BESIDE) {
+        return false;
+    }
+    struct start_node *start = &lanes->start[here];
+    uint8_t kind = type.bytes[2 + here];
+    lanes->type[2 + here] = kind;
+    lanes->origin[here] = (uint8_t)here;
+    ++*node;
+    if (kind < TYPE_SEQUENCE) {
+        lanes->count++;
+        *start = (struct start_node){{lanes->count, lanes->count}, 0};
+        return true;
+    }
+    start->lanes.first = lanes->count + 1;
+    if (!read_part(lanes, type, node)) {
+        return false;
+    }
+    start->second = *node;
+    bool whole = read_part(lanes, type, node);
+    start->lanes.last = lanes->count;
+    return whole;
+}
+
+static void put_count(struct lanes *lanes, size_t nodes)
+{
+    lanes->nodes = nodes;
+    lanes->type[0] = (uint8_t)(nodes / 256);
+    lanes->type[1] = (uint8_t)(nodes % 256);
+}
+
+bool lanes_start(struct lanes *lanes, struct file type)
+{
+    size_t nodes = 0;
+    *lanes = (struct lanes){0};
+    if (!read_part(lanes, type, &nodes) || type.length != 2 + nodes || type.bytes[0] * 256u + type.bytes[1] != nodes) {
+        return false;
+    }
+    put_count(lanes, nodes);
+    return true;
+}
+
+/* A walk down a slice and the type in force together, writing what is left of the type. */
+struct walk {
+    const struct lanes *before;
+    struct file slice;
+    size_t node, byte; /* the next ones */
+    bool astray;       /* a byte or a node was not there, or not of its place; never so for an admitted slice */
+    struct lanes *after;
+    size_t left; /* how many nodes are left so far */
+    struct lane_events *events;
+};
+
+static uint8_t next_byte(struct walk *walk)
+{
+    if (walk->byte >= walk->slice.length) {
+        walk->astray = true;
+        return 0;
+    }
+    return walk->slice.bytes[walk->byte++];
+}
+
+/* The node that the walk has come to, as its place in the type in force. */
+static size_t next_node(struct walk *walk)
+{
+    if (walk->node >= walk->before->nodes) {
+        walk->astray = true;
+        return 0;
+    }
+    return walk->node++;
+}
+
+/* Leaves a node; there are never more left than the walk has passed, since what a crossing drops is taken back. */
+static void leave(struct walk *walk, uint8_t kind, uint8_t origin)
+{
+    if (walk->left >= TYPE_NODES_MAX) {
+        walk->astray = true;
+        return;
+    }
+    walk->after->type[2 + walk->left] = kind;
+    walk->after->origin[walk->left] = origin;
+    walk->left++;
+}
+
+static void report(struct walk *walk, struct lane_event event)
+{
+    if (walk->events->count < TYPE_NODES_MAX) {
+        walk->events->list[walk->events->count++] = event;
+    }
+}
+
+/* Leaves a whole part as it is. */
+static void leave_part(struct walk *walk)
+{
+    for (size_t parts = 1; parts > 0 && !walk->astray; parts--) {
+        size_t node = next_node(walk);
+        uint8_t kind = walk->before->type[2 + node];
+        leave(walk, kind, walk->before->origin[node]);
+        parts += kind >= TYPE_SEQUENCE ? 2 : 0;
+    }
+}
+
+static void walk_leaf(struct walk *walk, uint8_t kind, uint8_t origin)
+{
+    unsigned lane = walk->before->start[origin].lanes.first;
+    uint8_t come = next_byte(walk);
+    if (come == CUE_COME) {
+        report(walk, (struct lane_event){.kind = EVENT_CUE, .lane = lane});
+    } else if (come == LEVEL_COME) {
+        unsigned high = next_byte(walk);
+        report(walk, (struct lane_event){.kind = EVENT_LEVEL, .lane = lane, .value = high * 256 + next_byte(walk)});
+    }
+    leave(walk, come == CUE_COME || come == LEVEL_COME ? TYPE_EMPTY : kind, origin);
+}
+
+static void walk_part(struct walk *walk);
+
+static void walk_sequence(struct walk *walk, uint8_t origin)
+{
+    if (next_byte(walk) != CROSSED) {
+        leave(walk, TYPE_SEQUENCE, origin);
+        walk_part(walk);
+        leave_part(walk);
+        return;
+    }
+    size_t left = walk->left;
+    walk_part(walk);
+    walk->left = left;
+    const struct start_node *start = walk->before->start;
+    struct lane_range from = start[origin + 1].lanes, to = start[start[origin].second].lanes;
+    report(walk, (struct lane_event){.kind = EVENT_CROSSING, .from = from, .to = to});
+    walk_part(walk);
+}
+
+static void walk_part(struct walk *walk)
+{
+    size_t node = next_node(walk);
+    if (walk->astray) {
+        return;
+    }
+    uint8_t kind = walk->before->type[2 + node], origin = walk->before->origin[node];
+    if (kind < TYPE_SEQUENCE) {
+        walk_leaf(walk, kind, origin);
+    } else if (kind == TYPE_SEQUENCE) {
+        walk_sequence(walk, origin);
+    } else {
+        next_byte(walk);
+        leave(walk, kind, origin);
+        walk_part(walk);
+        walk_part(walk);
+    }
+}
+
+uint32_t lanes_follow(struct lanes *lanes, struct file slice, struct lane_events *events)
+{
+    events->count = 0;
+    wosthile_admitted admitted = wosthile_admit(lanes->type, 2 + lanes->nodes, slice.bytes, slice.length);
+    if (admitted.number != WOSTHILE_ACCEPTED) {
+        return admitted.number;
+    }
+    struct lanes before = *lanes;
+    struct walk walk = {.before = &before, .slice = slice, .byte = 2, .after = lanes, .events = events};
+    walk_part(&walk);
+    assert(!walk.astray);
+    put_count(lanes, walk.left);
+    return WOSTHILE_ACCEPTED;
+}
+
+/* How many bytes the character at the front of a text has in UTF-8; 0 if it is none that can be printed. */
+static size_t character_length(const char *text)
+{
+    const unsigned char *byte = (const unsigned char *)text;
+    if (byte[0] < 0x80) {
+        return byte[0] >= 0x20 && byte[0] != 0x7f;
+    }
+    size_t length = byte[0] >= 0xf0 ? 4 : byte[0] >= 0xe0 ? 3 : 2;
+    uint32_t character = byte[0] & (0xffu >> (length + 1));
+    for (size_t place = 1; place < length; place++) {
+        if ((byte[place] & 0xc0) != 0x80) {
+            return 0;
+        }
+        character = character << 6 | (byte[place] & 0x3f);
+    }
+    static const uint32_t least[5] = {0, 0, 0xa0, 0x800, 0x10000};
+    bool lead = byte[0] >= 0xc2 && byte[0] <= 0xf4;
+    bool surrogate = character >= 0xd800 && character <= 0xdfff;
+    bool listed = character >= least[length] && character <= 0x10ffff && (character & 0xfffe) != 0xfffe;
+    return lead && listed && !surrogate ? length : 0;
+}
+
+void clean_text(char *to, size_t room, const char *text)
+{
+    size_t written = 0;
+    while (*text != '\0') {
+        size_t length = character_length(text);
+        size_t bytes = length == 0 ? 1 : length;
+        if (written + bytes >= room) {
+            break;
+        }
+        memcpy(to + written, length == 0 ? "?" : text, bytes);
+        written += bytes;
+        text += bytes;
+    }
+    to[written] = '\0';
+}
+
+/* The name that a line gives, and its lane as a number; NULL if the line is not of that side or names no lane. */
+static const char *named_lane(const char *line, const char *side, unsigned *lane)
+{
+    size_t length = strlen(side);
+    if (strncmp(line, side, length) != 0) {
+        return NULL;
+    }
+    char *behind;
+    unsigned long number = strtoul(line + length, &behind, 10);
+    if (number < 1 || number > LANES_MAX || behind[0] != ' ' || behind[1] == '\0') {
+        return NULL;
+    }
+    *lane = (unsigned)number;
+    return behind + 1;
+}
+
+static void take_line(struct lane_names *names, const char *line)
+{
+    unsigned lane;
+    const char *in = named_lane(line, "in ", &lane);
+    if (in != NULL) {
+        clean_text(names->in[lane], LANE_NAME_BYTES, in);
+    }
+    const char *out = named_lane(line, "out ", &lane);
+    if (out != NULL) {
+        clean_text(names->out[lane], LANE_NAME_BYTES, out);
+    }
+}
+
+/* Opens the file of names beside a show; NULL if there is none. */
+static FILE *open_names(const char *show_path)
+{
+    size_t length = strlen(show_path);
+    if (length >= 5 && strcmp(show_path + length - 5, ".show") == 0) {
+        length -= 5;
+    }
+    char *path = malloc(length + sizeof ".lanes");
+    if (path == NULL) {
+        return NULL;
+    }
+    memcpy(path, show_path, length);
+    memcpy(path + length, ".lanes", sizeof ".lanes");
+    FILE *stream = fopen(path, "r");
+    free(path);
+    return stream;
+}
+
+void lane_names_read(struct lane_names *names, const char *show_path)
+{
+    for (unsigned lane = 1; lane <= LANES_MAX; lane++) {
+        snprintf(names->in[lane], LANE_NAME_BYTES, "lane %u", lane);
+        snprintf(names->out[lane], LANE_NAME_BYTES, "lane %u", lane);
+    }
+    FILE *stream = open_names(show_path);
+    if (stream == NULL) {
+        return;
+    }
+    char line[256];
+    while (fgets(line, sizeof line, stream) != NULL) {
+        line[strcspn(line, "\r\n")] = '\0';
+        take_line(names, line);
+    }
+    fclose(stream);
+}

@@ -1,0 +1,74 @@
+/*
+ * Lanes: the leaves of a type as it was at the start, numbered from 1, left to right. Slices take parts of the type
+ * away as they come; this module keeps which part of the starting type each part still there is, so that what a slice
+ * brings can be told by its lane through the whole show.
+ */
+#ifndef LANES_H
+#define LANES_H
+
+#include "show.h"
+
+#include <stdbool.h>
+#include <wosthile.h>
+
+/* A type of 255 nodes has 128 leaves. Each of its nodes brings one event at most in the whole show. */
+enum { LANES_MAX = 128, TYPE_NODES_MAX = 255, LANE_NAME_BYTES = 64 };
+
+/* Lanes that stand next to one another. */
+struct lane_range {
+    unsigned first, last;
+};
+
+/* What a slice brings: a cue or a level in a lane, or the crossing of a sequence from its first part to its second. */
+struct lane_event {
+    enum { EVENT_CUE, EVENT_LEVEL, EVENT_CROSSING } kind;
+    unsigned lane;              /* of a cue or a level */
+    unsigned value;             /* of a level */
+    struct lane_range from, to; /* of a crossing: the lanes of the first part, and of the second */
+};
+
+/* In the order in which a stream brings them: a crossing stands behind its first part and before its second. */
+struct lane_events {
+    size_t count;
+    struct lane_event list[TYPE_NODES_MAX];
+};
+
+/* The lanes below a node of the starting type; of a sequence, also where its second part stands. */
+struct start_node {
+    struct lane_range lanes;
+    size_t second;
+};
+
+struct lanes {
+    unsigned count;
+    struct start_node start[TYPE_NODES_MAX];
+    size_t nodes;                         /* of the type in force */
+    uint8_t type[WOSTHILE_TYPE_FILE_MAX]; /* its file */
+    uint8_t origin[TYPE_NODES_MAX];       /* for each of its nodes, the node of the starting type that it is */
+};
+
+/* Begins with a type file; false if it is not one, or is cut or too large. */
+bool lanes_start(struct lanes *lanes, struct file type);
+
+/*
+ * Tells what a slice brings, and moves on to what it leaves. The answer is 0, or the number for which wosthile_admit
+ * refuses the slice; then there are no events, and nothing moves.
+ */
+uint32_t lanes_follow(struct lanes *lanes, struct file slice, struct lane_events *events);
+
+/* The names of lanes, by number; place 0 is not used. */
+struct lane_names {
+    char in[LANES_MAX + 1][LANE_NAME_BYTES];
+    char out[LANES_MAX + 1][LANE_NAME_BYTES];
+};
+
+/*
+ * A lane is named `lane 3` unless the text file beside the show, X.lanes beside X.show, has a line for it: `in 3
+ * Saturn's rings` for a lane of the input, `out 2 dome lamp` for one of the output. Other lines say nothing.
+ */
+void lane_names_read(struct lane_names *names, const char *show_path);
+
+/* Copies a text, with ? for what is no printable character in UTF-8, and as much of it as there is room for. */
+void clean_text(char *to, size_t room, const char *text);
+
+#endif
