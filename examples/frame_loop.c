@@ -1,0 +1,369 @@
+/*
+ * A frame loop: it takes what has come in since the frame before, feeds it to the patch, and sends on what the patch
+ * sends. Here a second thread plays the part of the outside: it delivers the slices of a recorded show, some of them
+ * late, and what the loop sends is printed.
+ *
+ *   frame_loop SHOW [--seed N] [--frames-per-second N | --fast]
+ *
+ * At 60 frames a second, or another number, the two threads have clocks of their own, and it is up to them how the
+ * stream is cut into feeds. With --fast they go in lock step, frame by frame, so that the seed alone decides it.
+ */
+#define _POSIX_C_SOURCE 200809L /* for clock_nanosleep */
+#include "feeding.h"
+#include "lanes.h"
+
+#include <errno.h>
+#include <pthread.h>
+#include <stdio.h>
+#include <stdlib.h>
+#include <time.h>
+
+/*
+ * Where the two threads meet: the slices that wait for the next frame, as one. Nobody prints, sleeps or feeds while
+ * holding the lock; it is held for a join at most, so a slow logger never keeps the frame waiting.
+ */
+struct mailbox {
+    pthread_mutex_t lock;
+    pthread_cond_t changed; /* one of the counts below has; only lock step waits for it */
+    struct type begins;     /* what is left of the input type where the waiting slices begin */
+    struct joined waiting;
+    size_t delivered; /* the last frame for which everything has been delivered */
+    size_t taken;     /* the last frame that has been taken */
+    bool over;        /* nothing will be delivered any more */
+};
+
+/* How the two threads keep time. */
+struct pace {
+    bool lock_step;
+    long nanoseconds; /* between frames, unless in lock step */
+};
+
+struct player {
+    const struct show *show;
+    const size_t *arrivals;
+    struct pace pace;
+    struct mailbox mailbox;
+    size_t refused; /* slices refused at the door; the producer's until its thread has ended */
+};
+
+/* What cannot happen as long as the library keeps its promises, or what leaves nothing to go on with. */
+static void stop(const char *reason)
+{
+    fprintf(stderr, "%s\n", reason);
+    exit(2);
+}
+
+static void print_refusal(size_t frame, const char *what, uint32_t number)
+{
+    printf("frame %zu: %s is refused with %u: %s\n", frame, what, number, wosthile_sentence(number));
+}
+
+static void mailbox_open(struct mailbox *mailbox, struct file input_type)
+{
+    *mailbox = (struct mailbox){0};
+    memcpy(mailbox->begins.bytes, input_type.bytes, input_type.length);
+    mailbox->begins.length = input_type.length;
+    if (pthread_mutex_init(&mailbox->lock, NULL) != 0 || pthread_cond_init(&mailbox->changed, NULL) != 0) {
+        stop("There is no lock for the mailbox.");
+    }
+}
+
+static void mailbox_close(struct mailbox *mailbox)
+{
+    pthread_cond_destroy(&mailbox->changed);
+    pthread_mutex_destroy(&mailbox->lock);
+}
+
+/* Leaves a slice in the mailbox. The door admits only what the feed will accept; the answer is the number otherwise. */
+static uint32_t mailbox_deliver(struct mailbox *mailbox, struct file slice)
+{
+    pthread_mutex_lock(&mailbox->lock);
+    uint32_t number = joined_add(&mailbox->waiting, type_file(&mailbox->begins), slice);
+    pthread_mutex_unlock(&mailbox->lock);
+    return number;
+}
+
+/* Says that everything for a frame has been delivered. */
+static void mailbox_finish_frame(struct mailbox *mailbox, size_t frame, bool over)
+{
+    pthread_mutex_lock(&mailbox->lock);
+    mailbox->delivered = frame;
+    mailbox->over = over;
+    pthread_cond_broadcast(&mailbox->changed);
+    pthread_mutex_unlock(&mailbox->lock);
+}
+
+static void mailbox_await_taken(struct mailbox *mailbox, size_t frame)
+{
+    pthread_mutex_lock(&mailbox->lock);
+    while (mailbox->taken < frame) {
+        pthread_cond_wait(&mailbox->changed, &mailbox->lock);
+    }
+    pthread_mutex_unlock(&mailbox->lock);
+}
+
+/* The slices that wait were admitted, so this is accepted; what they leave is where the next ones begin. */
+static void move_on(struct type *begins, struct file slice)
+{
+    struct type left;
+    wosthile_written written =
+        wosthile_left(begins->bytes, begins->length, slice.bytes, slice.length, left.bytes, sizeof left.bytes);
+    if (written.number != WOSTHILE_ACCEPTED) {
+        stop("A slice that was admitted is refused.");
+    }
+    left.length = written.written;
+    *begins = left;
+}
+
+/* Takes what waits, which may be nothing. False if nothing waits and nothing will come. */
+static bool mailbox_take(struct mailbox *mailbox, size_t frame, bool lock_step, struct joined *taken)
+{
+    pthread_mutex_lock(&mailbox->lock);
+    while (lock_step && mailbox->delivered < frame && !mailbox->over) {
+        pthread_cond_wait(&mailbox->changed, &mailbox->lock);
+    }
+    *taken = mailbox->waiting;
+    bool more = taken->count > 0 || !mailbox->over;
+    if (taken->count > 0) {
+        move_on(&mailbox->begins, joined_file(taken));
+        mailbox->waiting.count = 0;
+    }
+    mailbox->taken = frame;
+    pthread_cond_broadcast(&mailbox->changed);
+    pthread_mutex_unlock(&mailbox->lock);
+    return more;
+}
+
+/* Sleeps until the next frame is due. The times are absolute, so a late frame does not make the later ones late. */
+static void await_frame(struct timespec *due, struct pace pace)
+{
+    enum { SECOND = 1000000000 };
+    due->tv_sec += (due->tv_nsec + pace.nanoseconds) / SECOND;
+    due->tv_nsec = (due->tv_nsec + pace.nanoseconds) % SECOND;
+    while (clock_nanosleep(CLOCK_MONOTONIC, TIMER_ABSTIME, due, NULL) == EINTR) {
+    }
+}
+
+/* The outside: delivers each slice in the frame in which it arrives. */
+static void *produce(void *argument)
+{
+    struct player *player = argument;
+    const struct show *show = player->show;
+    struct timespec due;
+    clock_gettime(CLOCK_MONOTONIC, &due);
+    size_t next = 0;
+    for (size_t frame = 1; next < show->count; frame++) {
+        if (player->pace.lock_step) {
+            mailbox_await_taken(&player->mailbox, frame - 1);
+        } else {
+            await_frame(&due, player->pace);
+        }
+        for (; next < show->count && player->arrivals[next] <= frame; next++) {
+            uint32_t number = mailbox_deliver(&player->mailbox, show->slices[next]);
+            if (number != WOSTHILE_ACCEPTED) {
+                char what[40];
+                snprintf(what, sizeof what, "recorded slice %zu", next + 1);
+                print_refusal(frame, what, number);
+                player->refused++;
+            }
+        }
+        mailbox_finish_frame(&player->mailbox, frame, next == show->count);
+    }
+    return NULL;
+}
+
+static void print_range(const char *before, struct lane_range lanes, const struct lane_names *names)
+{
+    printf("%s %s", before, names->out[lanes.first]);
+    if (lanes.last > lanes.first) {
+        printf(" .. %s", names->out[lanes.last]);
+    }
+}
+
+static void print_event(const struct lane_event *event, const struct lane_names *names)
+{
+    if (event->kind == EVENT_CUE) {
+        printf("    %s: cue\n", names->out[event->lane]);
+    } else if (event->kind == EVENT_LEVEL) {
+        printf("    %s: level %u\n", names->out[event->lane], event->value);
+    } else {
+        print_range("    crossing from", event->from, names);
+        print_range(" to", event->to, names);
+        printf("\n");
+    }
+}
+
+/* Where the output goes: here it is printed, in the words of the lanes. */
+struct sender {
+    struct lanes lanes;
+    struct lane_names names;
+};
+
+/* Sends on what a frame gave; a frame that gave nothing new prints nothing. */
+static void send_on(struct sender *sender, size_t frame, size_t slices, struct file output)
+{
+    struct lane_events events;
+    if (lanes_follow(&sender->lanes, output, &events) != WOSTHILE_ACCEPTED) {
+        stop("The output is not a slice of what the outputs before it leave.");
+    }
+    if (events.count == 0) {
+        return;
+    }
+    printf("frame %zu", frame);
+    if (slices > 1) {
+        printf(", %zu slices as one", slices);
+    }
+    printf("\n");
+    for (size_t index = 0; index < events.count; index++) {
+        print_event(&events.list[index], &sender->names);
+    }
+}
+
+/* What the input type left still asks for: a type with no cue, level or sequence in it is nullable. */
+static void print_owed(struct file type)
+{
+    size_t owed[5] = {0};
+    for (size_t place = 2; place < type.length; place++) {
+        owed[type.bytes[place] % 5]++;
+    }
+    if (owed[1] + owed[2] + owed[3] == 0) {
+        printf("The input is complete: nothing is owed.\n");
+    } else {
+        printf("The input is not complete; still owed: cues %zu, levels %zu, crossings %zu.\n", owed[1], owed[2],
+               owed[3]);
+    }
+}
+
+struct tally {
+    size_t frames, feeds, refused;
+};
+
+/* The frame loop. A refused feed leaves the patch as it is, and the show goes on. */
+static struct tally draw_frames(struct player *player, struct patch *patch, struct sender *sender)
+{
+    struct tally tally = {0};
+    struct joined taken;
+    uint8_t output[WOSTHILE_SLICE_FILE_MAX];
+    struct timespec due;
+    clock_gettime(CLOCK_MONOTONIC, &due);
+    for (size_t frame = 1;; frame++) {
+        if (!player->pace.lock_step) {
+            await_frame(&due, player->pace);
+        }
+        if (!mailbox_take(&player->mailbox, frame, player->pace.lock_step, &taken)) {
+            return tally;
+        }
+        tally.frames++;
+        if (taken.count == 0) {
+            continue;
+        }
+        wosthile_fed fed = patch_feed(patch, joined_file(&taken), output);
+        if (fed.number != WOSTHILE_ACCEPTED) {
+            print_refusal(frame, "the feed", fed.number);
+            tally.refused++;
+            continue;
+        }
+        tally.feeds++;
+        send_on(sender, frame, taken.count, (struct file){output, fed.output});
+    }
+}
+
+/* Plays the show from an accepted patch: the producer in a thread of its own, the frame loop in this one. */
+static void play(struct player *player, struct patch *patch, struct sender *sender)
+{
+    pthread_t producer;
+    mailbox_open(&player->mailbox, patch_input_type(patch));
+    player->mailbox.over = player->show->count == 0;
+    if (pthread_create(&producer, NULL, produce, player) != 0) {
+        stop("There is no thread for the producer.");
+    }
+    struct tally tally = draw_frames(player, patch, sender);
+    pthread_join(producer, NULL);
+    mailbox_close(&player->mailbox);
+    printf("The show is over: %zu frames, %zu slices, %zu feeds, %zu refused.\n", tally.frames, player->show->count,
+           tally.feeds, tally.refused + player->refused);
+    print_owed(patch_input_type(patch));
+}
+
+/* Checks the patch of the show and plays it; the answer is the exit status. */
+static int check_and_play(const char *path, const struct show *show, uint64_t seed, struct pace pace)
+{
+    struct patch patch;
+    struct type output_type;
+    struct sender sender;
+    uint32_t number = patch_start(&patch, show->patch, &output_type);
+    if (number != WOSTHILE_ACCEPTED) {
+        printf("The patch is refused with %u: %s\n", number, wosthile_sentence(number));
+        return 1;
+    }
+    if (!lanes_start(&sender.lanes, type_file(&output_type))) {
+        stop("The type that the patch gives cannot be read.");
+    }
+    lane_names_read(&sender.names, path);
+    size_t *arrivals = calloc(show->count + 1, sizeof *arrivals);
+    if (arrivals == NULL) {
+        stop("There is not enough memory for the show.");
+    }
+    show_arrivals(seed, show->count, arrivals);
+    struct player player = {.show = show, .arrivals = arrivals, .pace = pace};
+    play(&player, &patch, &sender);
+    free(arrivals);
+    return 0;
+}
+
+struct words {
+    const char *path;
+    uint64_t seed;
+    unsigned long frames_per_second;
+    bool fast;
+};
+
+/* A number and nothing else. */
+static bool read_number(const char *word, unsigned long long *number)
+{
+    char *behind;
+    errno = 0;
+    *number = strtoull(word, &behind, 10);
+    return word[0] >= '0' && word[0] <= '9' && *behind == '\0' && errno == 0;
+}
+
+static bool read_words(int count, char **list, struct words *words)
+{
+    *words = (struct words){.frames_per_second = 60};
+    for (int index = 1; index < count; index++) {
+        unsigned long long number = 0;
+        bool numbered = index + 1 < count && read_number(list[index + 1], &number);
+        if (strcmp(list[index], "--fast") == 0) {
+            words->fast = true;
+        } else if (strcmp(list[index], "--seed") == 0 && numbered) {
+            words->seed = number;
+            index++;
+        } else if (strcmp(list[index], "--frames-per-second") == 0 && numbered && number >= 1 && number <= 1000) {
+            words->frames_per_second = (unsigned long)number;
+            index++;
+        } else if (list[index][0] != '-' && words->path == NULL) {
+            words->path = list[index];
+        } else {
+            return false;
+        }
+    }
+    return words->path != NULL;
+}
+
+int main(int count, char **list)
+{
+    struct words words;
+    struct show show;
+    if (!read_words(count, list, &words)) {
+        stop("frame_loop SHOW [--seed N] [--frames-per-second N | --fast]");
+    }
+    const char *fault = show_read(words.path, &show);
+    if (fault != NULL) {
+        fprintf(stderr, "%s: %s\n", words.path, fault);
+        return 1;
+    }
+    struct pace pace = {words.fast, 1000000000 / (long)words.frames_per_second};
+    int status = check_and_play(words.path, &show, words.seed, pace);
+    show_release(&show);
+    return status;
+}
