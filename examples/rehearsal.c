@@ -1,0 +1,352 @@
+/*
+ * A rehearsal that tells something about the next show: it feeds a recorded stream as it was recorded, then cuts it
+ * anew, many times at random, and compares what is sent and which patch is left, byte for byte.
+ *
+ *   rehearsal SHOW [CUTS] [SEED]
+ *
+ * A cut is a list of groups: each group of neighbouring slices is joined and fed as one. The first cut takes all slices
+ * as one group; for each other one it is drawn anew how readily neighbours are joined. The exit status is 0 if no cut
+ * made a difference, 1 if one did, and 2 if nothing could be compared.
+ */
+#define _POSIX_C_SOURCE 200809L /* for clock_gettime and isatty */
+#include "feeding.h"
+
+#include <errno.h>
+#include <stdbool.h>
+#include <stdio.h>
+#include <stdlib.h>
+#include <time.h>
+#include <unistd.h>
+
+/* A patch that is being fed, from its start, and all that it has sent so far. */
+struct run {
+    struct patch patch;
+    struct type output_type; /* at the start */
+    struct joined sent;
+};
+
+/* Where a call was refused, if one was. */
+struct refusal {
+    const char *call;
+    uint32_t number;
+};
+
+/* The slices of the show that were accepted as recorded. */
+struct slices {
+    struct file *list;
+    size_t count;
+};
+
+/* For each of the slices whether it stands in one group with the next. */
+struct cut {
+    bool *joins;
+    size_t count;
+};
+
+struct tally {
+    size_t feeds, largest;
+};
+
+static const struct refusal none = {"", WOSTHILE_ACCEPTED};
+
+/* Feeds a group of slices as one. A refusal by any of the calls is told, and the group is not fed. */
+static struct refusal feed_group(struct run *run, const struct file *slices, size_t size)
+{
+    struct joined group = {.count = 0};
+    for (size_t index = 0; index < size; index++) {
+        uint32_t number = joined_add(&group, patch_input_type(&run->patch), slices[index]);
+        if (number != WOSTHILE_ACCEPTED) {
+            return (struct refusal){"joining the slices", number};
+        }
+    }
+    uint8_t output[WOSTHILE_SLICE_FILE_MAX];
+    wosthile_fed fed = patch_feed(&run->patch, joined_file(&group), output);
+    if (fed.number != WOSTHILE_ACCEPTED) {
+        return (struct refusal){"the feed", fed.number};
+    }
+    uint32_t number = joined_add(&run->sent, type_file(&run->output_type), (struct file){output, fed.output});
+    return number == WOSTHILE_ACCEPTED ? none : (struct refusal){"joining the outputs", number};
+}
+
+static bool same_file(struct file one, struct file other)
+{
+    return one.length == other.length && memcmp(one.bytes, other.bytes, one.length) == 0;
+}
+
+static bool same_state(const struct run *one, const struct run *other)
+{
+    return same_file(joined_file(&one->sent), joined_file(&other->sent)) &&
+           same_file(patch_file(&one->patch), patch_file(&other->patch));
+}
+
+/* Feeds the show as recorded. A refused slice is told and left out of all cuts. */
+static struct slices feed_as_recorded(struct run *run, const struct show *show)
+{
+    struct slices accepted = {calloc(show->count + 1, sizeof(struct file)), 0};
+    for (size_t index = 0; accepted.list != NULL && index < show->count; index++) {
+        struct refusal refusal = feed_group(run, &show->slices[index], 1);
+        if (refusal.number == WOSTHILE_ACCEPTED) {
+            accepted.list[accepted.count++] = show->slices[index];
+        } else {
+            printf("Recorded slice %zu is left out; it is refused with %u: %s\n", index + 1, refusal.number,
+                   wosthile_sentence(refusal.number));
+        }
+    }
+    return accepted;
+}
+
+/* Draws a cut: neighbours are joined with a chance that is drawn first. */
+static void draw_cut(struct cut *cut, bool all_as_one, uint64_t *random)
+{
+    uint64_t chance = next_random(random) % 257;
+    for (size_t index = 0; index < cut->count; index++) {
+        cut->joins[index] = all_as_one || next_random(random) % 256 < chance;
+    }
+}
+
+/* How many slices stand in the group that begins with this one. */
+static size_t group_size(const struct cut *cut, size_t first)
+{
+    size_t size = 1;
+    while (first + size < cut->count && cut->joins[first + size - 1]) {
+        size++;
+    }
+    return size;
+}
+
+/* Feeds a cut from the start. True if no call is refused and it ends as the recording did. */
+static bool ends_the_same(const struct run *start, const struct run *recorded, const struct slices *slices,
+                          const struct cut *cut, struct tally *tally)
+{
+    struct run run = *start;
+    size_t size;
+    for (size_t first = 0; first < slices->count; first += size) {
+        size = group_size(cut, first);
+        if (feed_group(&run, slices->list + first, size).number != WOSTHILE_ACCEPTED) {
+            return false;
+        }
+        tally->feeds++;
+        tally->largest = size > tally->largest ? size : tally->largest;
+    }
+    return same_state(recorded, &run);
+}
+
+/*
+ * Looks for the smallest group that makes a difference when all other slices are fed one by one, and leaves that cut in
+ * `cut`. False if none is found within a bounded number of feeds.
+ */
+static bool find_smallest(const struct run *start, const struct run *recorded, const struct slices *slices,
+                          struct cut *cut)
+{
+    enum { FEEDS_MAX = 2000000 };
+    struct tally tally = {0};
+    for (size_t size = 2; size <= cut->count; size++) {
+        for (size_t first = 0; first + size <= cut->count; first++) {
+            memset(cut->joins, 0, cut->count * sizeof *cut->joins);
+            for (size_t index = first; index < first + size - 1; index++) {
+                cut->joins[index] = true;
+            }
+            if (!ends_the_same(start, recorded, slices, cut, &tally)) {
+                return true;
+            }
+            if (tally.feeds > FEEDS_MAX) {
+                return false;
+            }
+        }
+    }
+    return false;
+}
+
+static void print_file(const char *what, struct file file)
+{
+    printf("  %s:", what);
+    for (size_t place = 0; place < file.length; place++) {
+        printf(" %d", file.bytes[place]);
+    }
+    printf("\n");
+}
+
+/* The sizes of the groups up to one of them, which stands in brackets, and some behind it; dots are more of them. */
+static void print_sizes(const struct cut *cut, size_t marked)
+{
+    enum { PRINTED = 20, BEHIND = 10 };
+    size_t before = 0, behind = 0, size;
+    for (size_t first = 0; first < marked; first += group_size(cut, first)) {
+        before++;
+    }
+    size_t skipped = before > PRINTED ? before - PRINTED : 0;
+    printf("  the cut:%s", skipped > 0 ? " .." : "");
+    for (size_t first = 0; first < cut->count && behind <= BEHIND; first += size) {
+        size = group_size(cut, first);
+        behind += first > marked;
+        if (skipped > 0) {
+            skipped--;
+        } else {
+            printf(first == marked ? " [%zu]" : " %zu", size);
+        }
+    }
+    printf("%s\n", behind > BEHIND ? " .." : "");
+}
+
+static void print_state(const char *whose, const struct run *run)
+{
+    printf("%s\n", whose);
+    print_file("sent so far, joined", joined_file(&run->sent));
+    print_file("patch left", patch_file(&run->patch));
+}
+
+/* Feeds the slices of a group one by one; they were all accepted so before. */
+static void feed_one_by_one(struct run *run, const struct file *slices, size_t size)
+{
+    for (size_t index = 0; index < size; index++) {
+        feed_group(run, slices + index, 1);
+    }
+}
+
+/* Says where a cut and the recording part, having fed both once more, side by side. */
+static void explain(const struct run *start, const struct slices *slices, const struct cut *cut)
+{
+    struct run recorded = *start, anew = *start;
+    struct refusal refusal = none;
+    size_t first = 0, size = 0;
+    for (; first < slices->count; first += size) {
+        size = group_size(cut, first);
+        refusal = feed_group(&anew, slices->list + first, size);
+        feed_one_by_one(&recorded, slices->list + first, size);
+        if (refusal.number != WOSTHILE_ACCEPTED || !same_state(&recorded, &anew)) {
+            break;
+        }
+    }
+    if (first >= slices->count) {
+        printf("Fed once more they do not part: the same calls gave two answers.\n");
+        return;
+    }
+    print_sizes(cut, first);
+    printf("The two part at the group in brackets, slices %zu to %zu of the accepted ones.\n", first + 1, first + size);
+    if (refusal.number != WOSTHILE_ACCEPTED) {
+        printf("The cut cannot be made: %s is refused with %u: %s\n", refusal.call, refusal.number,
+               wosthile_sentence(refusal.number));
+    }
+    print_state("The recording, behind these slices:", &recorded);
+    print_state("The cut, behind the same slices:", &anew);
+}
+
+/* A line that is written over on a terminal; elsewhere a line for each quarter. */
+static void show_progress(size_t done, size_t cuts)
+{
+    size_t step = cuts / 4 + 1;
+    if (isatty(STDERR_FILENO)) {
+        fprintf(stderr, "\r%zu of %zu cuts%s", done, cuts, done == cuts ? "\n" : "");
+    } else if (done % step == 0 || done == cuts) {
+        fprintf(stderr, "%zu of %zu cuts\n", done, cuts);
+    }
+}
+
+/* Draws and compares cuts; the answer is how many ended as the recording did before one did not, which is in `cut`. */
+static size_t compare_cuts(const struct run *start, const struct run *recorded, const struct slices *slices,
+                           struct cut *cut, size_t cuts, uint64_t random, struct tally *tally)
+{
+    for (size_t done = 0; done < cuts; done++) {
+        draw_cut(cut, done == 0, &random);
+        if (!ends_the_same(start, recorded, slices, cut, tally)) {
+            return done;
+        }
+        show_progress(done + 1, cuts);
+    }
+    return cuts;
+}
+
+static double seconds_now(void)
+{
+    struct timespec now;
+    clock_gettime(CLOCK_MONOTONIC, &now);
+    return (double)now.tv_sec + (double)now.tv_nsec / 1e9;
+}
+
+/* Shows a cut that makes a difference, and then, since it may have large groups, the smallest group that makes one. */
+static void report_difference(const struct run *start, const struct run *recorded, const struct slices *slices,
+                              struct cut *cut)
+{
+    printf("The sizes of the groups; the recording has each slice in a group of its own:\n");
+    explain(start, slices, cut);
+    if (find_smallest(start, recorded, slices, cut)) {
+        printf("The smallest group that makes a difference by itself:\n");
+        explain(start, slices, cut);
+    }
+}
+
+/* Compares cuts with the recording and reports; the answer is the exit status. */
+static int compare(const struct run *start, const struct run *recorded, const struct slices *slices, size_t cuts,
+                   uint64_t seed)
+{
+    struct tally tally = {0};
+    struct cut cut = {calloc(slices->count, sizeof *cut.joins), slices->count};
+    if (cut.joins == NULL) {
+        fprintf(stderr, "There is not enough memory for a cut.\n");
+        return 2;
+    }
+    double began = seconds_now();
+    size_t same = compare_cuts(start, recorded, slices, &cut, cuts, seed, &tally);
+    if (same < cuts) {
+        printf("Cut %zu of %zu makes a difference.\n", same + 1, cuts);
+        report_difference(start, recorded, slices, &cut);
+    } else {
+        printf("All joined outputs and all final patches are the same, byte for byte: %zu cuts of %zu slices, "
+               "%zu feeds in all, the largest of %zu slices joined, in %.2f seconds.\n",
+               cuts, slices->count, tally.feeds, tally.largest, seconds_now() - began);
+    }
+    free(cut.joins);
+    return same < cuts ? 1 : 0;
+}
+
+static int rehearse(const struct show *show, size_t cuts, uint64_t seed)
+{
+    struct run start;
+    start.sent.count = 0;
+    uint32_t number = patch_start(&start.patch, show->patch, &start.output_type);
+    if (number != WOSTHILE_ACCEPTED) {
+        printf("The patch is refused with %u: %s\n", number, wosthile_sentence(number));
+        return 2;
+    }
+    struct run recorded = start;
+    struct slices slices = feed_as_recorded(&recorded, show);
+    if (slices.count < show->count) {
+        printf("%zu of %zu recorded slices are left out.\n", show->count - slices.count, show->count);
+    }
+    int status = 2;
+    if (slices.count == 0) {
+        printf("No slice was accepted, so there is nothing to compare.\n");
+    } else {
+        status = compare(&start, &recorded, &slices, cuts, seed);
+    }
+    free(slices.list);
+    return status;
+}
+
+/* A number and nothing else. */
+static bool read_number(const char *word, uint64_t *number)
+{
+    char *behind;
+    errno = 0;
+    *number = strtoull(word, &behind, 10);
+    return word[0] >= '0' && word[0] <= '9' && *behind == '\0' && errno == 0;
+}
+
+int main(int count, char **words)
+{
+    uint64_t cuts = 1000, seed = 1;
+    if (count < 2 || count > 4 || (count > 2 && !read_number(words[2], &cuts)) ||
+        (count > 3 && !read_number(words[3], &seed)) || cuts == 0) {
+        fprintf(stderr, "rehearsal SHOW [CUTS] [SEED]\n");
+        return 2;
+    }
+    struct show show;
+    const char *fault = show_read(words[1], &show);
+    if (fault != NULL) {
+        fprintf(stderr, "%s: %s\n", words[1], fault);
+        return 2;
+    }
+    int status = rehearse(&show, cuts, seed);
+    show_release(&show);
+    return status;
+}
