@@ -1,0 +1,131 @@
+/*
+ * Feeds that are wrong when slices come as one, to try that the rehearsal finds them. Linked with
+ * -Wl,--wrap=wosthile_feed, they stand in for the feed of the library. The environment variable LOSING says which:
+ *
+ *   crossing   the interpreter of old: a slice that crosses, and brings something before that, is not crossed
+ *   behind     what stands behind a crossing, in a slice that brings something before it, has not come
+ *   patch      sends all, but leaves a patch with a node too many after a slice that crosses and brings something
+ * before
+ *
+ * Without it the feed is that of the library.
+ */
+#include <stdbool.h>
+#include <stdlib.h>
+#include <string.h>
+#include <wosthile.h>
+
+wosthile_fed __real_wosthile_feed(const uint8_t *patch, size_t patch_len, const uint8_t *slice, size_t slice_len,
+                                  uint8_t *output, size_t output_len, uint8_t *left, size_t left_len);
+wosthile_fed __wrap_wosthile_feed(const uint8_t *patch, size_t patch_len, const uint8_t *slice, size_t slice_len,
+                                  uint8_t *output, size_t output_len, uint8_t *left, size_t left_len);
+
+enum { CUE_AWAITED = 1, CUE_COME, LEVEL_AWAITED, LEVEL_COME, IN_FIRST, CROSSED, BESIDE };
+enum loss { NOTHING, CROSSING, BEHIND, PATCH };
+
+/* An accepted slice as it is read, and as it is written anew. */
+struct copy {
+    enum loss loss;
+    const uint8_t *from;
+    size_t read;
+    uint8_t to[WOSTHILE_SLICE_FILE_MAX];
+    size_t written;
+    bool lost; /* there was a crossing with something before it */
+};
+
+static void put(struct copy *copy, uint8_t byte) { copy->to[copy->written++] = byte; }
+
+/* Copies a slice as it is, or as one of which nothing has come. True if something of it has come. */
+static bool copy_slice(struct copy *copy, bool emptied);
+
+/* The first part of a crossed slice decides what becomes of the crossing; it is read before the second. */
+static bool copy_crossed(struct copy *copy, bool emptied)
+{
+    size_t at = copy->written;
+    put(copy, emptied ? IN_FIRST : CROSSED);
+    bool brings = copy_slice(copy, emptied);
+    bool loses = brings && !emptied;
+    copy->lost = copy->lost || loses;
+    size_t second = copy->written;
+    copy_slice(copy, emptied || (loses && copy->loss == BEHIND));
+    if (loses && copy->loss == CROSSING) {
+        copy->to[at] = IN_FIRST;
+    }
+    if (emptied || (loses && copy->loss == CROSSING)) {
+        copy->written = second;
+    }
+    return true;
+}
+
+static bool copy_slice(struct copy *copy, bool emptied)
+{
+    uint8_t kind = copy->from[copy->read++];
+    switch (kind) {
+    case CUE_COME:
+        put(copy, emptied ? CUE_AWAITED : CUE_COME);
+        return true;
+    case LEVEL_COME:
+        put(copy, emptied ? LEVEL_AWAITED : LEVEL_COME);
+        for (int byte = 0; byte < 2; byte++, copy->read++) {
+            if (!emptied) {
+                put(copy, copy->from[copy->read]);
+            }
+        }
+        return true;
+    case IN_FIRST:
+        put(copy, kind);
+        return copy_slice(copy, emptied);
+    case CROSSED:
+        return copy_crossed(copy, emptied);
+    case BESIDE: {
+        put(copy, kind);
+        bool left = copy_slice(copy, emptied);
+        return copy_slice(copy, emptied) || left;
+    }
+    default:
+        put(copy, kind);
+        return false;
+    }
+}
+
+static enum loss chosen_loss(void)
+{
+    const char *word = getenv("LOSING");
+    if (word == NULL) {
+        return NOTHING;
+    }
+    return strcmp(word, "crossing") == 0 ? CROSSING : strcmp(word, "behind") == 0 ? BEHIND : PATCH;
+}
+
+/* Puts `chain pass` before the nodes of a patch: it sends the same, and is another patch. */
+static size_t with_chain(uint8_t *patch, size_t length)
+{
+    size_t nodes = 2 + patch[0] * 256u + patch[1];
+    size_t count = length - nodes;
+    memmove(patch + nodes + 4, patch + nodes + 2, count - 2);
+    patch[nodes] = (uint8_t)(count / 256);
+    patch[nodes + 1] = (uint8_t)(count % 256);
+    patch[nodes + 2] = 10;
+    patch[nodes + 3] = 0;
+    return length + 2;
+}
+
+wosthile_fed __wrap_wosthile_feed(const uint8_t *patch, size_t patch_len, const uint8_t *slice, size_t slice_len,
+                                  uint8_t *output, size_t output_len, uint8_t *left, size_t left_len)
+{
+    struct copy copy = {.loss = chosen_loss(), .from = slice, .read = 2, .written = 2};
+    wosthile_fed fed = __real_wosthile_feed(patch, patch_len, slice, slice_len, output, output_len, left, left_len);
+    if (copy.loss == NOTHING || fed.number != WOSTHILE_ACCEPTED) {
+        return fed;
+    }
+    copy_slice(&copy, false);
+    if (!copy.lost) {
+        return fed;
+    }
+    if (copy.loss == PATCH) {
+        fed.patch = with_chain(left, fed.patch);
+        return fed;
+    }
+    copy.to[0] = (uint8_t)((copy.written - 2) / 256);
+    copy.to[1] = (uint8_t)((copy.written - 2) % 256);
+    return __real_wosthile_feed(patch, patch_len, copy.to, copy.written, output, output_len, left, left_len);
+}
