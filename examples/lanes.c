@@ -5,7 +5,6 @@
 #include <stdlib.h>
 #include <string.h>
 
-enum { TYPE_EMPTY = 0, TYPE_SEQUENCE = 3, TYPE_BESIDE = 4 };
 enum { CUE_COME = 2, LEVEL_COME = 4, IN_FIRST = 5, CROSSED = 6 };
 
 /* Reads the part that begins at a node, and notes the lanes below it. False if the bytes end before the part does. */
@@ -17,12 +16,12 @@ static bool read_part(struct lanes *lanes, struct file type, size_t *node)
     }
     struct start_node *start = &lanes->start[here];
     uint8_t kind = type.bytes[2 + here];
-    lanes->type[2 + here] = kind;
+    start->kind = lanes->type[2 + here] = kind;
     lanes->origin[here] = (uint8_t)here;
     ++*node;
     if (kind < TYPE_SEQUENCE) {
         lanes->count++;
-        *start = (struct start_node){{lanes->count, lanes->count}, 0};
+        start->lanes = (struct lane_range){lanes->count, lanes->count};
         return true;
     }
     start->lanes.first = lanes->count + 1;
@@ -49,6 +48,7 @@ bool lanes_start(struct lanes *lanes, struct file type)
     if (!read_part(lanes, type, &nodes) || type.length != 2 + nodes || type.bytes[0] * 256u + type.bytes[1] != nodes) {
         return false;
     }
+    lanes->start_nodes = nodes;
     put_count(lanes, nodes);
     return true;
 }

@@ -14,6 +14,9 @@
 /* A type of 255 nodes has 128 leaves. Each of its nodes brings one event at most in the whole show. */
 enum { LANES_MAX = 128, TYPE_NODES_MAX = 255, LANE_NAME_BYTES = 64 };
 
+/* The kinds of a type that the programs have to tell apart. */
+enum { TYPE_EMPTY = 0, TYPE_SEQUENCE = 3, TYPE_BESIDE = 4 };
+
 /* Lanes that stand next to one another. */
 struct lane_range {
     unsigned first, last;
@@ -33,14 +36,16 @@ struct lane_events {
     struct lane_event list[TYPE_NODES_MAX];
 };
 
-/* The lanes below a node of the starting type; of a sequence, also where its second part stands. */
+/* A node of the starting type: the lanes below it and, if it is a fork, where its second part stands. */
 struct start_node {
+    uint8_t kind;
     struct lane_range lanes;
     size_t second;
 };
 
 struct lanes {
     unsigned count;
+    size_t start_nodes;
     struct start_node start[TYPE_NODES_MAX];
     size_t nodes;                         /* of the type in force */
     uint8_t type[WOSTHILE_TYPE_FILE_MAX]; /* its file */

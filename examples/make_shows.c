@@ -68,7 +68,7 @@ struct score {
  * they are, and of Saturn the lamps first.
  *
  * Frames 120, 121 and 122 are the ones that the old interpreter lost: the comet sets, the dome crosses, the rings come.
- * Cut by seed 7, the three arrive as one.
+ * Cut by seed 19, the three arrive as one.
  */
 enum comet_lane {
     STAR_FIELD = 1,
