@@ -1,0 +1,198 @@
+/*
+ * Lanes, tried with random types and slices. The test keeps the whole starting type and marks in it what has come; it
+ * never takes a part away, as the lanes do. Both have to tell the same events, and what the lanes take to be left of
+ * the type has to be what the library leaves.
+ */
+#include "lanes.h"
+
+#include <stdio.h>
+#include <stdlib.h>
+#include <string.h>
+
+enum { SHOWS = 400, SLICES = 60 };
+
+struct part {
+    uint8_t kind;
+    bool done; /* a leaf has come, a sequence is crossed */
+    struct lane_range lanes;
+    size_t second;
+};
+
+struct trial {
+    uint64_t random;
+    unsigned chance; /* of eight, that something comes where it can */
+    struct part parts[TYPE_NODES_MAX];
+    size_t count;
+    unsigned lanes;
+    uint8_t slice[WOSTHILE_SLICE_FILE_MAX];
+    size_t length;
+    struct lane_events expected;
+};
+
+static unsigned draw(struct trial *trial, unsigned below) { return (unsigned)(next_random(&trial->random) % below); }
+
+/* Draws a part with a number of leaves; sequences and parts side by side are as likely. */
+static void draw_part(struct trial *trial, unsigned leaves)
+{
+    struct part *part = &trial->parts[trial->count++];
+    *part = (struct part){.kind = (uint8_t)draw(trial, 3), .lanes = {trial->lanes + 1, trial->lanes + leaves}};
+    if (leaves == 1) {
+        trial->lanes++;
+        return;
+    }
+    unsigned first = 1 + draw(trial, leaves - 1);
+    part->kind = (uint8_t)(3 + draw(trial, 2));
+    draw_part(trial, first);
+    part->second = trial->count;
+    draw_part(trial, leaves - first);
+}
+
+static bool comes(struct trial *trial) { return draw(trial, 8) < trial->chance; }
+
+static void put(struct trial *trial, unsigned byte) { trial->slice[trial->length++] = (uint8_t)byte; }
+
+static void expect(struct trial *trial, struct lane_event event)
+{
+    trial->expected.list[trial->expected.count++] = event;
+}
+
+static void draw_leaf(struct trial *trial, struct part *part)
+{
+    if (part->kind == 0 || part->done) {
+        put(trial, 0);
+    } else if (!comes(trial)) {
+        put(trial, part->kind == 1 ? 1 : 3);
+    } else if (part->kind == 1) {
+        part->done = true;
+        put(trial, 2);
+        expect(trial, (struct lane_event){.kind = EVENT_CUE, .lane = part->lanes.first});
+    } else {
+        unsigned value = draw(trial, 65536);
+        part->done = true;
+        put(trial, 4);
+        put(trial, value / 256);
+        put(trial, value % 256);
+        expect(trial, (struct lane_event){.kind = EVENT_LEVEL, .lane = part->lanes.first, .value = value});
+    }
+}
+
+/* Has all of a part come, so that the slice of it just drawn is complete? */
+static bool is_complete(const struct trial *trial, size_t at)
+{
+    const struct part *part = &trial->parts[at];
+    if (part->kind < TYPE_SEQUENCE) {
+        return part->kind == 0 || part->done;
+    }
+    bool first = part->kind == TYPE_SEQUENCE ? part->done : is_complete(trial, at + 1);
+    return first && is_complete(trial, part->second);
+}
+
+/* Draws a slice of what is still to come of a part. */
+static void draw_slice(struct trial *trial, size_t at)
+{
+    struct part *part = &trial->parts[at];
+    if (part->kind < TYPE_SEQUENCE) {
+        draw_leaf(trial, part);
+        return;
+    }
+    size_t kind_at = trial->length;
+    bool sequence = part->kind == TYPE_SEQUENCE, crossed = sequence && part->done;
+    if (!crossed) {
+        put(trial, sequence ? 5 : 7);
+        draw_slice(trial, at + 1);
+    }
+    if (sequence && !crossed && is_complete(trial, at + 1) && comes(trial)) {
+        part->done = true;
+        trial->slice[kind_at] = 6;
+        struct lane_range from = trial->parts[at + 1].lanes, to = trial->parts[part->second].lanes;
+        expect(trial, (struct lane_event){.kind = EVENT_CROSSING, .from = from, .to = to});
+    }
+    if (!sequence || part->done) {
+        draw_slice(trial, part->second);
+    }
+}
+
+static bool same_events(const struct lane_events *one, const struct lane_events *other)
+{
+    bool same = one->count == other->count;
+    for (size_t index = 0; same && index < one->count; index++) {
+        const struct lane_event *a = &one->list[index], *b = &other->list[index];
+        same = a->kind == b->kind && a->lane == b->lane && a->value == b->value && a->from.first == b->from.first &&
+               a->from.last == b->from.last && a->to.first == b->to.first && a->to.last == b->to.last;
+    }
+    return same;
+}
+
+/* Random bytes in place of a slice: whatever the answer, the lanes agree with the library about it. */
+static bool agrees_on_rubbish(struct trial *trial, const struct lanes *lanes)
+{
+    uint8_t rubbish[24] = {0, 22};
+    struct lanes tried = *lanes;
+    struct lane_events events;
+    for (size_t place = 2; place < sizeof rubbish; place++) {
+        rubbish[place] = (uint8_t)draw(trial, 8);
+    }
+    size_t length = draw(trial, sizeof rubbish + 1);
+    wosthile_admitted admitted = wosthile_admit(lanes->type, 2 + lanes->nodes, rubbish, length);
+    uint32_t number = lanes_follow(&tried, (struct file){rubbish, length}, &events);
+    bool stays = tried.nodes == lanes->nodes && memcmp(tried.type, lanes->type, 2 + lanes->nodes) == 0;
+    return number == admitted.number && (number == WOSTHILE_ACCEPTED || (stays && events.count == 0));
+}
+
+/* Draws the next slice and lets the lanes follow it. */
+static bool follows(struct trial *trial, struct lanes *lanes)
+{
+    uint8_t left[WOSTHILE_TYPE_FILE_MAX];
+    struct lane_events events;
+    trial->length = 2;
+    trial->expected.count = 0;
+    draw_slice(trial, 0);
+    trial->slice[0] = (uint8_t)((trial->length - 2) / 256);
+    trial->slice[1] = (uint8_t)((trial->length - 2) % 256);
+    wosthile_written written =
+        wosthile_left(lanes->type, 2 + lanes->nodes, trial->slice, trial->length, left, sizeof left);
+    uint32_t number = lanes_follow(lanes, (struct file){trial->slice, trial->length}, &events);
+    return written.number == WOSTHILE_ACCEPTED && number == WOSTHILE_ACCEPTED &&
+           same_events(&events, &trial->expected) && written.written == 2 + lanes->nodes &&
+           memcmp(left, lanes->type, written.written) == 0;
+}
+
+/* A type, and slices of it until most has come. */
+static bool try_show(uint64_t seed, size_t *events)
+{
+    static struct trial trial;
+    trial = (struct trial){.random = seed};
+    draw_part(&trial, seed % 5 == 0 ? LANES_MAX : 1 + draw(&trial, 24));
+    uint8_t type[WOSTHILE_TYPE_FILE_MAX + 1] = {0, (uint8_t)trial.count};
+    for (size_t node = 0; node < trial.count; node++) {
+        type[2 + node] = trial.parts[node].kind;
+    }
+    struct lanes lanes;
+    if (!lanes_start(&lanes, (struct file){type, 2 + trial.count}) || lanes.count != trial.lanes ||
+        lanes_start(&lanes, (struct file){type, 1 + trial.count}) ||
+        lanes_start(&lanes, (struct file){type, 3 + trial.count}) ||
+        !lanes_start(&lanes, (struct file){type, 2 + trial.count})) {
+        return false;
+    }
+    for (size_t slice = 0; slice < SLICES; slice++) {
+        trial.chance = draw(&trial, 8);
+        if (!agrees_on_rubbish(&trial, &lanes) || !follows(&trial, &lanes)) {
+            return false;
+        }
+        *events += trial.expected.count;
+    }
+    return true;
+}
+
+int main(void)
+{
+    size_t events = 0;
+    for (uint64_t seed = 1; seed <= SHOWS; seed++) {
+        if (!try_show(seed, &events)) {
+            printf("seed %llu: FAILED\n", (unsigned long long)seed);
+            return 1;
+        }
+    }
+    printf("%d shows of %d slices, %zu events in their lanes\n", SHOWS, SLICES, events);
+    return 0;
+}
