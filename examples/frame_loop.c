@@ -8,7 +8,7 @@
  * At 60 frames a second, or another number, the two threads have clocks of their own, and it is up to them how the
  * stream is cut into feeds. With --fast they go in lock step, frame by frame, so that the seed alone decides it.
  */
-#define _POSIX_C_SOURCE 200809L /* for clock_nanosleep */
+#define _POSIX_C_SOURCE 200809L /* for clock_nanosleep and flockfile */
 #include "feeding.h"
 #include "lanes.h"
 
@@ -93,10 +93,20 @@ static void mailbox_finish_frame(struct mailbox *mailbox, size_t frame, bool ove
     pthread_mutex_unlock(&mailbox->lock);
 }
 
+/* In lock step each side waits for the other: a frame is delivered when the one before is taken, then it is taken. */
 static void mailbox_await_taken(struct mailbox *mailbox, size_t frame)
 {
     pthread_mutex_lock(&mailbox->lock);
     while (mailbox->taken < frame) {
+        pthread_cond_wait(&mailbox->changed, &mailbox->lock);
+    }
+    pthread_mutex_unlock(&mailbox->lock);
+}
+
+static void mailbox_await_delivered(struct mailbox *mailbox, size_t frame)
+{
+    pthread_mutex_lock(&mailbox->lock);
+    while (mailbox->delivered < frame && !mailbox->over) {
         pthread_cond_wait(&mailbox->changed, &mailbox->lock);
     }
     pthread_mutex_unlock(&mailbox->lock);
@@ -115,15 +125,12 @@ static void move_on(struct type *begins, struct file slice)
     *begins = left;
 }
 
-/* Takes what waits, which may be nothing. False if nothing waits and nothing will come. */
-static bool mailbox_take(struct mailbox *mailbox, size_t frame, bool lock_step, struct joined *taken)
+/* Takes what waits, which may be nothing. False if the frames that were delivered are over, and nothing waits. */
+static bool mailbox_take(struct mailbox *mailbox, size_t frame, struct joined *taken)
 {
     pthread_mutex_lock(&mailbox->lock);
-    while (lock_step && mailbox->delivered < frame && !mailbox->over) {
-        pthread_cond_wait(&mailbox->changed, &mailbox->lock);
-    }
     *taken = mailbox->waiting;
-    bool more = taken->count > 0 || !mailbox->over;
+    bool more = taken->count > 0 || !mailbox->over || frame <= mailbox->delivered;
     if (taken->count > 0) {
         move_on(&mailbox->begins, joined_file(taken));
         mailbox->waiting.count = 0;
@@ -144,30 +151,35 @@ static void await_frame(struct timespec *due, struct pace pace)
     }
 }
 
+/* Delivers a slice, and says so if it is refused at the door; then it is as if it had not come. */
+static void deliver(struct player *player, size_t frame, size_t index)
+{
+    uint32_t number = mailbox_deliver(&player->mailbox, player->show->slices[index]);
+    if (number != WOSTHILE_ACCEPTED) {
+        char what[40];
+        snprintf(what, sizeof what, "recorded slice %zu", index + 1);
+        print_refusal(frame, what, number);
+        player->refused++;
+    }
+}
+
 /* The outside: delivers each slice in the frame in which it arrives. */
 static void *produce(void *argument)
 {
     struct player *player = argument;
-    const struct show *show = player->show;
+    size_t next = 0, count = player->show->count;
     struct timespec due;
     clock_gettime(CLOCK_MONOTONIC, &due);
-    size_t next = 0;
-    for (size_t frame = 1; next < show->count; frame++) {
+    for (size_t frame = 1; next < count; frame++) {
         if (player->pace.lock_step) {
             mailbox_await_taken(&player->mailbox, frame - 1);
         } else {
             await_frame(&due, player->pace);
         }
-        for (; next < show->count && player->arrivals[next] <= frame; next++) {
-            uint32_t number = mailbox_deliver(&player->mailbox, show->slices[next]);
-            if (number != WOSTHILE_ACCEPTED) {
-                char what[40];
-                snprintf(what, sizeof what, "recorded slice %zu", next + 1);
-                print_refusal(frame, what, number);
-                player->refused++;
-            }
+        for (; next < count && player->arrivals[next] <= frame; next++) {
+            deliver(player, frame, next);
         }
-        mailbox_finish_frame(&player->mailbox, frame, next == show->count);
+        mailbox_finish_frame(&player->mailbox, frame, next == count);
     }
     return NULL;
 }
@@ -209,6 +221,7 @@ static void send_on(struct sender *sender, size_t frame, size_t slices, struct f
     if (events.count == 0) {
         return;
     }
+    flockfile(stdout); /* so that a refusal from the other thread is not printed between these lines */
     printf("frame %zu", frame);
     if (slices > 1) {
         printf(", %zu slices as one", slices);
@@ -217,6 +230,7 @@ static void send_on(struct sender *sender, size_t frame, size_t slices, struct f
     for (size_t index = 0; index < events.count; index++) {
         print_event(&events.list[index], &sender->names);
     }
+    funlockfile(stdout);
 }
 
 /* What the input type left still asks for: a type with no cue, level or sequence in it is nullable. */
@@ -247,10 +261,12 @@ static struct tally draw_frames(struct player *player, struct patch *patch, stru
     struct timespec due;
     clock_gettime(CLOCK_MONOTONIC, &due);
     for (size_t frame = 1;; frame++) {
-        if (!player->pace.lock_step) {
+        if (player->pace.lock_step) {
+            mailbox_await_delivered(&player->mailbox, frame);
+        } else {
             await_frame(&due, player->pace);
         }
-        if (!mailbox_take(&player->mailbox, frame, player->pace.lock_step, &taken)) {
+        if (!mailbox_take(&player->mailbox, frame, &taken)) {
             return tally;
         }
         tally.frames++;
@@ -318,20 +334,11 @@ struct words {
     bool fast;
 };
 
-/* A number and nothing else. */
-static bool read_number(const char *word, unsigned long long *number)
-{
-    char *behind;
-    errno = 0;
-    *number = strtoull(word, &behind, 10);
-    return word[0] >= '0' && word[0] <= '9' && *behind == '\0' && errno == 0;
-}
-
 static bool read_words(int count, char **list, struct words *words)
 {
     *words = (struct words){.frames_per_second = 60};
     for (int index = 1; index < count; index++) {
-        unsigned long long number = 0;
+        uint64_t number = 0;
         bool numbered = index + 1 < count && read_number(list[index + 1], &number);
         if (strcmp(list[index], "--fast") == 0) {
             words->fast = true;

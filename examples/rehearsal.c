@@ -11,8 +11,6 @@
 #define _POSIX_C_SOURCE 200809L /* for clock_gettime and isatty */
 #include "feeding.h"
 
-#include <errno.h>
-#include <stdbool.h>
 #include <stdio.h>
 #include <stdlib.h>
 #include <time.h>
@@ -96,11 +94,19 @@ static struct slices feed_as_recorded(struct run *run, const struct show *show)
 }
 
 /* Draws a cut: neighbours are joined with a chance that is drawn first. */
-static void draw_cut(struct cut *cut, bool all_as_one, uint64_t *random)
+static void draw_cut(struct cut *cut, uint64_t *random)
 {
     uint64_t chance = next_random(random) % 257;
     for (size_t index = 0; index < cut->count; index++) {
-        cut->joins[index] = all_as_one || next_random(random) % 256 < chance;
+        cut->joins[index] = next_random(random) % 256 < chance;
+    }
+}
+
+/* Begins a cut with every slice in a group of its own, but for the slices from `first` on, `size` of them as one. */
+static void cut_out(struct cut *cut, size_t first, size_t size)
+{
+    for (size_t index = 0; index < cut->count; index++) {
+        cut->joins[index] = index >= first && index + 1 < first + size;
     }
 }
 
@@ -142,10 +148,7 @@ static bool find_smallest(const struct run *start, const struct run *recorded, c
     struct tally tally = {0};
     for (size_t size = 2; size <= cut->count; size++) {
         for (size_t first = 0; first + size <= cut->count; first++) {
-            memset(cut->joins, 0, cut->count * sizeof *cut->joins);
-            for (size_t index = first; index < first + size - 1; index++) {
-                cut->joins[index] = true;
-            }
+            cut_out(cut, first, size);
             if (!ends_the_same(start, recorded, slices, cut, &tally)) {
                 return true;
             }
@@ -242,16 +245,18 @@ static void show_progress(size_t done, size_t cuts)
     }
 }
 
-/* Draws and compares cuts; the answer is how many ended as the recording did before one did not, which is in `cut`. */
+/* Compares cuts, all as one and then drawn; the answer is how many ended as the recording did before one did not, which
+ * is in `cut`. */
 static size_t compare_cuts(const struct run *start, const struct run *recorded, const struct slices *slices,
                            struct cut *cut, size_t cuts, uint64_t random, struct tally *tally)
 {
+    cut_out(cut, 0, cut->count);
     for (size_t done = 0; done < cuts; done++) {
-        draw_cut(cut, done == 0, &random);
         if (!ends_the_same(start, recorded, slices, cut, tally)) {
             return done;
         }
         show_progress(done + 1, cuts);
+        draw_cut(cut, &random);
     }
     return cuts;
 }
@@ -321,15 +326,6 @@ static int rehearse(const struct show *show, size_t cuts, uint64_t seed)
     }
     free(slices.list);
     return status;
-}
-
-/* A number and nothing else. */
-static bool read_number(const char *word, uint64_t *number)
-{
-    char *behind;
-    errno = 0;
-    *number = strtoull(word, &behind, 10);
-    return word[0] >= '0' && word[0] <= '9' && *behind == '\0' && errno == 0;
 }
 
 int main(int count, char **words)

@@ -1,10 +1,10 @@
 #include "show.h"
 
-#include <stdbool.h>
+#include <errno.h>
 #include <stdio.h>
 #include <stdlib.h>
 
-/* More than three hours of the largest slices; a file beyond it is not a show that anybody recorded. */
+/* More than two hours of the largest slices; a file beyond it is not a show that anybody recorded. */
 enum { SHOW_BYTES_MAX = 1 << 28, FIRST_BYTES = 1 << 16 };
 
 /* The bytes of a stream up to its end, in memory that the caller frees; NULL if they cannot be had. */
@@ -125,4 +125,12 @@ void show_arrivals(uint64_t seed, size_t count, size_t *arrivals)
         latest = frame > latest ? frame : latest;
         arrivals[index] = latest;
     }
+}
+
+bool read_number(const char *word, uint64_t *number)
+{
+    char *behind;
+    errno = 0;
+    *number = strtoull(word, &behind, 10);
+    return word[0] >= '0' && word[0] <= '9' && *behind == '\0' && errno == 0;
 }

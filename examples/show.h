@@ -5,6 +5,7 @@
 #ifndef SHOW_H
 #define SHOW_H
 
+#include <stdbool.h>
 #include <stddef.h>
 #include <stdint.h>
 
@@ -38,5 +39,8 @@ uint64_t next_random(uint64_t *state);
  * never before an earlier slice; so at most three arrive in the same frame.
  */
 void show_arrivals(uint64_t seed, size_t count, size_t *arrivals);
+
+/* Reads a word of the command line that is a number and nothing else. */
+bool read_number(const char *word, uint64_t *number);
 
 #endif

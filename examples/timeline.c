@@ -9,7 +9,6 @@
 #include "feeding.h"
 #include "lanes.h"
 
-#include <errno.h>
 #include <stdio.h>
 #include <stdlib.h>
 
@@ -422,10 +421,10 @@ static void draw_axis(const struct drawing *drawing, double top, double bottom)
 }
 
 /* A title in words: how the show was cut, and what came of it. */
-static void print_panel_title(const struct panel *panel, double y)
+static void print_panel_title(const struct panel *panel, struct window window, double y)
 {
     size_t frames[4] = {0};
-    for (size_t frame = 1; frame <= panel->frames; frame++) {
+    for (size_t frame = window.first; frame <= window.last && frame <= panel->frames; frame++) {
         frames[panel->slices[frame] & 3]++;
     }
     printf("<text x=\"16\" y=\"%.1f\" class=\"title\">", y);
@@ -458,7 +457,7 @@ static void draw_panel(const struct drawing *drawing, const struct panel *panel,
     double strip = top + TITLE_HEIGHT + STRIP_HEIGHT;
     double in = strip + HEADING_HEIGHT, in_end = in + panel->in.lanes.count * drawing->lane_height;
     double out = in_end + HEADING_HEIGHT, bottom = out + panel->out.lanes.count * drawing->lane_height;
-    print_panel_title(panel, top + 16);
+    print_panel_title(panel, drawing->window, top + 16);
     draw_axis(drawing, strip, bottom);
     draw_strip(drawing, panel, strip);
     print_heading("What comes in", in - 5);
@@ -526,7 +525,7 @@ static void draw(const char *path, struct panel *const *panels, size_t count, st
     struct lane_names names;
     lane_names_read(&names, path);
     unsigned lanes = panels[0]->in.lanes.count + panels[0]->out.lanes.count;
-    struct drawing drawing = {window, 0, lanes <= 64 ? 19 : 14};
+    struct drawing drawing = {window, 0, lanes <= 64 ? 17 : 14};
     drawing.frame_width = (double)(PLOT_RIGHT - PLOT_LEFT) / (double)(window.last - window.first + 1);
     double panel = panel_height(&drawing, panels[0]);
     draw_header(path, window, HEADER_HEIGHT + panel * (double)count);
@@ -542,15 +541,6 @@ struct words {
     size_t count;
     struct window window; /* its last frame is 0 if none was asked for */
 };
-
-/* A number and nothing else. */
-static bool read_number(const char *word, uint64_t *number)
-{
-    char *behind;
-    errno = 0;
-    *number = strtoull(word, &behind, 10);
-    return word[0] >= '0' && word[0] <= '9' && *behind == '\0' && errno == 0;
-}
 
 static bool read_words(int count, char **list, struct words *words)
 {
@@ -590,6 +580,7 @@ int main(int count, char **list)
     }
     const char *fault = show_read(words.path, &show);
     if (fault != NULL) {
+        fprintf(stderr, "%s: ", words.path);
         stop(fault);
     }
     for (size_t index = 0; index < words.count; index++) {
