@@ -20,7 +20,9 @@
 
 /*
  * Where the two threads meet: the slices that wait for the next frame, as one. Nobody prints, sleeps or feeds while
- * holding the lock; it is held for a join at most, so a slow logger never keeps the frame waiting.
+ * holding the lock; it is held for one call of the library at most, so a slow logger never keeps the frame waiting.
+ * Where threads have priorities of their own, give the lock PTHREAD_PRIO_INHERIT, so that a thread between the two does
+ * not either. Should it happen all the same, the slices wait as one, and the show is the same.
  */
 struct mailbox {
     pthread_mutex_t lock;
@@ -184,27 +186,6 @@ static void *produce(void *argument)
     return NULL;
 }
 
-static void print_range(const char *before, struct lane_range lanes, const struct lane_names *names)
-{
-    printf("%s %s", before, names->out[lanes.first]);
-    if (lanes.last > lanes.first) {
-        printf(" .. %s", names->out[lanes.last]);
-    }
-}
-
-static void print_event(const struct lane_event *event, const struct lane_names *names)
-{
-    if (event->kind == EVENT_CUE) {
-        printf("    %s: cue\n", names->out[event->lane]);
-    } else if (event->kind == EVENT_LEVEL) {
-        printf("    %s: level %u\n", names->out[event->lane], event->value);
-    } else {
-        print_range("    crossing from", event->from, names);
-        print_range(" to", event->to, names);
-        printf("\n");
-    }
-}
-
 /* Where the output goes: here it is printed, in the words of the lanes. */
 struct sender {
     struct lanes lanes;
@@ -228,7 +209,7 @@ static void send_on(struct sender *sender, size_t frame, size_t slices, struct f
     }
     printf("\n");
     for (size_t index = 0; index < events.count; index++) {
-        print_event(&events.list[index], &sender->names);
+        lane_event_print(&events.list[index], &sender->names.out);
     }
     funlockfile(stdout);
 }
@@ -252,7 +233,10 @@ struct tally {
     size_t frames, feeds, refused;
 };
 
-/* The frame loop. A refused feed leaves the patch as it is, and the show goes on. */
+/*
+ * The frame loop. The door has admitted whatever is fed here, so no feed is refused; in a loop without a door, a
+ * refused feed is as if the slice had not come: the patch stays, and the show goes on.
+ */
 static struct tally draw_frames(struct player *player, struct patch *patch, struct sender *sender)
 {
     struct tally tally = {0};

@@ -238,11 +238,11 @@ static void take_line(struct lane_names *names, const char *line)
     unsigned lane;
     const char *in = named_lane(line, "in ", &lane);
     if (in != NULL) {
-        clean_text(names->in[lane], LANE_NAME_BYTES, in);
+        clean_text(names->in.of[lane], LANE_NAME_BYTES, in);
     }
     const char *out = named_lane(line, "out ", &lane);
     if (out != NULL) {
-        clean_text(names->out[lane], LANE_NAME_BYTES, out);
+        clean_text(names->out.of[lane], LANE_NAME_BYTES, out);
     }
 }
 
@@ -267,8 +267,8 @@ static FILE *open_names(const char *show_path)
 void lane_names_read(struct lane_names *names, const char *show_path)
 {
     for (unsigned lane = 1; lane <= LANES_MAX; lane++) {
-        snprintf(names->in[lane], LANE_NAME_BYTES, "lane %u", lane);
-        snprintf(names->out[lane], LANE_NAME_BYTES, "lane %u", lane);
+        snprintf(names->in.of[lane], LANE_NAME_BYTES, "lane %u", lane);
+        snprintf(names->out.of[lane], LANE_NAME_BYTES, "lane %u", lane);
     }
     FILE *stream = open_names(show_path);
     if (stream == NULL) {
@@ -280,4 +280,25 @@ void lane_names_read(struct lane_names *names, const char *show_path)
         take_line(names, line);
     }
     fclose(stream);
+}
+
+static void print_range(const char *before, struct lane_range lanes, const struct side_names *names)
+{
+    printf("%s %s", before, names->of[lanes.first]);
+    if (lanes.last > lanes.first) {
+        printf(" .. %s", names->of[lanes.last]);
+    }
+}
+
+void lane_event_print(const struct lane_event *event, const struct side_names *names)
+{
+    if (event->kind == EVENT_CUE) {
+        printf("    %s: cue\n", names->of[event->lane]);
+    } else if (event->kind == EVENT_LEVEL) {
+        printf("    %s: level %u\n", names->of[event->lane], event->value);
+    } else {
+        print_range("    crossing from", event->from, names);
+        print_range(" to", event->to, names);
+        printf("\n");
+    }
 }

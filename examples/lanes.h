@@ -62,9 +62,12 @@ bool lanes_start(struct lanes *lanes, struct file type);
 uint32_t lanes_follow(struct lanes *lanes, struct file slice, struct lane_events *events);
 
 /* The names of lanes, by number; place 0 is not used. */
+struct side_names {
+    char of[LANES_MAX + 1][LANE_NAME_BYTES];
+};
+
 struct lane_names {
-    char in[LANES_MAX + 1][LANE_NAME_BYTES];
-    char out[LANES_MAX + 1][LANE_NAME_BYTES];
+    struct side_names in, out;
 };
 
 /*
@@ -72,6 +75,9 @@ struct lane_names {
  * Saturn's rings` for a lane of the input, `out 2 dome lamp` for one of the output. Other lines say nothing.
  */
 void lane_names_read(struct lane_names *names, const char *show_path);
+
+/* Prints an event in words, with the names of its side, on a line of its own. */
+void lane_event_print(const struct lane_event *event, const struct side_names *names);
 
 /* Copies a text, with ? for what is no printable character in UTF-8, and as much of it as there is room for. */
 void clean_text(char *to, size_t room, const char *text);

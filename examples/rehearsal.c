@@ -245,6 +245,14 @@ static void show_progress(size_t done, size_t cuts)
     }
 }
 
+/* What follows begins on a line of its own. */
+static void end_progress(void)
+{
+    if (isatty(STDERR_FILENO)) {
+        fprintf(stderr, "\n");
+    }
+}
+
 /* Compares cuts, all as one and then drawn; the answer is how many ended as the recording did before one did not, which
  * is in `cut`. */
 static size_t compare_cuts(const struct run *start, const struct run *recorded, const struct slices *slices,
@@ -293,6 +301,7 @@ static int compare(const struct run *start, const struct run *recorded, const st
     double began = seconds_now();
     size_t same = compare_cuts(start, recorded, slices, &cut, cuts, seed, &tally);
     if (same < cuts) {
+        end_progress();
         printf("Cut %zu of %zu makes a difference.\n", same + 1, cuts);
         report_difference(start, recorded, slices, &cut);
     } else {

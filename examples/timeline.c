@@ -304,13 +304,13 @@ static void draw_crossing(const struct drawing *drawing, const struct mark *mark
 }
 
 /* The lanes of one of the two sides of a panel, one below the other. */
-static void draw_lanes(const struct drawing *drawing, const struct side *side, const char names[][LANE_NAME_BYTES],
+static void draw_lanes(const struct drawing *drawing, const struct side *side, const struct side_names *names,
                        double top)
 {
     struct life lives[LANES_MAX + 1];
     find_lives(side, lives);
     for (unsigned lane = 1; lane <= side->lanes.count; lane++) {
-        draw_lane(drawing, names[lane], lives[lane], top + (lane - 1) * drawing->lane_height);
+        draw_lane(drawing, names->of[lane], lives[lane], top + (lane - 1) * drawing->lane_height);
     }
 }
 
@@ -385,12 +385,13 @@ static void draw_bands(const struct drawing *drawing, const struct panel *panel,
         if (panel->slices[frame] < 2 || (!has_marks(&panel->in, frame) && !has_marks(&panel->out, frame))) {
             continue;
         }
-        double width = drawing->frame_width < 5 ? 5 : drawing->frame_width, x = middle_of(drawing, frame);
+        double least = drawing->frame_width < 1 ? 1.5 : 5, x = middle_of(drawing, frame);
+        double width = drawing->frame_width < least ? least : drawing->frame_width;
         print_rectangle(x - width / 2, top, width, bottom - top, JOINED_COLOUR, 0.55);
-        if (x - 4 > label_end) {
+        if (x - 5 > label_end) {
             printf("<text x=\"%.1f\" y=\"%.1f\" text-anchor=\"middle\" class=\"count\">%u</text>\n", x, top - 2,
                    panel->slices[frame]);
-            label_end = x + 4;
+            label_end = x + 5;
         }
     }
 }
@@ -462,8 +463,8 @@ static void draw_panel(const struct drawing *drawing, const struct panel *panel,
     draw_strip(drawing, panel, strip);
     print_heading("What comes in", in - 5);
     print_heading("What is sent on", out - 5);
-    draw_lanes(drawing, &panel->in, names->in, in);
-    draw_lanes(drawing, &panel->out, names->out, out);
+    draw_lanes(drawing, &panel->in, &names->in, in);
+    draw_lanes(drawing, &panel->out, &names->out, out);
     draw_bands(drawing, panel, strip - STRIP_HEIGHT + 16, bottom);
     draw_marks(drawing, &panel->in, in);
     draw_marks(drawing, &panel->out, out);

@@ -124,17 +124,17 @@ static bool same_events(const struct lane_events *one, const struct lane_events 
 }
 
 /* Random bytes in place of a slice: whatever the answer, the lanes agree with the library about it. */
-static bool agrees_on_rubbish(struct trial *trial, const struct lanes *lanes)
+static bool agrees_on_any_bytes(struct trial *trial, const struct lanes *lanes)
 {
-    uint8_t rubbish[24] = {0, 22};
+    uint8_t bytes[24] = {0, 22};
     struct lanes tried = *lanes;
     struct lane_events events;
-    for (size_t place = 2; place < sizeof rubbish; place++) {
-        rubbish[place] = (uint8_t)draw(trial, 8);
+    for (size_t place = 2; place < sizeof bytes; place++) {
+        bytes[place] = (uint8_t)draw(trial, 8);
     }
-    size_t length = draw(trial, sizeof rubbish + 1);
-    wosthile_admitted admitted = wosthile_admit(lanes->type, 2 + lanes->nodes, rubbish, length);
-    uint32_t number = lanes_follow(&tried, (struct file){rubbish, length}, &events);
+    size_t length = draw(trial, sizeof bytes + 1);
+    wosthile_admitted admitted = wosthile_admit(lanes->type, 2 + lanes->nodes, bytes, length);
+    uint32_t number = lanes_follow(&tried, (struct file){bytes, length}, &events);
     bool stays = tried.nodes == lanes->nodes && memcmp(tried.type, lanes->type, 2 + lanes->nodes) == 0;
     return number == admitted.number && (number == WOSTHILE_ACCEPTED || (stays && events.count == 0));
 }
@@ -160,8 +160,7 @@ static bool follows(struct trial *trial, struct lanes *lanes)
 /* A type, and slices of it until most has come. */
 static bool try_show(uint64_t seed, size_t *events)
 {
-    static struct trial trial;
-    trial = (struct trial){.random = seed};
+    struct trial trial = {.random = seed};
     draw_part(&trial, seed % 5 == 0 ? LANES_MAX : 1 + draw(&trial, 24));
     uint8_t type[WOSTHILE_TYPE_FILE_MAX + 1] = {0, (uint8_t)trial.count};
     for (size_t node = 0; node < trial.count; node++) {
@@ -176,7 +175,7 @@ static bool try_show(uint64_t seed, size_t *events)
     }
     for (size_t slice = 0; slice < SLICES; slice++) {
         trial.chance = draw(&trial, 8);
-        if (!agrees_on_rubbish(&trial, &lanes) || !follows(&trial, &lanes)) {
+        if (!agrees_on_any_bytes(&trial, &lanes) || !follows(&trial, &lanes)) {
             return false;
         }
         *events += trial.expected.count;

@@ -3,6 +3,7 @@
 #   tests/c/shows.sh ARCHIVE [COMPILER [WORDS]]
 #   tests/c/shows.sh target/staticlib/libwosthile.a clang -O1 -g -fsanitize=thread
 # The exit status tells whether everything held.
+# shellcheck disable=SC2317 # the functions below are called by `holds`
 set -u
 archive=$(realpath "$1") || exit 2
 compiler=${2-gcc}
@@ -55,19 +56,19 @@ prints_as_stored() {
     "$folder/frame_loop" "examples/shows/${name%.seed-*}.show" --fast --seed "$seed" | diff "$stored" -
 }
 
-# However the show is cut, the same things are sent in the same order, and the same is owed at the end.
+# However the show is cut, the same things are sent, and the same is owed at the end.
 sends_the_same() {
     local show=$1 seed
-    sent "$show" 0 >"$folder/recorded"
+    sent "$show" --fast >"$folder/recorded"
     grep -q '^The input is' "$folder/recorded" || return 1
     for seed in 1 2 3 19 1000003; do
-        sent "$show" "$seed" | diff "$folder/recorded" - || return 1
+        sent "$show" --fast --seed "$seed" | diff "$folder/recorded" - || return 1
     done
 }
 
-# Things sent in one frame are in the order of their lanes, so the order within the whole show is left out.
+# What the frame loop sends and what is owed at the end. In one frame the lanes decide the order, so here it is left out.
 sent() {
-    "$folder/frame_loop" "$1" --fast --seed "$2" | grep -E '^(    |The input)' | sort
+    timeout 60 "$folder/frame_loop" "$@" | grep -E '^(    |The input)' | sort
 }
 
 # The picture is XML, and has the panels that were asked for.
@@ -111,9 +112,11 @@ tries() {
     done
 }
 
+# Where threads decide how the show is cut, the same is sent.
 plays_in_time() {
-    timeout 60 "$folder/frame_loop" examples/shows/damaged.show --seed 2 >"$folder/timed" &&
-        grep -q '^The show is over: ' "$folder/timed" && grep -q 'curtain' "$folder/timed"
+    sent examples/shows/damaged.show --fast >"$folder/recorded" &&
+        sent examples/shows/damaged.show --seed 2 | diff "$folder/recorded" - &&
+        sent examples/shows/damaged.show --seed 3 --frames-per-second 1000 | diff "$folder/recorded" -
 }
 
 # A show without slices, one without a patch, a patch that is refused.
