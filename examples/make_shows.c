@@ -8,7 +8,6 @@
 #include <stdbool.h>
 #include <stdint.h>
 #include <stdio.h>
-#include <string.h>
 
 enum type_kind { EMPTY, CUE, LEVEL, SEQUENCE, BESIDE };
 
