@@ -1,38 +1,77 @@
-# make test      the gate: every proof from nothing, the must-fail edits, the layout, the library under C and Rust
+# make demo      builds everything, then plays, rehearses and draws a shipped show
+# make test      the gate: every proof from nothing, the must-fail edits, the layout, the library and the programs in use
 # make prove     the proofs alone, without the edits; what has not changed is not proved again
-# make example   builds the library and runs examples/calls.c against it
 # make lib       the library alone: target/staticlib/libwosthile.a
+# make programs  the program of document 01, target/bin/runner, and the example programs in C
+# make play      a show at 60 frames a second: make play SHOW=examples/shows/lamp_fade.show SEED=3
+# make rehearse  the same recording, cut anew again and again: make rehearse SHOW=.. CUTS=1000 SEED=1
+# make picture   a show as an SVG time line, a panel for each cut: make picture SHOW=.. SEEDS='0 19' >show.svg
+# make shows     writes the shipped shows anew
+# make example   builds examples/calls.c, a few calls of the library, and runs it
 # make fuzz      random calls and runs of feeds, compared with the second interpreter: make fuzz SECONDS=600 SEED=7
 # make bench     times and instruction counts of the library beside the second interpreter
 # make install   archive, header and wosthile.pc: make install PREFIX=/usr/local DESTDIR=
 # make clean     removes all that was built
 
+SHOW = examples/shows/comet_to_saturn.show
+CUTS = 1000
+SEEDS = 0 19
 SECONDS = 60
 SEED = 1
 PREFIX = /usr/local
 DESTDIR =
 
 ARCHIVE = target/staticlib/libwosthile.a
+RUNNER = target/bin/runner
+CFLAGS = -std=c11 -O2 -Wall -Wextra -pedantic
+EXAMPLES = target/calls target/frame_loop target/rehearsal target/timeline target/make_shows
 CARGO = CARGO_TARGET_DIR=target/cargo cargo
 LOCKED = --quiet --release --offline --locked
 
-.PHONY: test prove example lib fuzz bench install clean
+.PHONY: demo test prove lib programs play rehearse picture shows example fuzz bench install clean
+demo: programs
+	examples/demo.sh $(SHOW)
+
 test:
 	.ci/run
 
 prove:
 	rt check
 
-example: $(ARCHIVE)
-	$(CC) -std=c11 -O2 -Wall -Wextra -Iinclude examples/calls.c $(ARCHIVE) -o target/calls
-	target/calls
-
 lib: $(ARCHIVE)
 
-# Specifications and proofs change no byte of the archive.
-$(ARCHIVE): crates.txt $(shell find crates -name '*.rt')
+programs: $(RUNNER) $(EXAMPLES)
+
+play: target/frame_loop
+	target/frame_loop $(SHOW) --seed $(SEED)
+
+rehearse: target/rehearsal
+	target/rehearsal $(SHOW) $(CUTS) $(SEED)
+
+# The picture goes to standard output, so that it can be sent anywhere.
+picture: target/timeline
+	@target/timeline $(SHOW) $(SEEDS)
+
+shows: target/make_shows
+	target/make_shows examples/shows
+
+example: target/calls
+	target/calls
+
+# Specifications and proofs change no byte of the archive or the program.
+SOURCES = crates.txt $(shell find crates -name '*.rt')
+$(ARCHIVE): $(SOURCES)
 	rt staticlib wosthile
 	touch $@
+
+$(RUNNER): $(SOURCES)
+	rt check runner
+	touch $@
+
+target/frame_loop target/timeline: examples/lanes.c examples/lanes.h
+target/frame_loop target/rehearsal target/timeline: examples/show.c examples/show.h examples/feeding.h
+$(EXAMPLES): target/%: examples/%.c include/wosthile.h $(ARCHIVE)
+	$(CC) $(CFLAGS) -Iinclude -pthread $(filter %.c,$^) $(ARCHIVE) -o $@
 
 fuzz: $(ARCHIVE)
 	$(CARGO) run $(LOCKED) --manifest-path tests/comparison/Cargo.toml -- --seconds $(SECONDS) --seed $(SEED)

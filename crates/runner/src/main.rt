@@ -2,11 +2,13 @@
 // prints a line for each slice. What it prints for what it reads is the library's (`transcript`); here are the reads and writes.
 use libc::STDIN_FILENO;
 use libc::STDOUT_FILENO;
+use transcript::Line;
 use transcript::Stage;
+use transcript::has_stopped;
 use transcript::move_to_front;
 use transcript::play;
 ghost use mathlib.Core.Path.{_≡_};
-ghost use Prim.Native.Nat.{_≤_};
+ghost use Prim.Native.Nat.{_-_, _≤_};
 ghost use lib.ListN.{length};
 ghost use Rattle.transcript.specs.Playing.{Inside};
 
@@ -31,15 +33,23 @@ fn patch_buffer() -> [u8; 8482]
     [0; 8482]
 }
 
-// Reads what has come behind the bytes that are held; at the end of the input the program ends.
+// Reads what has come, into room for all that a file can still lack: so it is the end of the input, and no want of room, if
+// nothing comes.
+fn read_some(room: &mut [u8]) -> usize
+    requires { ⌜ 65536 ≤ length (now room) ⌝ }
+    ensures { λ r. ⌜ r ≤ length (now (room .exit)) ⌝ }
+{
+    let got = libc::read(STDIN_FILENO, room);
+    io::count(got, room)
+}
+
+// Reads behind the bytes that are held; at the end of the input the program ends.
 fn read_more(stage: Stage, from: usize, held: usize, input: &mut [u8]) -> Desk
-    requires { ⌜ (from ≤ held) × (held ≤ length (now input)) ⌝ }
+    requires { ⌜ (from ≤ held) × (held ≤ length (now input)) × (held - from ≤ 65536) × (131072 ≤ length (now input)) ⌝ }
     ensures { λ r. ⌜ (r .stage ≡ stage) × (r .from ≤ r .held) × (r .held ≤ length (now (input .exit))) ⌝ }
 {
     let kept = move_to_front(from, held, input);
-    let room: &mut [u8] = &mut input[kept..];
-    let got = libc::read(STDIN_FILENO, room);
-    let came = io::count(got, room);
+    let came = read_some(&mut input[kept..]);
     Desk {
         stage,
         from: 0,
@@ -48,27 +58,18 @@ fn read_more(stage: Stage, from: usize, held: usize, input: &mut [u8]) -> Desk
     }
 }
 
-// A program that has stopped reads no more.
-fn has_stopped(stage: Stage) -> bool {
-    match stage {
-        Stage::Awaiting => false,
-        Stage::Feeding(_) => false,
-        Stage::Stopped => true,
-    }
-}
-
-// Plays what is held and writes its lines; reads more if no file was whole.
+// Plays what is held and writes its lines. Where there was room for one more line, no whole file is left, and more is read.
 fn turn(desk: Desk, input: &mut [u8], patch: &mut [u8], lines: &mut [u8]) -> Desk
-    requires { ⌜ Inside (desk .stage) (now patch) × (8482 ≤ length (now patch)) × (desk .from ≤ desk .held) × (desk .held ≤ length (now input)) ⌝ }
+    requires { ⌜ Inside (desk .stage) (now patch) × (8482 ≤ length (now patch)) × (desk .from ≤ desk .held) × (desk .held ≤ length (now input)) × (131072 ≤ length (now input)) ⌝ }
     ensures { λ r. ⌜ Inside (r .stage) (now (patch .exit)) × (r .from ≤ r .held) × (r .held ≤ length (now (input .exit))) ⌝ }
 {
     let before = desk.stage;
-    let from = desk.from;
+    let start = desk.from;
     let held = desk.held;
-    let played = play(&input[from..held], before, patch, lines);
+    let played = play(&input[start..held], before, patch, lines);
     let stage = played.stage;
-    let taken = played.taken;
     let written = played.written;
+    let from = start + played.taken;
     let is_written = io::write_all(STDOUT_FILENO, &lines[..written]);
     if !is_written || has_stopped(stage) {
         return Desk {
@@ -78,12 +79,12 @@ fn turn(desk: Desk, input: &mut [u8], patch: &mut [u8], lines: &mut [u8]) -> Des
             open: false,
         };
     }
-    if taken == 0 {
+    if lines.len() - written >= Line::MAX {
         return read_more(stage, from, held, input);
     }
     Desk {
         stage,
-        from: from + taken,
+        from,
         held,
         open: true,
     }

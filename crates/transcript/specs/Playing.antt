@@ -1,6 +1,7 @@
 -- What the functions promise that play a stream in pieces, as they come and as there is room for lines: contracts inside the
 -- library. That the pieces make up the transcript is a law (`session-prints` in Sessions).
 use mathlib.Core.Path.{_≡_}
+use mathlib.Core.Bool.{Bool, true, false}
 use mathlib.Core.List.{List, [], _++_}
 use Prim.Native.Nat.{ℕ, _-_, _≤_}
 use lib.ListN.{length, take, drop}
@@ -17,6 +18,11 @@ unfoldable pub state-of : Stage → List ℕ → State
 state-of Awaiting patch = awaiting
 state-of (Feeding n) patch = feeding (take n patch)
 state-of Stopped patch = stopped
+
+unfoldable pub is-stopped : Stage → Bool
+is-stopped Awaiting = false
+is-stopped (Feeding n) = false
+is-stopped Stopped = true
 
 unfoldable pub Inside : Stage → List ℕ → Type 0
 Inside Awaiting patch = Unit

@@ -12,7 +12,7 @@ ghost use Rattle.stream.specs.Buffers.{front};
 ghost use Rattle.writing.specs.Writing.Laws.{Begun};
 ghost use Rattle.transcript.specs.Transcripts.{hexadecimal, number-line, fed-line};
 ghost use Rattle.transcript.specs.Transcripts.{digit as Transcripts·digit};
-ghost use Rattle.transcript.specs.Playing.{Inside, Ready, TakesFile, PlaysNext, PlaysAll};
+ghost use Rattle.transcript.specs.Playing.{is-stopped, Inside, Ready, TakesFile, PlaysNext, PlaysAll};
 ghost use Rattle.transcript.specs.declared.Stage.the-variants.{Awaiting, Feeding};
 
 // Where the program stands between two files: it awaits the patch, feeds the slices that follow to the patch, which has so
@@ -21,6 +21,17 @@ pub enum Stage {
     Awaiting,
     Feeding(usize),
     Stopped,
+}
+
+// A program that has stopped reads no more.
+pub fn has_stopped(stage: Stage) -> bool
+    ensures { λ r. ⌜ r ≡ is-stopped stage ⌝ }
+{
+    match stage {
+        Stage::Awaiting => false,
+        Stage::Feeding(_) => false,
+        Stage::Stopped => true,
+    }
 }
 
 // What one file comes to: the stage, and how many bytes its line has.

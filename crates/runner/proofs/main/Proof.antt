@@ -39,7 +39,7 @@ slice-aggregate-turn-3 : tie.Need-slice-aggregate-turn-3 Inv-loop μ-loop
 slice-aggregate-turn-3 c = c .before .before .before .before .before .loop .inv .5
 
 turn-requires : tie.Need-turn-requires Inv-loop μ-loop
-turn-requires c κs = let inv = c .before .before .before .before .before .loop .inv in (inv .0, omega (arith, inv .1), inv .2, inv .3)
+turn-requires c κs = let inv = c .before .before .before .before .before .loop .inv in (inv .0, omega (arith, inv .1), inv .2, inv .3, omega (arith, inv .4))
 
 sub-turns : tie.Need-sub-turns Inv-loop μ-loop
 sub-turns c = omega arith

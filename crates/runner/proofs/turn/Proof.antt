@@ -1,7 +1,15 @@
--- `turn` meets its contract: `play` keeps the patch inside its bytes, and takes no more than is held.
+-- `turn` meets its contract: `play` keeps the patch inside its bytes and takes no more than is held; and where it says that no
+-- whole file is left, what is held is shorter than the longest file.
 use borrow.Author.Needs.{needs}
-use mathlib.Core.Path.{sym, subst}
+use mathlib.Core.Path.{_≡_, sym, subst, _∙_}
+use mathlib.Core.List.{List}
+use Prim.Native.Nat.{ℕ, _-_, _≤_}
+use native.Mathlib.Omega.{arith}
+use lib.ListN.{length, take, drop, length-drop}
 use lib.Seq.{length-take-le}
+use Rattle.stream.specs.Reading.{Bytes}
+use Rattle.stream.specs.Reading.Laws.{bytes-take, bytes-drop}
+use Rattle.transcript.specs.Playing.Laws.{held-short}
 use Rattle.transcript.specs.Playing.{Inside}
 use Rattle.runner.proofs.turn.Statement.{statement}
 use Rattle.runner.proofs.turn.Tie as tie
@@ -17,6 +25,9 @@ part-play-end c = search needs
 
 play-requires : tie.Need-play-requires
 play-requires c κs = search needs
+
+add-from : tie.Need-add-from
+add-from c = search needs
 
 slice-reshare-prefix-write-all : tie.Need-slice-reshare-prefix-write-all
 slice-reshare-prefix-write-all c = search needs
@@ -42,8 +53,50 @@ same-length-3 c = search needs
 returns : tie.Need-returns
 returns c = search needs
 
+sub-if3 : tie.Need-sub-if3
+sub-if3 c = search needs
+
+-- What is held after `play`, and that it is short if the program waits.
+abbrev start : tie.After-play → tie.Start
+start c = c .before .before .before .before .before .before .before .before
+
+abbrev held-by : tie.After-play → List ℕ
+held-by c = let desk = start c .args .desk in take (desk .held - desk .from) (drop (desk .from) (start c .args .input .now))
+
+held-length : (c : tie.After-play) → length (held-by c) ≡ start c .args .desk .held - start c .args .desk .from
+held-length c =
+    let desk = start c .args .desk in
+    length-take-le (desk .held - desk .from) (drop (desk .from) (start c .args .input .now)) (omega (arith, length-drop (desk .from) (start c .args .input .now)))
+
+rest-bytes : (c : tie.After-play) → Bytes (drop (c .play .result .taken) (held-by c))
+rest-bytes c =
+    let desk = start c .args .desk in
+    let input = start c .args .input .now in
+    bytes-drop (c .play .result .taken) (held-by c)
+    (bytes-take (desk .held - desk .from) (drop (desk .from) input) (bytes-drop (desk .from) input (λ i. omega (arith, c .before .before .before .before .before .before .before .slice-known .given i))))
+
+rest-short : (c : tie.Else2) → (let call = c .before .before .before .before .before .before .before .before .before .before in 1536 ≤ length (start call .args .lines .now) - call .play .result .written)
+    → (let call = c .before .before .before .before .before .before .before .before .before .before in length (held-by call) - call .play .result .taken ≤ 65536)
+rest-short c room =
+    let call = c .before .before .before .before .before .before .before .before .before .before in
+    let r = call .play .result in
+    omega (
+      arith,
+      length-drop (r .taken) (held-by call),
+      held-short (r .stage) (call .play .last .1 .1 .0) (drop (r .taken) (held-by call)) (rest-bytes call) (sym (c .before .has-stopped .ensures) ∙ c .if2 .left)
+          (call .play .ensures .waits room),
+    )
+
 read-more-requires : tie.Need-read-more-requires
-read-more-requires c κs = search needs
+read-more-requires c κs =
+    let call = c .before .before .before .before .before .before .before .before .before .before .before .before in
+    let desk = start call .args .desk in
+    let taken = call .play .ensures .plays .taken-inside in (
+      omega (arith, taken, held-length call),
+      omega (arith, start call .pre .3),
+      omega (arith, held-length call, rest-short (c .before .before) (omega (arith, call .play .kept .1 .1 .1 .0))),
+      start call .pre .4,
+    )
 
 same-length-4 : tie.Need-same-length-4
 same-length-4 c = search needs
@@ -57,15 +110,12 @@ same-length-6 c = search needs
 returns-2 : tie.Need-returns-2
 returns-2 c =
     let more = c .before .before in
-    let call = more .before .before .before .before .before .before .before .before .before .before .before .before in
+    let call = more .before .before .before .before .before .before .before .before .before .before .before .before .before in
     let kept = call .play .last .1 .1 .0 in (
       subst (λ s. Inside s kept) (sym (more .read-more .ensures .0)) (call .play .ensures .plays .inside),
       more .read-more .ensures .1,
       more .read-more .ensures .2,
     )
-
-add-t14 : tie.Need-add-t14
-add-t14 c = search needs
 
 same-length-7 : tie.Need-same-length-7
 same-length-7 c = search needs
@@ -87,6 +137,7 @@ turn-spec =
     part-play-start
     part-play-end
     play-requires
+    add-from
     slice-reshare-prefix-write-all
     slice-aggregate-write-all
     write-all-requires
@@ -95,12 +146,12 @@ turn-spec =
     same-length-2
     same-length-3
     returns
+    sub-if3
     read-more-requires
     same-length-4
     same-length-5
     same-length-6
     returns-2
-    add-t14
     same-length-7
     same-length-8
     same-length-9

@@ -7,8 +7,7 @@ use native.Mathlib.Numerals.{add-one}
 use lib.ListN.{length, getD, set, take, drop, length-set, length-append, length-drop}
 use lib.Seq.{set-at, drop-cons, length-take-le, take-suc, take-length}
 use Rattle.transcript.specs.Transcripts.{digit, hexadecimal}
-use Rattle.writing.specs.Writing.Laws.{Begun}
-use Rattle.transcript.specs.Playing.Laws.{byte-on}
+use Rattle.writing.specs.Writing.Laws.{Begun, byte-on}
 use Rattle.transcript.specs.Transcripts.Laws.{hexadecimal-more}
 use Rattle.transcript.proofs.put_hexadecimal.Statement.{statement}
 use Rattle.transcript.proofs.put_hexadecimal.Tie as tie

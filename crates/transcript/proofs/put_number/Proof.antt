@@ -2,8 +2,7 @@
 use borrow.Author.Needs.{needs}
 use native.Mathlib.Omega.{arith}
 use lib.ListN.{length-set}
-use Rattle.writing.specs.Writing.Laws.{begins}
-use Rattle.transcript.specs.Playing.Laws.{byte-on}
+use Rattle.writing.specs.Writing.Laws.{begins, byte-on}
 use Rattle.transcript.specs.Transcripts.Laws.{one-digit, two-digits}
 use Rattle.transcript.proofs.put_number.Statement.{statement}
 use Rattle.transcript.proofs.put_number.Tie as tie

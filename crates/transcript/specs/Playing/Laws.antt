@@ -1,42 +1,28 @@
 -- What is true of playing.
 use mathlib.Core.Path.{_≡_, refl, sym, ap, ap₂, _∙_}
-use mathlib.Core.Bool.{Bool, true, false}
-use mathlib.Core.List.{List, [], _∷_, _++_, append-assoc}
+use mathlib.Core.Bool.{Bool, true, false, true≢false}
+use mathlib.Core.List.{List, [], _∷_, _++_, append-assoc, append-nil}
 use Prim.Native.Nat.{ℕ, suc, _+_, _*_, _-_, _≤_, _<_}
 use native.Mathlib.Omega.{arith}
-use native.Mathlib.Numerals.{add-one}
 use lib.Dec.{leb}
-use lib.ListN.{length, getD, set, take, drop, length-append, length-drop}
-use lib.Seq.{set-at, drop-cons, append-snoc, drop-drop}
+use lib.ListN.{length, take, drop, length-drop}
+use lib.Seq.{drop-drop}
 use borrow.Author.Tests.{leb-true, leb-false}
 use Rattle.stream.specs.declared.Fault.{Fault}
 use Rattle.stream.specs.declared.Fault.the-variants.{CutShort, LeftOver}
-use Rattle.stream.specs.Reading.{section}
+use Rattle.stream.specs.Reading.{Bytes, section}
 use Rattle.files.specs.declared.sections.TreeEnd.{TreeEnd}
 use Rattle.files.specs.declared.sections.TreeEnd.the-variants.{At, Failed}
 use Rattle.files.specs.Sections.{end-of, any-bytes}
 use Rattle.files.specs.Sections.Laws.{section-ended, section-there}
 use Rattle.writing.specs.Writing.Laws.{part, back, part-is, Begun, goes-on, room-left, length-kept}
 use Rattle.transcript.specs.declared.Stage.{Stage}
+use Rattle.transcript.specs.declared.Stage.the-variants.{Awaiting, Feeding, Stopped}
 use Rattle.transcript.specs.declared.Line.{Line}
 use Rattle.transcript.specs.declared.Played.{Played}
-use Rattle.transcript.specs.Transcripts.{files-within, files, takes, prints}
+use Rattle.transcript.specs.Transcripts.{stopped, files-within, files, takes, prints}
 use Rattle.transcript.specs.Transcripts.Laws.{file-first, no-first}
-use Rattle.transcript.specs.Playing.{state-of, Inside, TakesFile, Plays, Waits, PlaysNext}
-
--- One byte more.
-pub byte-on : {e lent now : List ℕ} {a : ℕ} → Begun e lent now a → (k : ℕ) → a < length lent → Begun (e ++ k ∷ []) lent (set now a k) (a + 1)
-byte-on {e} {lent} {now} {a} begun k room =
-    let n = length e in
-    let long : length (e ++ k ∷ []) ≡ suc n = omega (arith, length-append e (k ∷ [])) in
-    record {
-      long = omega (arith, begun .long);
-      buffer =
-          ap (λ l. set l a k) (begun .buffer ∙ ap (λ l. e ++ l) (drop-cons lent n 0 (omega (arith, begun .long))))
-          ∙ set-at e (getD lent n 0) (drop (suc n) lent) k a (sym (begun .long))
-          ∙ sym (append-snoc e k (drop (suc n) lent))
-          ∙ ap (λ m. (e ++ k ∷ []) ++ drop m lent) (sym long);
-    }
+use Rattle.transcript.specs.Playing.{state-of, is-stopped, Inside, TakesFile, Plays, Waits, has-stopped, no-file, PlaysNext}
 
 -- The file at the front of the input, where the reader of sections says that it ends; or there is none.
 
@@ -139,3 +125,28 @@ module _ (stage : Stage) (patch input lent : List ℕ) where
             ∙ ap (λ i. p .lines ++ n .lines ++ prints (state-of (q .stage) patch-after) (files (i ++ more)))
             (ap (drop (q .taken)) (part-is (r .taken) input) ∙ drop-drop (q .taken) (r .taken) input);
       }
+
+-- Where the program waits and has not stopped, what it holds is shorter than the longest file with its length, 65,537 bytes.
+
+waiting-short : (s : List ℕ) → Bytes s → files s ≡ [] → length s ≤ 65536
+waiting-short [] b e = omega arith
+waiting-short (h ∷ []) b e = omega arith
+waiting-short (h ∷ l ∷ s) b e = go (leb (h * 256 + l) (length s)) refl
+  where
+    go : (t : Bool) → leb (h * 256 + l) (length s) ≡ t → length (h ∷ l ∷ s) ≤ 65536
+    go true t =
+        let some = file-first h l s [] (leb-true (h * 256 + l) (length s) t) in
+        let z : _≡_ {A = ℕ} 0 1 = let x = sym e ∙ ap (λ r. files (h ∷ l ∷ r)) (sym (append-nil s)) ∙ some in cc in
+        absurd (omega arith)
+    go false t = omega (arith, leb-false (h * 256 + l) (length s) t, b 0, b 1)
+
+never-stopped : (stage : Stage) (patch : List ℕ) → is-stopped stage ≡ false → state-of stage patch ≡ stopped → ⊥
+unfolding state-of is-stopped
+never-stopped Awaiting patch h e = let z : _≡_ {A = ℕ} 0 1 = cc in absurd (omega arith)
+never-stopped (Feeding n) patch h e = let z : _≡_ {A = ℕ} 0 1 = cc in absurd (omega arith)
+never-stopped Stopped patch h e = true≢false h
+
+pub held-short : (stage : Stage) (patch held : List ℕ) → Bytes held → is-stopped stage ≡ false → Waits (state-of stage patch) held
+    → length held ≤ 65536
+held-short stage patch held b h (has-stopped e) = absurd (never-stopped stage patch h e)
+held-short stage patch held b h (no-file e) = waiting-short held b e

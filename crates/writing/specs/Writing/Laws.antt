@@ -1,10 +1,10 @@
 -- The algebra of writing: bytes at the front of a lent list, and parts of the list that are lent on and come back.
 use mathlib.Core.Path.{_≡_, refl, sym, ap, _∙_}
 use mathlib.Core.List.{List, [], _∷_, _++_, append-assoc, append-nil}
-use Prim.Native.Nat.{ℕ, _+_, _-_, _/_, _%_, _≤_, _<_}
+use Prim.Native.Nat.{ℕ, suc, _+_, _-_, _/_, _%_, _≤_, _<_}
 use native.Mathlib.Omega.{arith}
-use lib.ListN.{length, drop, take, set, length-drop, length-append, drop-of-length-le}
-use lib.Seq.{drop-drop, take-all, take-at, drop-at, set-split}
+use lib.ListN.{length, getD, drop, take, set, length-drop, length-append, drop-of-length-le}
+use lib.Seq.{drop-cons, append-snoc, drop-drop, take-all, take-at, drop-at, set-at, set-split}
 use Rattle.stream.specs.Reading.{section-bytes}
 use Rattle.stream.specs.Buffers.{front}
 
@@ -65,6 +65,20 @@ module _ {e lent now : List ℕ} {a : ℕ} (begun : Begun e lent now a) where
       record {
         long = omega (arith, begun .long, length-append e f);
         buffer = onward e lent now a (sym (begun .long)) (begun .buffer) f z h;
+      }
+
+  -- One byte more.
+  pub byte-on : (k : ℕ) → a < length lent → Begun (e ++ k ∷ []) lent (set now a k) (a + 1)
+  byte-on k room =
+      let n = length e in
+      let long : length (e ++ k ∷ []) ≡ suc n = omega (arith, length-append e (k ∷ [])) in
+      record {
+        long = omega (arith, begun .long);
+        buffer =
+            ap (λ l. set l a k) (begun .buffer ∙ ap (λ l. e ++ l) (drop-cons lent n 0 (omega (arith, begun .long))))
+            ∙ set-at e (getD lent n 0) (drop (suc n) lent) k a (sym (begun .long))
+            ∙ sym (append-snoc e k (drop (suc n) lent))
+            ∙ ap (λ m. (e ++ k ∷ []) ++ drop m lent) (sym long);
       }
 
   pub room-left : length (part a now) ≡ length lent - a
