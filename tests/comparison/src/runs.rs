@@ -100,7 +100,7 @@ pub fn is_spent(patch: &[u8]) -> bool {
 }
 
 /// An accepted patch, new or left by earlier feeds.
-fn start(random: &mut Random, old: bool) -> Vec<u8> {
+pub fn start(random: &mut Random, old: bool) -> Vec<u8> {
     loop {
         let mut patch = if random.chance(70) {
             crossing_patch(random)
