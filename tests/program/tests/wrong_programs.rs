@@ -1,0 +1,118 @@
+//! Wrong programs are found, each by the kinds of streams that are there for it.
+
+use std::time::Duration;
+
+use comparison::random::Random;
+use program::Kind::{
+    Boundaries, DamagedPatches, Ends, Inputs, LargestAnswers, LongStreams, OpenInput, PatchLengths,
+    Pieces, Runs, SliceLengths,
+};
+use program::{hold, Kind, Program, Streams};
+
+/// A program that is wrong in this way; without a fault it is right.
+fn wrong_program(fault: &str) -> Program {
+    let mut program = Program::at(env!("CARGO_BIN_EXE_wrong_program"));
+    program.words = vec![fault.to_string()];
+    program
+}
+
+/// The faults, and who finds them.
+const WRONG: [(&str, &[Kind]); 45] = [
+    // What is printed.
+    ("upper_case", &[Runs, LargestAnswers, OpenInput]),
+    ("one_digit_below_16", &[Runs, Ends]),
+    ("counts_printed", &[Runs, Ends]),
+    ("space_at_the_end", &[Runs, DamagedPatches, Ends]),
+    ("carriage_return", &[Runs, DamagedPatches, Ends]),
+    ("no_last_line_feed", &[Runs, DamagedPatches, Ends]),
+    ("line_buffer_of_1535", &[LargestAnswers]),
+    ("line_buffer_of_1024", &[LargestAnswers]),
+    ("output_buffer_of_512", &[LargestAnswers]),
+    ("patch_buffer_of_8481", &[PatchLengths]),
+    ("first_64_kib_of_output", &[LargestAnswers, LongStreams]),
+    ("type_before_printed", &[Runs, Ends]),
+    ("accepted_patch_prints_0", &[Runs, Ends]),
+    ("nothing_prints", &[Ends, Inputs]),
+    ("speaks_on_standard_error", &[Runs, DamagedPatches]),
+    ("lines_at_the_end", &[OpenInput]),
+    // Which patch is fed, and when it stops.
+    ("patch_never_replaced", &[Runs, Ends]),
+    ("refused_slice_stops", &[Runs, SliceLengths, Ends]),
+    ("refused_slice_starts_anew", &[Runs, SliceLengths, Ends]),
+    ("refused_slice_clears_patch", &[Runs, SliceLengths, Ends]),
+    (
+        "refused_patch_goes_on",
+        &[DamagedPatches, PatchLengths, Ends],
+    ),
+    (
+        "refused_patch_feeds_on",
+        &[DamagedPatches, PatchLengths, Ends],
+    ),
+    ("refused_patch_reads_on", &[OpenInput]),
+    ("refused_patch_is_an_error", &[DamagedPatches]),
+    ("does_not_end", &[Inputs]),
+    // Files and their lengths.
+    ("cut_file_prints", &[Ends]),
+    ("cut_length_prints", &[Ends]),
+    ("empty_file_ends", &[Runs, PatchLengths, SliceLengths, Ends]),
+    ("low_byte_first", &[Runs, Ends]),
+    ("signed_length", &[PatchLengths, SliceLengths]),
+    ("files_of_513", &[PatchLengths, SliceLengths]),
+    ("files_of_8482", &[PatchLengths, SliceLengths]),
+    ("files_of_32767", &[PatchLengths, SliceLengths]),
+    ("files_of_65534", &[PatchLengths, SliceLengths]),
+    ("long_file_not_skipped", &[PatchLengths, SliceLengths]),
+    // Reads.
+    (
+        "first_64_kib_of_input",
+        &[SliceLengths, LongStreams, Boundaries],
+    ),
+    ("first_mib_of_input", &[LongStreams]),
+    ("one_read_is_enough", &[Pieces]),
+    (
+        "lost_when_across_a_read",
+        &[Pieces, LongStreams, Boundaries],
+    ),
+    ("contents_across_64_kib", &[SliceLengths, Boundaries]),
+    ("contents_at_64_kib", &[Boundaries]),
+    ("length_across_64_kib", &[Boundaries]),
+    ("file_at_64_kib", &[Boundaries]),
+    ("pipes_only", &[Inputs]),
+    ("files_only", &[Ends]),
+];
+
+/// So many streams of a kind find the error, or it is not found.
+const MOST_STREAMS: usize = 250;
+
+/// Whether a kind finds it.
+fn finds(kind: Kind, program: &Program) -> bool {
+    let mut random = Random::new(5);
+    let turns = 0..MOST_STREAMS;
+    let mut streams = turns.flat_map(|turn| kind.streams(turn, &mut random));
+    let mut some = streams.by_ref().take(MOST_STREAMS);
+    some.any(|case| hold(program, &case).is_err())
+}
+
+#[test]
+fn every_wrong_program_is_found() {
+    let mut missed = Vec::new();
+    for (fault, kinds) in WRONG {
+        let mut program = wrong_program(fault);
+        program.at_once = Duration::from_secs(1);
+        program.to_the_end = Duration::from_secs(5);
+        let some = kinds.iter().filter(|kind| !finds(**kind, &program));
+        missed.extend(some.map(|kind| format!("{fault}: {kind}")));
+    }
+    assert_eq!(missed, Vec::<String>::new(), "not found");
+}
+
+/// Without this a comparison that refuses everything would find every wrong program, too.
+#[test]
+fn the_right_program_is_held_right() {
+    let program = wrong_program("");
+    for case in Streams::new(5).take(300) {
+        if let Err(text) = hold(&program, &case) {
+            panic!("{text}");
+        }
+    }
+}
