@@ -4,7 +4,7 @@
 //! [`Streams`] makes the streams of a seed, each of a [`Kind`] that is there to find some error of
 //! reading, feeding or printing. [`hold`] hands one to the program and holds what it writes, and
 //! how it ends, to what the second interpreter writes for the same bytes. [`Tally`] counts what
-//! was met.
+//! was met. [`measure`] takes times and memory.
 
 mod answers;
 mod boundaries;
@@ -15,6 +15,7 @@ pub mod holding;
 pub mod kinds;
 mod lengths;
 mod long;
+pub mod measure;
 mod pieces;
 pub mod process;
 mod report;
