@@ -10,9 +10,10 @@ title() {
     printf '\n== %s\n\n' "$1"
 }
 
-title "The program of document 01 feeds the recording, slice by slice: number, output, input type left. The last lines:"
+title "The program of document 01 feeds the recording, slice by slice: number, output, input type left. The last lines, each
+   with how often it comes in a row:"
 target/bin/runner <"$show" >"target/$name.lines"
-tail -n 3 "target/$name.lines"
+uniq -c "target/$name.lines" | tail -n 6
 
 title "The same show at 60 frames a second. Slices are late (seed $seed), so that two or three come as one:"
 target/frame_loop "$show" --seed "$seed"
