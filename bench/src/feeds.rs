@@ -5,7 +5,8 @@ use comparison::types::{BESIDE, CUE, LEVEL, SEQUENCE};
 use comparison::Operation;
 
 use crate::nodes::*;
-use crate::rows::{claiming, lengthened, Group, Row, LARGEST, SIZES};
+use crate::patches::pass_on_growing_types;
+use crate::rows::{claiming, lengthened, Group, Row, LARGEST};
 use crate::streams::{slice_tree, type_tree, Shape, Share};
 
 /// A name, a patch, and how much of its input comes.
@@ -167,19 +168,10 @@ fn crossing() -> Vec<Fed> {
 
 /// One node on types of a growing size, and patches of a growing number of nodes.
 pub fn growing() -> Vec<Row> {
-    let mut rows = Vec::new();
-    for (shape, series) in Shape::ALL {
-        for nodes in SIZES {
-            let group = Group::Growing {
-                series,
-                nodes,
-                largest: LARGEST,
-            };
-            let name = format!("pass, {series}, {nodes} nodes in the type");
-            let file = patch(&type_tree(shape, nodes), &[PASS]);
-            rows.push(row(group, (name, file, Share::Half)));
-        }
-    }
+    let mut rows: Vec<Row> = pass_on_growing_types()
+        .into_iter()
+        .map(|(group, name, file)| row(group, (name, file, Share::Half)))
+        .collect();
     let series = [
         ("pairs of pass, balanced", Shape::Balanced, BOTH),
         ("chains of pass, deep left", Shape::DeepLeft, CHAIN),

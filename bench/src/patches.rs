@@ -63,9 +63,9 @@ fn giving_largest() -> [(&'static str, Vec<u8>, Vec<u8>); 5] {
     ]
 }
 
-/// One node on types of a growing size, and patches of a growing number of nodes.
-pub fn growing() -> Vec<Row> {
-    let mut rows = Vec::new();
+/// One node on types of a growing size: the group, a name, and the patch.
+pub fn pass_on_growing_types() -> Vec<(Group, String, Vec<u8>)> {
+    let mut patches = Vec::new();
     for (shape, series) in Shape::ALL {
         for nodes in SIZES {
             let group = Group::Growing {
@@ -74,9 +74,18 @@ pub fn growing() -> Vec<Row> {
                 largest: LARGEST,
             };
             let name = format!("pass, {series}, {nodes} nodes in the type");
-            rows.push(row(group, &name, patch(&type_tree(shape, nodes), &[PASS])));
+            patches.push((group, name, patch(&type_tree(shape, nodes), &[PASS])));
         }
     }
+    patches
+}
+
+/// One node on types of a growing size, and patches of a growing number of nodes.
+pub fn growing() -> Vec<Row> {
+    let mut rows: Vec<Row> = pass_on_growing_types()
+        .into_iter()
+        .map(|(group, name, file)| row(group, &name, file))
+        .collect();
     rows.extend(growing_patches());
     rows
 }

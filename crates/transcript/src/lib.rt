@@ -187,6 +187,7 @@ fn play_next(input: &[u8], stage: Stage, patch: &mut [u8], out: &mut [u8]) -> Pl
     }
 }
 
+// One file that ends at `end`, and its line.
 fn taken(end: usize, line: Line) -> Played
     ensures { λ r. ⌜ r ≡ record { stage = line .stage; taken = end; written = line .written } ⌝ }
 {
