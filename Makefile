@@ -9,6 +9,8 @@
 # make shows     writes the shipped shows anew
 # make example   builds examples/calls.c, a few calls of the library, and runs it
 # make fuzz      random calls and runs of feeds, compared with the second interpreter: make fuzz SECONDS=600 SEED=7
+# make streams   the program on random streams, compared with the second interpreter's: make streams STREAMS=20000 SEED=7
+# make measure   how long the program takes for 100,000 slices, and how much memory
 # make bench     times and instruction counts of the library beside the second interpreter
 # make install   archive, header and wosthile.pc: make install PREFIX=/usr/local DESTDIR=
 # make clean     removes all that was built
@@ -17,6 +19,7 @@ SHOW = examples/shows/comet_to_saturn.show
 CUTS = 1000
 SEEDS = 0 19
 SECONDS = 60
+STREAMS = 5000
 SEED = 1
 PREFIX = /usr/local
 DESTDIR =
@@ -28,7 +31,7 @@ EXAMPLES = target/calls target/frame_loop target/rehearsal target/timeline targe
 CARGO = CARGO_TARGET_DIR=target/cargo cargo
 LOCKED = --quiet --release --offline --locked
 
-.PHONY: demo test prove lib programs play rehearse picture shows example fuzz bench install clean
+.PHONY: demo test prove lib programs play rehearse picture shows example fuzz streams measure bench install clean
 demo: programs
 	examples/demo.sh $(SHOW)
 
@@ -75,6 +78,12 @@ $(EXAMPLES): target/%: examples/%.c include/wosthile.h $(ARCHIVE)
 
 fuzz: $(ARCHIVE)
 	$(CARGO) run $(LOCKED) --manifest-path tests/comparison/Cargo.toml -- --seconds $(SECONDS) --seed $(SEED)
+
+streams: $(ARCHIVE) $(RUNNER)
+	$(CARGO) run $(LOCKED) --manifest-path tests/program/Cargo.toml -- --program $(RUNNER) --streams $(STREAMS) --seed $(SEED)
+
+measure: $(ARCHIVE) $(RUNNER)
+	$(CARGO) run $(LOCKED) --manifest-path tests/program/Cargo.toml -- --measure $(RUNNER)
 
 bench: $(ARCHIVE)
 	$(CARGO) build $(LOCKED) --manifest-path bench/Cargo.toml
