@@ -5,7 +5,7 @@
 # make programs  the program of document 01, target/bin/runner, and the example programs in C
 # make play      a show at 60 frames a second: make play SHOW=examples/shows/lamp_fade.show SEED=3
 # make rehearse  the same recording, cut anew again and again: make rehearse SHOW=.. CUTS=1000 SEED=1
-# make picture   a show as an SVG time line, a panel for each cut: make picture SHOW=.. SEEDS='0 19' >show.svg
+# make picture   a show as an SVG time line in target/, a panel for each cut: make picture SHOW=.. SEEDS='0 19'
 # make shows     writes the shipped shows anew
 # make example   builds examples/calls.c, a few calls of the library, and runs it
 # make fuzz      random calls and runs of feeds, compared with the second interpreter: make fuzz SECONDS=600 SEED=7
@@ -51,9 +51,8 @@ play: target/frame_loop
 rehearse: target/rehearsal
 	target/rehearsal $(SHOW) $(CUTS) $(SEED)
 
-# The picture goes to standard output, so that it can be sent anywhere.
 picture: target/timeline
-	@target/timeline $(SHOW) $(SEEDS)
+	target/timeline $(SHOW) $(SEEDS) >target/$(basename $(notdir $(SHOW))).svg
 
 shows: target/make_shows
 	target/make_shows examples/shows
