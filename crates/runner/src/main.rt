@@ -13,14 +13,15 @@ ghost use lib.ListN.{length};
 ghost use Rattle.transcript.specs.Playing.{Inside};
 
 // Where the program stands: its stage, the part of the input that it holds, from one place to another, and whether it goes on.
-struct Desk {
+struct Progress {
     stage: Stage,
     from: usize,
     held: usize,
     open: bool,
 }
 
-// Room for two of the longest files, so that a read is a large one whatever is held.
+// What is held of a file that is not whole has at most 65,536 bytes, and behind it there is room for as many again: so every
+// read is a large one.
 fn input_buffer() -> [u8; 131072]
     ensures { λ r. ⌜ 131072 ≡ length r ⌝ }
 {
@@ -44,13 +45,13 @@ fn read_some(room: &mut [u8]) -> usize
 }
 
 // Reads behind the bytes that are held; at the end of the input the program ends.
-fn read_more(stage: Stage, from: usize, held: usize, input: &mut [u8]) -> Desk
+fn read_more(stage: Stage, from: usize, held: usize, input: &mut [u8]) -> Progress
     requires { ⌜ (from ≤ held) × (held ≤ length (now input)) × (held - from ≤ 65536) × (131072 ≤ length (now input)) ⌝ }
     ensures { λ r. ⌜ (r .stage ≡ stage) × (r .from ≤ r .held) × (r .held ≤ length (now (input .exit))) ⌝ }
 {
     let kept = move_to_front(from, held, input);
     let came = read_some(&mut input[kept..]);
-    Desk {
+    Progress {
         stage,
         from: 0,
         held: kept + came,
@@ -59,20 +60,20 @@ fn read_more(stage: Stage, from: usize, held: usize, input: &mut [u8]) -> Desk
 }
 
 // Plays what is held and writes its lines. Where there was room for one more line, no whole file is left, and more is read.
-fn turn(desk: Desk, input: &mut [u8], patch: &mut [u8], lines: &mut [u8]) -> Desk
-    requires { ⌜ Inside (desk .stage) (now patch) × (8482 ≤ length (now patch)) × (desk .from ≤ desk .held) × (desk .held ≤ length (now input)) × (131072 ≤ length (now input)) ⌝ }
+fn turn(progress: Progress, input: &mut [u8], patch: &mut [u8], lines: &mut [u8]) -> Progress
+    requires { ⌜ Inside (progress .stage) (now patch) × (8482 ≤ length (now patch)) × (progress .from ≤ progress .held) × (progress .held ≤ length (now input)) × (131072 ≤ length (now input)) ⌝ }
     ensures { λ r. ⌜ Inside (r .stage) (now (patch .exit)) × (r .from ≤ r .held) × (r .held ≤ length (now (input .exit))) ⌝ }
 {
-    let before = desk.stage;
-    let start = desk.from;
-    let held = desk.held;
+    let before = progress.stage;
+    let start = progress.from;
+    let held = progress.held;
     let played = play(&input[start..held], before, patch, lines);
     let stage = played.stage;
     let written = played.written;
     let from = start + played.taken;
     let is_written = io::write_all(STDOUT_FILENO, &lines[..written]);
     if !is_written || has_stopped(stage) {
-        return Desk {
+        return Progress {
             stage,
             from,
             held,
@@ -82,7 +83,7 @@ fn turn(desk: Desk, input: &mut [u8], patch: &mut [u8], lines: &mut [u8]) -> Des
     if lines.len() - written >= Line::MAX {
         return read_more(stage, from, held, input);
     }
-    Desk {
+    Progress {
         stage,
         from,
         held,
@@ -96,15 +97,15 @@ fn main() {
     let mut input = input_buffer();
     let mut patch = patch_buffer();
     let mut lines = io::large_buffer();
-    let mut desk = Desk {
+    let mut progress = Progress {
         stage: Stage::Awaiting,
         from: 0,
         held: 0,
         open: true,
     };
     let mut turns = u64::MAX;
-    while turns > 0 && desk.open {
-        desk = turn(desk, &mut input, &mut patch, &mut lines);
+    while turns > 0 && progress.open {
+        progress = turn(progress, &mut input, &mut patch, &mut lines);
         turns -= 1;
     }
 }

@@ -1,4 +1,4 @@
--- `main` meets its contract: each turn leaves the desk as the next one asks for it.
+-- `main` meets its contract: each turn leaves everything as the next one asks for it.
 use borrow.Author.Needs.{needs}
 use mathlib.Core.Path.{_≡_, sym, _∙_}
 use Prim.Native.Nat.{_≤_}
@@ -9,11 +9,11 @@ use Rattle.runner.proofs.main.Statement.{statement}
 use Rattle.runner.proofs.main.Tie as tie
 
 abbrev Inv-loop : tie.InvT-loop
-Inv-loop input₀ patch₀ lines₀ desk₀ turns₀ input patch lines desk turns =
-    Inside (desk .stage) patch × (8482 ≡ length patch) × (desk .from ≤ desk .held) × (desk .held ≤ length input) × (131072 ≡ length input) × (65536 ≡ length lines)
+Inv-loop input₀ patch₀ lines₀ progress₀ turns₀ input patch lines progress turns =
+    Inside (progress .stage) patch × (8482 ≡ length patch) × (progress .from ≤ progress .held) × (progress .held ≤ length input) × (131072 ≡ length input) × (65536 ≡ length lines)
 
 abbrev μ-loop : tie.MeasureT-loop
-μ-loop input₀ patch₀ lines₀ desk₀ turns₀ input patch lines desk turns = turns
+μ-loop input₀ patch₀ lines₀ progress₀ turns₀ input patch lines progress turns = turns
 
 input-buffer-requires : tie.Need-input-buffer-requires Inv-loop μ-loop
 input-buffer-requires c κs = tt

@@ -61,19 +61,19 @@ abbrev start : tie.After-play → tie.Start
 start c = c .before .before .before .before .before .before .before .before
 
 abbrev held-by : tie.After-play → List ℕ
-held-by c = let desk = start c .args .desk in take (desk .held - desk .from) (drop (desk .from) (start c .args .input .now))
+held-by c = let progress = start c .args .progress in take (progress .held - progress .from) (drop (progress .from) (start c .args .input .now))
 
-held-length : (c : tie.After-play) → length (held-by c) ≡ start c .args .desk .held - start c .args .desk .from
+held-length : (c : tie.After-play) → length (held-by c) ≡ start c .args .progress .held - start c .args .progress .from
 held-length c =
-    let desk = start c .args .desk in
-    length-take-le (desk .held - desk .from) (drop (desk .from) (start c .args .input .now)) (omega (arith, length-drop (desk .from) (start c .args .input .now)))
+    let progress = start c .args .progress in
+    length-take-le (progress .held - progress .from) (drop (progress .from) (start c .args .input .now)) (omega (arith, length-drop (progress .from) (start c .args .input .now)))
 
 rest-bytes : (c : tie.After-play) → Bytes (drop (c .play .result .taken) (held-by c))
 rest-bytes c =
-    let desk = start c .args .desk in
+    let progress = start c .args .progress in
     let input = start c .args .input .now in
     bytes-drop (c .play .result .taken) (held-by c)
-    (bytes-take (desk .held - desk .from) (drop (desk .from) input) (bytes-drop (desk .from) input (λ i. omega (arith, c .before .before .before .before .before .before .before .slice-known .given i))))
+    (bytes-take (progress .held - progress .from) (drop (progress .from) input) (bytes-drop (progress .from) input (λ i. omega (arith, c .before .before .before .before .before .before .before .slice-known .given i))))
 
 rest-short : (c : tie.Else2) → (let call = c .before .before .before .before .before .before .before .before .before .before in 1536 ≤ length (start call .args .lines .now) - call .play .result .written)
     → (let call = c .before .before .before .before .before .before .before .before .before .before in length (held-by call) - call .play .result .taken ≤ 65536)
@@ -90,7 +90,7 @@ rest-short c room =
 read-more-requires : tie.Need-read-more-requires
 read-more-requires c κs =
     let call = c .before .before .before .before .before .before .before .before .before .before .before .before in
-    let desk = start call .args .desk in
+    let progress = start call .args .progress in
     let taken = call .play .ensures .plays .taken-inside in (
       omega (arith, taken, held-length call),
       omega (arith, start call .pre .3),
