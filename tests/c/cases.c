@@ -510,6 +510,26 @@ static void check_shared_memory(void)
     count(left.number == 20 && left.written == 0 && buffer[0] == 9, "Left", "a pointer with length 0", 0);
 }
 
+/* Every number of document 01 has a sentence of its own, and no other number has one. */
+static void check_sentences(void)
+{
+    static const uint32_t numbers[] = {0, 1, 2, 3, 4, 5, 6, 7, 11, 12, 13, 14, 20};
+    const size_t listed = sizeof numbers / sizeof numbers[0];
+    const char *unlisted = wosthile_sentence(UINT32_MAX);
+    size_t met = 0;
+    for (uint32_t number = 0; number < 100; number++) {
+        met += strcmp(wosthile_sentence(number), unlisted) != 0;
+    }
+    count(met == listed, "sentence", "as many as numbers", 0);
+    for (size_t one = 0; one < listed; one++) {
+        count(strcmp(wosthile_sentence(numbers[one]), unlisted) != 0, "sentence", "of a number", numbers[one]);
+        for (size_t other = 0; other < one; other++) {
+            bool same = strcmp(wosthile_sentence(numbers[one]), wosthile_sentence(numbers[other])) == 0;
+            count(!same, "sentence", "of its own", numbers[one]);
+        }
+    }
+}
+
 int main(void)
 {
     for (size_t row = 0; row < sizeof check_rows / sizeof check_rows[0]; row++) {
@@ -532,6 +552,7 @@ int main(void)
     check_limit();
     check_long_files();
     check_shared_memory();
+    check_sentences();
     printf("%d passed, %d failed\n", passed, failed);
     return failed != 0;
 }
