@@ -27,6 +27,7 @@ DESTDIR =
 ARCHIVE = target/staticlib/libwosthile.a
 RUNNER = target/bin/runner
 CFLAGS = -std=c11 -O2 -Wall -Wextra -pedantic
+PICTURE = target/$(basename $(notdir $(SHOW))).svg
 EXAMPLES = target/calls target/frame_loop target/rehearsal target/timeline target/make_shows
 CARGO = CARGO_TARGET_DIR=target/cargo cargo
 LOCKED = --quiet --release --offline --locked
@@ -52,7 +53,8 @@ rehearse: target/rehearsal
 	target/rehearsal $(SHOW) $(CUTS) $(SEED)
 
 picture: target/timeline
-	target/timeline $(SHOW) $(SEEDS) >target/$(basename $(notdir $(SHOW))).svg
+	target/timeline $(SHOW) $(SEEDS) >$(PICTURE).new
+	mv $(PICTURE).new $(PICTURE)
 
 shows: target/make_shows
 	target/make_shows examples/shows

@@ -10,17 +10,18 @@ title() {
     printf '\n== %s\n\n' "$1"
 }
 
-title "The program of document 01 feeds the recording, slice by slice: number, output, input type left. The last lines, each
-   with how often it comes in a row:"
-target/bin/runner <"$show" >"target/$name.lines"
-uniq -c "target/$name.lines" | tail -n 6
-
-title "The same show at 60 frames a second. Slices are late (seed $seed), so that two or three come as one:"
+title "$name at 60 frames a second. Slices are late (seed $seed), so that two or three come as one:"
 target/frame_loop "$show" --seed "$seed"
 
 title "Rehearsed: the recording is cut anew a thousand times, and every joined output and last patch is compared."
 target/rehearsal "$show" 1000 "$seed"
 
 title "Drawn: the show as it was recorded, and as seed $seed cuts it."
-target/timeline "$show" 0 "$seed" >"target/$name.svg"
+target/timeline "$show" 0 "$seed" >"target/$name.svg.new"
+mv "target/$name.svg.new" "target/$name.svg"
 echo "target/$name.svg: open it in a browser."
+
+title "Fed by the program, runner: for each slice a number and, if it is 0, what is sent and the input type left, in hexadecimal.
+   With the number of the slice in front, some of the lines:"
+target/bin/runner <"$show" >"target/$name.lines"
+grep -n '' "target/$name.lines" | sed -n '119,123p;240p'

@@ -5,8 +5,9 @@
  *
  *   frame_loop SHOW [--seed N] [--frames-per-second N | --fast]
  *
- * At 60 frames a second, or another number, the two threads have clocks of their own, and it is up to them how the
- * stream is cut into feeds. With --fast they go in lock step, frame by frame, so that the seed alone decides it.
+ * At 60 frames a second, or another number, the outside is half a frame ahead: a slice that comes in time is there when
+ * its frame is taken, and a thread that is held up for longer cuts the stream in another way than the seed says. With
+ * --fast the two go in lock step, frame by frame, so that the seed alone decides it.
  */
 #define _POSIX_C_SOURCE 200809L /* for clock_nanosleep and flockfile */
 #include "feeding.h"
@@ -44,6 +45,7 @@ struct player {
     const struct show *show;
     const size_t *arrivals;
     struct pace pace;
+    struct timespec start; /* of the show, by the clock that both threads go by */
     struct mailbox mailbox;
     size_t refused; /* slices refused at the door; the producer's until its thread has ended */
 };
@@ -55,9 +57,10 @@ static void stop(const char *reason)
     exit(2);
 }
 
-static void print_refusal(size_t frame, const char *what, uint32_t number)
+/* What was refused in a frame, and what follows from it. */
+static void print_refusal(size_t frame, const char *what, uint32_t number, const char *follows)
 {
-    printf("frame %zu: %s is refused with %u: %s\n", frame, what, number, wosthile_sentence(number));
+    printf("frame %zu: %s is refused with %u, and %s: %s\n", frame, what, number, follows, wosthile_sentence(number));
 }
 
 static void mailbox_open(struct mailbox *mailbox, struct file input_type)
@@ -143,12 +146,17 @@ static bool mailbox_take(struct mailbox *mailbox, size_t frame, struct joined *t
     return more;
 }
 
+static struct timespec later(struct timespec time, long nanoseconds)
+{
+    enum { SECOND = 1000000000 };
+    long sum = time.tv_nsec + nanoseconds;
+    return (struct timespec){time.tv_sec + sum / SECOND, sum % SECOND};
+}
+
 /* Sleeps until the next frame is due. The times are absolute, so a late frame does not make the later ones late. */
 static void await_frame(struct timespec *due, struct pace pace)
 {
-    enum { SECOND = 1000000000 };
-    due->tv_sec += (due->tv_nsec + pace.nanoseconds) / SECOND;
-    due->tv_nsec = (due->tv_nsec + pace.nanoseconds) % SECOND;
+    *due = later(*due, pace.nanoseconds);
     while (clock_nanosleep(CLOCK_MONOTONIC, TIMER_ABSTIME, due, NULL) == EINTR) {
     }
 }
@@ -160,7 +168,7 @@ static void deliver(struct player *player, size_t frame, size_t index)
     if (number != WOSTHILE_ACCEPTED) {
         char what[40];
         snprintf(what, sizeof what, "recorded slice %zu", index + 1);
-        print_refusal(frame, what, number);
+        print_refusal(frame, what, number, "left out");
         player->refused++;
     }
 }
@@ -170,8 +178,7 @@ static void *produce(void *argument)
 {
     struct player *player = argument;
     size_t next = 0, count = player->show->count;
-    struct timespec due;
-    clock_gettime(CLOCK_MONOTONIC, &due);
+    struct timespec due = player->start;
     for (size_t frame = 1; next < count; frame++) {
         if (player->pace.lock_step) {
             mailbox_await_taken(&player->mailbox, frame - 1);
@@ -186,47 +193,39 @@ static void *produce(void *argument)
     return NULL;
 }
 
-/* Where the output goes: here it is printed, in the words of the lanes. */
-struct sender {
-    struct lanes lanes;
+/* What the presenter is told, in the words of the lanes. Here the output is printed; a box sends it to the lamps. */
+struct screen {
+    struct lanes in, out;
     struct lane_names names;
 };
 
+/* Moves a side on; the slice is one of what the slices before it leave, since it was fed, or sent. */
+static void follow(struct lanes *side, struct file slice, struct lane_events *events)
+{
+    if (lanes_follow(side, slice, events) != WOSTHILE_ACCEPTED) {
+        stop("A slice that was fed or sent is not one of what the slices before it leave.");
+    }
+}
+
 /* Sends on what a frame gave; a frame that gave nothing new prints nothing. */
-static void send_on(struct sender *sender, size_t frame, size_t slices, struct file output)
+static void send_on(struct screen *screen, size_t frame, const struct joined *taken, struct file output)
 {
     struct lane_events events;
-    if (lanes_follow(&sender->lanes, output, &events) != WOSTHILE_ACCEPTED) {
-        stop("The output is not a slice of what the outputs before it leave.");
-    }
+    follow(&screen->in, joined_file(taken), &events);
+    follow(&screen->out, output, &events);
     if (events.count == 0) {
         return;
     }
     flockfile(stdout); /* so that a refusal from the other thread is not printed between these lines */
     printf("frame %zu", frame);
-    if (slices > 1) {
-        printf(", %zu slices as one", slices);
+    if (taken->count > 1) {
+        printf(", %zu slices as one", taken->count);
     }
     printf("\n");
     for (size_t index = 0; index < events.count; index++) {
-        lane_event_print(&events.list[index], &sender->names.out);
+        lane_event_print(&events.list[index], &screen->names.out);
     }
     funlockfile(stdout);
-}
-
-/* What the input type left still asks for: a type with no cue, level or sequence in it is nullable. */
-static void print_owed(struct file type)
-{
-    size_t owed[5] = {0};
-    for (size_t place = 2; place < type.length; place++) {
-        owed[type.bytes[place] % 5]++;
-    }
-    if (owed[1] + owed[2] + owed[3] == 0) {
-        printf("The input is complete: nothing is owed.\n");
-    } else {
-        printf("The input is not complete; still owed: cues %zu, levels %zu, crossings %zu.\n", owed[1], owed[2],
-               owed[3]);
-    }
 }
 
 struct tally {
@@ -237,13 +236,12 @@ struct tally {
  * The frame loop. The door has admitted whatever is fed here, so no feed is refused; in a loop without a door, a
  * refused feed is as if the slice had not come: the patch stays, and the show goes on.
  */
-static struct tally draw_frames(struct player *player, struct patch *patch, struct sender *sender)
+static struct tally draw_frames(struct player *player, struct patch *patch, struct screen *screen)
 {
     struct tally tally = {0};
     struct joined taken;
     uint8_t output[WOSTHILE_SLICE_FILE_MAX];
-    struct timespec due;
-    clock_gettime(CLOCK_MONOTONIC, &due);
+    struct timespec due = later(player->start, player->pace.nanoseconds / 2);
     for (size_t frame = 1;; frame++) {
         if (player->pace.lock_step) {
             mailbox_await_delivered(&player->mailbox, frame);
@@ -259,30 +257,31 @@ static struct tally draw_frames(struct player *player, struct patch *patch, stru
         }
         wosthile_fed fed = patch_feed(patch, joined_file(&taken), output);
         if (fed.number != WOSTHILE_ACCEPTED) {
-            print_refusal(frame, "the feed", fed.number);
+            print_refusal(frame, "the feed", fed.number, "the patch stays");
             tally.refused++;
             continue;
         }
         tally.feeds++;
-        send_on(sender, frame, taken.count, (struct file){output, fed.output});
+        send_on(screen, frame, &taken, (struct file){output, fed.output});
     }
 }
 
 /* Plays the show from an accepted patch: the producer in a thread of its own, the frame loop in this one. */
-static void play(struct player *player, struct patch *patch, struct sender *sender)
+static void play(struct player *player, struct patch *patch, struct screen *screen)
 {
     pthread_t producer;
     mailbox_open(&player->mailbox, patch_input_type(patch));
     player->mailbox.over = player->show->count == 0;
+    clock_gettime(CLOCK_MONOTONIC, &player->start);
     if (pthread_create(&producer, NULL, produce, player) != 0) {
         stop("There is no thread for the producer.");
     }
-    struct tally tally = draw_frames(player, patch, sender);
+    struct tally tally = draw_frames(player, patch, screen);
     pthread_join(producer, NULL);
     mailbox_close(&player->mailbox);
     printf("The show is over: %zu frames, %zu slices, %zu feeds, %zu refused.\n", tally.frames, player->show->count,
            tally.feeds, tally.refused + player->refused);
-    print_owed(patch_input_type(patch));
+    lanes_print_owed(&screen->in, &screen->names.in);
 }
 
 /* Checks the patch of the show and plays it; the answer is the exit status. */
@@ -290,23 +289,23 @@ static int check_and_play(const char *path, const struct show *show, uint64_t se
 {
     struct patch patch;
     struct type output_type;
-    struct sender sender;
+    struct screen screen;
     uint32_t number = patch_start(&patch, show->patch, &output_type);
     if (number != WOSTHILE_ACCEPTED) {
         printf("The patch is refused with %u: %s\n", number, wosthile_sentence(number));
         return 1;
     }
-    if (!lanes_start(&sender.lanes, type_file(&output_type))) {
-        stop("The type that the patch gives cannot be read.");
+    if (!lanes_start(&screen.in, patch_input_type(&patch)) || !lanes_start(&screen.out, type_file(&output_type))) {
+        stop("A type of the patch cannot be read.");
     }
-    lane_names_read(&sender.names, path);
+    lane_names_read(&screen.names, path);
     size_t *arrivals = calloc(show->count + 1, sizeof *arrivals);
     if (arrivals == NULL) {
         stop("There is not enough memory for the show.");
     }
     show_arrivals(seed, show->count, arrivals);
     struct player player = {.show = show, .arrivals = arrivals, .pace = pace};
-    play(&player, &patch, &sender);
+    play(&player, &patch, &screen);
     free(arrivals);
     return 0;
 }
@@ -353,6 +352,7 @@ int main(int count, char **list)
         fprintf(stderr, "%s: %s\n", words.path, fault);
         return 1;
     }
+    setvbuf(stdout, NULL, _IOLBF, BUFSIZ); /* a line is seen at once, through a pipe too */
     struct pace pace = {words.fast, 1000000000 / (long)words.frames_per_second};
     int status = check_and_play(words.path, &show, words.seed, pace);
     show_release(&show);

@@ -282,11 +282,12 @@ void lane_names_read(struct lane_names *names, const char *show_path)
     fclose(stream);
 }
 
-static void print_range(const char *before, struct lane_range lanes, const struct side_names *names)
+/* The first lane and the last, in quotation marks, since a name may hold commas. */
+static void print_range(struct lane_range lanes, const struct side_names *names)
 {
-    printf("%s %s", before, names->of[lanes.first]);
+    printf("\"%s\"", names->of[lanes.first]);
     if (lanes.last > lanes.first) {
-        printf(" .. %s", names->of[lanes.last]);
+        printf(" .. \"%s\"", names->of[lanes.last]);
     }
 }
 
@@ -297,8 +298,32 @@ void lane_event_print(const struct lane_event *event, const struct side_names *n
     } else if (event->kind == EVENT_LEVEL) {
         printf("    %s: level %u\n", names->of[event->lane], event->value);
     } else {
-        print_range("    crossing from", event->from, names);
-        print_range(" to", event->to, names);
+        printf("    crossing: ");
+        print_range(event->from, names);
+        printf(" -> ");
+        print_range(event->to, names);
         printf("\n");
+    }
+}
+
+void lanes_print_owed(const struct lanes *lanes, const struct side_names *names)
+{
+    size_t crossings = 0, owed = 0;
+    for (size_t node = 0; node < lanes->nodes; node++) {
+        uint8_t kind = lanes->type[2 + node];
+        crossings += kind == TYPE_SEQUENCE;
+        if (kind != TYPE_EMPTY && kind < TYPE_SEQUENCE) {
+            printf(owed++ == 0 ? "The input is not complete; still owed: \"%s\"" : ", \"%s\"",
+                   names->of[lanes->start[lanes->origin[node]].lanes.first]);
+        }
+    }
+    if (owed == 0 && crossings == 0) {
+        printf("The input is complete: nothing is owed.\n");
+    } else if (owed == 0) {
+        printf("The input is not complete; crossings still owed: %zu.\n", crossings);
+    } else if (crossings > 0) {
+        printf("; crossings: %zu.\n", crossings);
+    } else {
+        printf(".\n");
     }
 }

@@ -79,6 +79,9 @@ void lane_names_read(struct lane_names *names, const char *show_path);
 /* Prints an event in words, with the names of its side, on a line of its own. */
 void lane_event_print(const struct lane_event *event, const struct side_names *names);
 
+/* Says on a line what is left of the type: the lanes in which something has still to come, and how many crossings. */
+void lanes_print_owed(const struct lanes *lanes, const struct side_names *names);
+
 /* Copies a text, with ? for what is no printable character in UTF-8, and as much of it as there is room for. */
 void clean_text(char *to, size_t room, const char *text);
 

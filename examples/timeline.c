@@ -489,7 +489,7 @@ static void draw_legend(double y)
     printf("<path d=\"M484 %.1fl6 4l-6 4z\" fill=\"" CROSSING_COLOUR "\"/>\n", y - 8);
     print_legend_word(496, y, "crossing: first part ends, second opens");
     print_rectangle(742, y - 11, 8, 15, JOINED_COLOUR, 0.55);
-    print_legend_word(756, y, "slices come as one");
+    print_legend_word(756, y, "brought as one slice");
 }
 
 /* The name of the show without its folder. */

@@ -1,5 +1,5 @@
 /*
- * Wosthile: patch files, type files and slice files, for C and C++ on x86-64.
+ * Wosthile: patch files, type files and slice files, for C11 and C++11 on x86-64.
  *
  * A stream has a type: a tree of cues and 16-bit levels, of parts that follow one another and of parts that run side
  * by side. A slice says what has come of a stream so far. A patch is a tree of nodes that takes a stream of one type to
@@ -134,8 +134,8 @@ static inline const char *wosthile_sentence(uint32_t number)
     case WOSTHILE_SLICE_BYTES_LEFT_OVER:
         return "A slice has bytes left over, in its section or after it.";
     case WOSTHILE_SLICE_MISPLACED_KIND:
-        return "A slice has a kind that does not belong there; "
-               "1, 3 or 5 where a crossed first part has to be complete is one.";
+        return "A slice has a kind that does not belong there, as that of a cue that has come already; "
+               "or the first part of a crossing is not complete.";
     case WOSTHILE_BUFFER_TOO_SHORT:
         return "The lent buffer, or either of two, is too short for this answer.";
     default:
@@ -194,6 +194,14 @@ wosthile_written wosthile_left(const uint8_t *type, size_t type_len, const uint8
  * Writes to joined the file of first and second as one slice of the type, at most WOSTHILE_SLICE_FILE_MAX bytes.
  * second is a slice of what first leaves of the type, the type that wosthile_left writes. Refuses the type with 1 to 4,
  * then first with 11 to 14, then second with 11 to 14, then with 20. The number does not tell the two slices apart.
+ *
+ *   first      second     joined
+ *   0, 2, 4    0          first
+ *   1, 3       q          q
+ *   5 p        5 q        5, p joined with q
+ *   5 p        6 b q      6, p joined with b, q
+ *   6 b p      q          6 b, p joined with q
+ *   7 p r      7 q s      7, p joined with q, r joined with s
  */
 wosthile_written wosthile_join(const uint8_t *type, size_t type_len, const uint8_t *first, size_t first_len,
                                const uint8_t *second, size_t second_len, uint8_t *joined, size_t joined_len);

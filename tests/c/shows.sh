@@ -123,7 +123,7 @@ plays_in_time() {
 ends_by_itself() {
     printf '\0\6\0\1\1\0\1\0' >"$folder/empty.show"
     timeout 60 "$folder/frame_loop" "$folder/empty.show" | grep -q '^The show is over: 0 frames, 0 slices' || return 1
-    timeout 60 "$folder/frame_loop" "$folder/empty.show" --fast | grep -q 'still owed: cues 1' || return 1
+    timeout 60 "$folder/frame_loop" "$folder/empty.show" --fast | grep -q 'still owed: "lane 1"' || return 1
     : >"$folder/nothing.show"
     "$folder/frame_loop" "$folder/nothing.show" --fast && return 1
     printf '\0\6\0\1\1\0\1\5' >"$folder/refused.show"
