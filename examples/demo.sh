@@ -22,6 +22,6 @@ mv "target/$name.svg.new" "target/$name.svg"
 echo "target/$name.svg: open it in a browser."
 
 title "Fed by the program, runner: for each slice a number and, if it is 0, what is sent and the input type left, in hexadecimal.
-   With the number of the slice in front, some of the lines:"
+   The last lines that differ from the one before, with the number of their slice:"
 target/bin/runner <"$show" >"target/$name.lines"
-grep -n '' "target/$name.lines" | sed -n '119,123p;240p'
+awk '$0 != last { print NR ": " $0 } { last = $0 }' "target/$name.lines" | tail -n 8

@@ -47,7 +47,7 @@ struct player {
     struct pace pace;
     struct timespec start; /* of the show, by the clock that both threads go by */
     struct mailbox mailbox;
-    size_t refused; /* slices refused at the door; the producer's until its thread has ended */
+    size_t refused; /* slices refused on delivery; the producer's until its thread has ended */
 };
 
 /* What cannot happen as long as the library keeps its promises, or what leaves nothing to go on with. */
@@ -79,7 +79,7 @@ static void mailbox_close(struct mailbox *mailbox)
     pthread_mutex_destroy(&mailbox->lock);
 }
 
-/* Leaves a slice in the mailbox. The door admits only what the feed will accept; the answer is the number otherwise. */
+/* Leaves a slice in the mailbox, if it is one that the feed will accept; otherwise the answer is its number. */
 static uint32_t mailbox_deliver(struct mailbox *mailbox, struct file slice)
 {
     pthread_mutex_lock(&mailbox->lock);
@@ -161,7 +161,7 @@ static void await_frame(struct timespec *due, struct pace pace)
     }
 }
 
-/* Delivers a slice, and says so if it is refused at the door; then it is as if it had not come. */
+/* Delivers a slice, and says so if it is refused; then it is as if it had not come. */
 static void deliver(struct player *player, size_t frame, size_t index)
 {
     uint32_t number = mailbox_deliver(&player->mailbox, player->show->slices[index]);
@@ -233,8 +233,8 @@ struct tally {
 };
 
 /*
- * The frame loop. The door has admitted whatever is fed here, so no feed is refused; in a loop without a door, a
- * refused feed is as if the slice had not come: the patch stays, and the show goes on.
+ * The frame loop. Whatever is fed here was admitted on delivery, so no feed is refused. In a loop that does not try its
+ * slices before, a refused feed is as if the slice had not come: the patch stays, and the show goes on.
  */
 static struct tally draw_frames(struct player *player, struct patch *patch, struct screen *screen)
 {

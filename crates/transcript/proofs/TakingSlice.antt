@@ -1,11 +1,11 @@
 -- A file after the first: what Feed writes are sections, and their contents are the fields of the line.
 use mathlib.Core.Path.{_≡_, refl, sym, ap, ap₂, _∙_}
-use mathlib.Core.List.{List, [], _∷_, _++_, append-assoc}
-use Prim.Native.Nat.{ℕ, _+_, _*_, _-_, _/_, _%_, _≤_}
+use mathlib.Core.List.{List, [], _++_, append-assoc, append-nil}
+use Prim.Native.Nat.{ℕ, _+_, _*_, _≤_}
 use native.Mathlib.Omega.{arith}
 use native.Mathlib.Nat.{le-trans}
 use lib.ListN.{length, getD, take, drop, length-append}
-use lib.Seq.{take-at, take-append-seam}
+use lib.Seq.{take-at}
 use Rattle.stream.specs.TypeFiles.{type-bytes, type-file-bytes}
 use Rattle.stream.specs.TypeFiles.Laws.{type-file-length}
 use Rattle.stream.specs.SliceFiles.{prefix-bytes, slice-file, slice-file-bytes}
@@ -23,7 +23,7 @@ use Rattle.writing.specs.Writing.Laws.{Begun, front-length}
 use Rattle.wosthile.specs.declared.Fed.{Fed}
 use Rattle.wosthile.specs.Answers.{feed, FedFiles, number-of, fed, after}
 use Rattle.wosthile.specs.Answers.Laws.{number-bounds, fed-files, feed-of-patch, fed-patch, FedSized, feed-sized-of-bytes}
-use Rattle.wosthile.specs.Runs.{first-section}
+use Rattle.wosthile.specs.Runs.Laws.{first-section-of}
 use Rattle.transcript.specs.declared.Stage.the-variants.{Feeding}
 use Rattle.transcript.specs.Transcripts.{number-line, contents, fed-line, line, feeding, patch-after, takes}
 use Rattle.transcript.specs.Transcripts.Laws.{number-line-length, fed-line-length}
@@ -35,10 +35,8 @@ unfolding section-bytes
 section-length body r = omega (arith, length-append body r)
 
 section-contents : (body r : List ℕ) → contents (section-bytes body r) ≡ body
-unfolding first-section section-bytes
-section-contents body r =
-    let e : length body / 256 * 256 + length body % 256 ≡ length body = omega arith in
-    rw e (take-append-seam body r)
+unfolding section-bytes
+section-contents body r = ap (drop 2) (first-section-of body r) ∙ append-nil body
 
 -- What Feed writes when it accepts: the output is a section, and the patch left begins with one.
 pub record FedSections (w : FedFiles) : Type 0 where

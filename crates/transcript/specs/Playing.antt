@@ -24,6 +24,7 @@ is-stopped Awaiting = false
 is-stopped (Feeding n) = false
 is-stopped Stopped = true
 
+-- The patch lies inside the bytes that hold it.
 unfoldable pub Inside : Stage → List ℕ → Type 0
 Inside Awaiting patch = Unit
 Inside (Feeding n) patch = n ≤ length patch

@@ -4,9 +4,8 @@ use mathlib.Core.Path.{_≡_}
 use Prim.Native.Nat.{ℕ}
 use lib.ListN.{take, drop}
 use Rattle.transcript.specs.declared.Stage.{Stage}
-use Rattle.transcript.specs.declared.Stage.the-variants.{Awaiting}
 use Rattle.transcript.specs.declared.Played.{Played}
-use Rattle.transcript.specs.Transcripts.{stopped, transcript}
+use Rattle.transcript.specs.Transcripts.{stopped}
 use Rattle.transcript.specs.Playing.{state-of, Waits, PlaysAll}
 pub mod Laws
 

@@ -1,5 +1,4 @@
 -- `main` meets its contract: each turn leaves everything as the next one asks for it.
-use borrow.Author.Needs.{needs}
 use mathlib.Core.Path.{_≡_, sym, _∙_}
 use Prim.Native.Nat.{_≤_}
 use native.Mathlib.Omega.{arith}

@@ -7,10 +7,9 @@ use Prim.Native.Nat.{ℕ, _+_, _-_, _≤_}
 use native.Mathlib.Omega.{arith}
 use lib.ListN.{length, take, drop}
 use lib.Seq.{length-take-le, take-at}
-use Rattle.stream.specs.Reading.{Bytes, section-bytes}
+use Rattle.stream.specs.Reading.{Bytes}
 use Rattle.stream.specs.Reading.Laws.{bytes-take}
 use Rattle.stream.specs.Buffers.{front}
-use Rattle.writing.specs.Writing.Laws.{front-length}
 use Rattle.wosthile.specs.declared.Fed.{Fed}
 use Rattle.wosthile.specs.Answers.{feed, number-of, fed}
 use Rattle.transcript.specs.Playing.{Inside}

@@ -1,10 +1,9 @@
 -- `play` meets its contract: what has been played so far, and then the next file, is what is played of all (`plays-on`).
-use mathlib.Core.Path.{_≡_, sym, subst, ap, _∙_}
-use mathlib.Core.List.{List}
-use Prim.Native.Nat.{ℕ, _+_, _-_, _≤_}
+use mathlib.Core.Path.{_≡_, subst, ap, _∙_}
+use Prim.Native.Nat.{_+_, _-_, _≤_}
 use native.Mathlib.Omega.{arith}
-use lib.ListN.{length, drop, length-drop}
-use Rattle.writing.specs.Writing.Laws.{back, part, part-is, room-left, length-kept}
+use lib.ListN.{length, drop}
+use Rattle.writing.specs.Writing.Laws.{back, part-is, room-left, length-kept}
 use Rattle.transcript.specs.declared.Played.{Played}
 use Rattle.transcript.specs.Playing.{state-of, Plays, Waits}
 use Rattle.transcript.specs.Playing.Laws.{plays-none, plays-on}

@@ -1,11 +1,9 @@
 -- `put_hexadecimal` meets its contract: after `at` turns the digits of the first `at` bytes are written.
-use mathlib.Core.Path.{_≡_, refl, sym, ap, _∙_}
-use mathlib.Core.List.{List, [], _∷_, _++_, append-assoc}
-use Prim.Native.Nat.{ℕ, suc, _+_, _*_, _-_, _/_, _%_, _≤_, _<_}
+use mathlib.Core.Path.{_≡_, refl, _∙_}
+use Prim.Native.Nat.{_+_, _*_, _-_, _≤_}
 use native.Mathlib.Omega.{arith}
-use native.Mathlib.Numerals.{add-one}
-use lib.ListN.{length, getD, set, take, drop, length-set, length-append, length-drop}
-use lib.Seq.{set-at, drop-cons, length-take-le, take-suc, take-length}
+use lib.ListN.{length, take, length-set}
+use lib.Seq.{take-length}
 use Rattle.transcript.specs.Transcripts.{digit, hexadecimal}
 use Rattle.writing.specs.Writing.Laws.{Begun, byte-on}
 use Rattle.transcript.specs.Transcripts.Laws.{hexadecimal-more}

@@ -2,7 +2,7 @@
 use mathlib.Core.Path.{_≡_, refl, sym, ap, ap₂, _∙_}
 use mathlib.Core.Bool.{Bool, true, false, true≢false}
 use mathlib.Core.List.{List, [], _∷_, _++_, append-assoc, append-nil}
-use Prim.Native.Nat.{ℕ, suc, _+_, _*_, _-_, _≤_, _<_}
+use Prim.Native.Nat.{ℕ, suc, _+_, _*_, _-_, _≤_}
 use native.Mathlib.Omega.{arith}
 use lib.Dec.{leb}
 use lib.ListN.{length, take, drop, length-drop}
@@ -15,7 +15,7 @@ use Rattle.files.specs.declared.sections.TreeEnd.{TreeEnd}
 use Rattle.files.specs.declared.sections.TreeEnd.the-variants.{At, Failed}
 use Rattle.files.specs.Sections.{end-of, any-bytes}
 use Rattle.files.specs.Sections.Laws.{section-ended, section-there}
-use Rattle.writing.specs.Writing.Laws.{part, back, part-is, Begun, goes-on, room-left, length-kept}
+use Rattle.writing.specs.Writing.Laws.{part, back, part-is, goes-on, room-left}
 use Rattle.transcript.specs.declared.Stage.{Stage}
 use Rattle.transcript.specs.declared.Stage.the-variants.{Awaiting, Feeding, Stopped}
 use Rattle.transcript.specs.declared.Line.{Line}

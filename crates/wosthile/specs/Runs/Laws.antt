@@ -119,12 +119,17 @@ unfolding concat-all
 joins-all [] w h k = alone
 joins-all (q ∷ ps) w h (piece k r) = joined (join-answers q w h k) (joins-all ps w (concat-is-prefix q h k) (rw (derivative-concat q h k) r))
 
+-- The first section of a file that begins with one, and of a patch file.
+
+pub first-section-of : (body r : List ℕ) → first-section (section-bytes body r) ≡ section-bytes body []
+unfolding first-section section-bytes
+first-section-of body r =
+    let e : length body / 256 * 256 + length body % 256 ≡ length body = omega arith in
+    rw (e, take-append-seam body r, append-nil body)
+
 pub first-section-of-patch : (s : Ty) (n : Node) → first-section (patch-file-bytes s n) ≡ type-file-bytes s
-unfolding first-section patch-file-bytes type-file-bytes section-bytes
-first-section-of-patch s n =
-    let b = type-bytes s [] in
-    let e : length b / 256 * 256 + length b % 256 ≡ length b = omega arith in
-    rw (e, take-append-seam b (section-bytes (node-bytes n []) []), append-nil b)
+unfolding patch-file-bytes type-file-bytes
+first-section-of-patch s n = first-section-of (type-bytes s []) (section-bytes (node-bytes n []) [])
 
 module _ (f : Feed) (keeps : KeepsFeed f) where
   -- Feed, called with room for the files that it writes.
