@@ -4,8 +4,7 @@
  *
  *   crossing   the interpreter of old: a slice that crosses, and brings something before that, is not crossed
  *   behind     what stands behind a crossing, in a slice that brings something before it, has not come
- *   patch      sends all, but leaves a patch with a node too many after a slice that crosses and brings something
- * before
+ *   patch      sends all, but after such a slice leaves a patch with two nodes more
  *
  * Without it the feed is that of the library.
  */
