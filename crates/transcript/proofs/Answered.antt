@@ -8,11 +8,11 @@ use native.Mathlib.Omega.{arith}
 use lib.ListN.{length}
 use borrow.Author.Tests.{le-leb}
 use Rattle.stream.specs.Reading.{Bytes, Result, accepted, refused}
-use Rattle.wosthile.specs.declared.Written.{Written}
-use Rattle.wosthile.specs.declared.Fed.{Fed}
-use Rattle.wosthile.specs.Answers.{check, feed, FedFiles, with-room, fits-one, fits-both, number-of, written, fed, after}
-use Rattle.wosthile.specs.Answers.Laws.{number-bounds, enough-room, both-fit, check-sized, feed-sized-of-bytes}
-use Rattle.wosthile.specs.Promises.{CheckPromise, FeedPromise}
+use Rattle.meaning.specs.declared.Written.{Written}
+use Rattle.meaning.specs.declared.Fed.{Fed}
+use Rattle.meaning.specs.Answers.{check, feed, FedFiles, with-room, fits-one, fits-both, number-of, written, fed, after}
+use Rattle.meaning.specs.Answers.Laws.{number-bounds, enough-room, both-fit, check-sized, feed-sized-of-bytes}
+use Rattle.meaning.specs.Promises.{CheckPromise, FeedPromise}
 
 -- No number has more than two digits.
 pub number-short : {A : Type 0} (r : Result A) → number-of r ≤ 20

@@ -9,8 +9,8 @@ use Rattle.stream.specs.Reading.{Bytes, Result, accepted, refused}
 use Rattle.stream.specs.Buffers.{front}
 use Rattle.writing.specs.Writing.Laws.{Begun, front-length}
 use Rattle.node.specs.PatchFiles.Laws.{patch-file-length}
-use Rattle.wosthile.specs.Answers.{check, number-of}
-use Rattle.wosthile.specs.Answers.Laws.{number-bounds, check-accepted}
+use Rattle.meaning.specs.Answers.{check, number-of}
+use Rattle.meaning.specs.Answers.Laws.{number-bounds, check-accepted}
 use Rattle.transcript.specs.declared.Stage.the-variants.{Awaiting, Feeding, Stopped}
 use Rattle.transcript.specs.Transcripts.{feeding, number-line, takes}
 use Rattle.transcript.specs.Transcripts.Laws.{number-line-length}

@@ -20,10 +20,10 @@ use Rattle.node.specs.Feeding.{sends, leaves}
 use Rattle.node.specs.Feeding.Laws.{leaves-allowed}
 use Rattle.node.specs.PatchFiles.{node-bytes, patch-file-bytes}
 use Rattle.writing.specs.Writing.Laws.{Begun, front-length}
-use Rattle.wosthile.specs.declared.Fed.{Fed}
-use Rattle.wosthile.specs.Answers.{feed, FedFiles, number-of, fed, after}
-use Rattle.wosthile.specs.Answers.Laws.{number-bounds, fed-files, feed-of-patch, fed-patch, FedSized, feed-sized-of-bytes}
-use Rattle.wosthile.specs.Runs.Laws.{first-section-of}
+use Rattle.meaning.specs.declared.Fed.{Fed}
+use Rattle.meaning.specs.Answers.{feed, FedFiles, number-of, fed, after}
+use Rattle.meaning.specs.Answers.Laws.{number-bounds, fed-files, feed-of-patch, fed-patch, FedSized, feed-sized-of-bytes}
+use Rattle.meaning.specs.Runs.Laws.{first-section-of}
 use Rattle.transcript.specs.declared.Stage.the-variants.{Feeding}
 use Rattle.transcript.specs.Transcripts.{number-line, contents, fed-line, line, feeding, patch-after, takes}
 use Rattle.transcript.specs.Transcripts.Laws.{number-line-length, fed-line-length}

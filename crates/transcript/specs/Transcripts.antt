@@ -6,8 +6,8 @@ use lib.Dec.{leb}
 use lib.ListN.{length, take, drop}
 use Rattle.stream.specs.Faults.{number}
 use Rattle.stream.specs.Reading.{Result, accepted, refused}
-use Rattle.wosthile.specs.Answers.{check, feed, FedFiles}
-use Rattle.wosthile.specs.Runs.{first-section}
+use Rattle.meaning.specs.Answers.{check, feed, FedFiles}
+use Rattle.meaning.specs.Runs.{first-section}
 pub mod Laws
 pub mod Examples
 

@@ -21,7 +21,7 @@ use Rattle.typing.specs.declared.Typed.the-variants.{Gives, Failed}
 use Rattle.patches.specs.PatchReads.Standing.{AcceptedPatch}
 use Rattle.typing.specs.Typing.{Answers}
 use Rattle.typing.specs.Typing.Laws.{IsGiven, is-given, is-refused, typing-small}
-use Rattle.wosthile.specs.Answers.{check}
+use Rattle.meaning.specs.Answers.{check}
 
 pub not-read : (file : List ℕ) {e : Fault} → first-pass file ≡ refused e → check file ≡ refused e
 unfolding check patch-file

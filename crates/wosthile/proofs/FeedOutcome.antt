@@ -35,8 +35,8 @@ use Rattle.patches.specs.PatchReads.Standing.{AcceptedPatch}
 use Rattle.step.specs.declared.Step.{Step}
 use Rattle.step.specs.Steps.{Feedable, FeedDue, Steps, PatchLeftDue}
 use Rattle.step.specs.Steps.Laws.{leads-inside, leads-taken, left-width}
-use Rattle.wosthile.specs.Answers.{FedFiles, feed, with-room, fed as told, after}
-use Rattle.wosthile.specs.Promises.{FeedPromise}
+use Rattle.meaning.specs.Answers.{FedFiles, feed, with-room, fed as told, after}
+use Rattle.meaning.specs.Promises.{FeedPromise}
 use Rattle.wosthile.specs.FeedReads.{FeedRead}
 
 -- How the answers of Feed keep its promise.

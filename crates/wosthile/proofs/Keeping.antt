@@ -12,8 +12,8 @@ use Rattle.stream.specs.declared.Fault.the-variants.{NoRoom}
 use Rattle.stream.specs.Faults.{number}
 use Rattle.stream.specs.Reading.{Result, accepted, refused}
 use Rattle.stream.specs.Buffers.{front}
-use Rattle.wosthile.specs.Answers.{with-room, after, written, admitted, as-number}
-use Rattle.wosthile.specs.Promises.{Writes, Admits}
+use Rattle.meaning.specs.Answers.{with-room, after, written, admitted, as-number}
+use Rattle.meaning.specs.Promises.{Writes, Admits}
 
 module _ (lent : List ℕ) where
   pub refusal-keeps : {outcome : Result (List ℕ)} (e : Fault) → outcome ≡ refused e

@@ -1,13 +1,13 @@
 // The operations under their C names; include/wosthile.h declares them.
-use crate::Admitted;
-use crate::Fed;
-use crate::Written;
 use crate::admit;
 use crate::check;
 use crate::feed;
 use crate::join;
 use crate::left;
-ghost use Rattle.wosthile.specs.Promises.{CheckPromise, AdmitPromise, LeftPromise, JoinPromise, FeedPromise};
+use meaning::Admitted;
+use meaning::Fed;
+use meaning::Written;
+ghost use Rattle.meaning.specs.Promises.{CheckPromise, AdmitPromise, LeftPromise, JoinPromise, FeedPromise};
 
 #[no_mangle]
 pub extern "C" fn wosthile_check(patch: &[u8], out: &mut [u8]) -> Written

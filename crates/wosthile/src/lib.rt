@@ -1,9 +1,12 @@
 // The operations on files, for the frame loop: any bytes may be handed to them. What each promises stands in
-// specs/Promises.antt; `exports` has their names for C.
+// Promises.antt of the crate `meaning`; `exports` has their names for C.
 use files::prefixes::SliceRead;
 use files::prefixes::read_slice_file;
 use files::types::TypeRead;
 use files::types::read_type_file;
+use meaning::Admitted;
+use meaning::Fed;
+use meaning::Written;
 use patches::Patch;
 use patches::PatchRead;
 use patches::read_patch_file;
@@ -19,32 +22,10 @@ use writing::write_left_file;
 use writing::write_section;
 ghost use mathlib.Core.Path.{_≡_};
 ghost use Rattle.stream.specs.Faults.{number};
-ghost use Rattle.wosthile.specs.Promises.{CheckPromise, AdmitPromise, LeftPromise, JoinPromise, FeedPromise};
+ghost use Rattle.meaning.specs.Promises.{CheckPromise, AdmitPromise, LeftPromise, JoinPromise, FeedPromise};
 ghost use Rattle.wosthile.specs.FeedReads.{FeedRead, SendDue};
 
 pub mod exports;
-
-// Check, Left and Join: document 01's number, and how many bytes stand at the front of the lent buffer.
-#[repr(C)]
-pub struct Written {
-    pub number: u32,
-    pub written: usize,
-}
-
-// Admit: the number, and 1 if the slice is complete, else 0.
-#[repr(C)]
-pub struct Admitted {
-    pub number: u32,
-    pub complete: u32,
-}
-
-// Feed: the number, and how many bytes stand at the front of each lent buffer.
-#[repr(C)]
-pub struct Fed {
-    pub number: u32,
-    pub output: usize,
-    pub patch: usize,
-}
 
 // A call that writes nothing, and why.
 fn refuse(fault: Fault) -> Written

@@ -10,8 +10,8 @@ use lib.Seq.{length-take-le, take-at}
 use Rattle.stream.specs.Reading.{Bytes}
 use Rattle.stream.specs.Reading.Laws.{bytes-take}
 use Rattle.stream.specs.Buffers.{front}
-use Rattle.wosthile.specs.declared.Fed.{Fed}
-use Rattle.wosthile.specs.Answers.{feed, number-of, fed}
+use Rattle.meaning.specs.declared.Fed.{Fed}
+use Rattle.meaning.specs.Answers.{feed, number-of, fed}
 use Rattle.transcript.specs.Playing.{Inside}
 use Rattle.transcript.proofs.Answered.{number-short, FedBy, fed-by}
 use Rattle.transcript.proofs.TakingSlice.{Sent, is-sent, body-stands, count-stands, slice-refused, slice-fed}

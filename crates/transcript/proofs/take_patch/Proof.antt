@@ -3,7 +3,7 @@ use borrow.Author.Needs.{needs}
 use native.Mathlib.Omega.{arith}
 use mathlib.Core.Path.{_≡_, _∙_, sym}
 use Rattle.stream.specs.Reading.{Bytes}
-use Rattle.wosthile.specs.Answers.{check, number-of}
+use Rattle.meaning.specs.Answers.{check, number-of}
 use Rattle.transcript.proofs.Answered.{number-short, checked}
 use Rattle.transcript.proofs.TakingPatch.{patch-short, patch-kept, patch-refused}
 use Rattle.transcript.proofs.take_patch.Statement.{statement}

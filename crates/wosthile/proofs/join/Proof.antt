@@ -16,7 +16,7 @@ use Rattle.stream.specs.Reading.{accepted, refused}
 use Rattle.stream.specs.SliceFiles.{slice-file, slice-file-bytes}
 use Rattle.files.specs.TypeReads.{TypeAt}
 use Rattle.writing.specs.Writing.Standing.{AcceptedType, AcceptedSlice, type-accepted, type-refused, slice-accepted, slice-refused, slice-file-size, written-stands, derivative-due, slice-short, joined-width, overlap-less, joined-file-due}
-use Rattle.wosthile.specs.Answers.{join}
+use Rattle.meaning.specs.Answers.{join}
 use Rattle.wosthile.proofs.Keeping.{refusal-keeps, shortage-keeps, file-keeps}
 use Rattle.wosthile.proofs.Opening.{no-type, no-slice, goes-on}
 use Rattle.wosthile.proofs.join.Statement.{statement}

@@ -10,7 +10,7 @@ use Rattle.stream.specs.Prefixes.{derivative}
 use Rattle.stream.specs.Reading.{accepted}
 use Rattle.stream.specs.TypeFiles.{type-file-bytes}
 use Rattle.writing.specs.Writing.Standing.{AcceptedType, AcceptedSlice, type-accepted, type-refused, slice-accepted, slice-refused, type-file-size, left-small, left-file-due}
-use Rattle.wosthile.specs.Answers.{left}
+use Rattle.meaning.specs.Answers.{left}
 use Rattle.wosthile.proofs.Keeping.{refusal-keeps, shortage-keeps, file-keeps}
 use Rattle.wosthile.proofs.Opening.{no-type, no-slice, goes-on}
 use Rattle.wosthile.proofs.left.Statement.{statement}

@@ -25,10 +25,10 @@ use Rattle.node.specs.Feeding.Laws.{Fed, fed as fed-laws, feeds-only, leaves-al
 use Rattle.node.specs.Feeding.Lists.{Pieces, no-more, piece, concat-all, derivative-all, sends-all, leaves-all, sends-pieces, concat-all-is-prefix, derivative-concat-all, sends-concat-all, leaves-concat-all, leaves-all-allowed}
 use Rattle.node.specs.PatchFiles.{node-bytes, patch-file-bytes, PatchFile}
 use Rattle.stream.specs.Buffers.{front}
-use Rattle.wosthile.specs.Answers.{check, left, FedFiles, feed, with-room, fits-both, fed, after}
-use Rattle.wosthile.specs.Answers.Laws.{check-answers, patch-checked, left-answers, join-answers, fed-files, feed-of-patch, feed-answers, number-positive, enough-room, room-accepted, both-fit}
-use Rattle.wosthile.specs.Promises.{FeedPromise, FedCall, sends-and-leaves}
-use Rattle.wosthile.specs.Runs.{Call, ByteSlices, Run, Feed, takes, after-call, run, Joins, alone, joined, first-section, AsOne}
+use Rattle.meaning.specs.Answers.{check, left, FedFiles, feed, with-room, fits-both, fed, after}
+use Rattle.meaning.specs.Answers.Laws.{check-answers, patch-checked, left-answers, join-answers, fed-files, feed-of-patch, feed-answers, number-positive, enough-room, room-accepted, both-fit}
+use Rattle.meaning.specs.Promises.{FeedPromise, FedCall, sends-and-leaves}
+use Rattle.meaning.specs.Runs.{Call, ByteSlices, Run, Feed, takes, after-call, run, Joins, alone, joined, first-section, AsOne}
 
 -- The call that an outcome is.
 abbrev call-of : Result FedFiles → List ℕ → List ℕ → FedCall

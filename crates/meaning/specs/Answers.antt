@@ -15,9 +15,9 @@ use Rattle.stream.specs.TypeFiles.{type-file, type-file-bytes}
 use Rattle.stream.specs.SliceFiles.{slice-file, slice-file-bytes}
 use Rattle.node.specs.Feeding.{sends, leaves}
 use Rattle.node.specs.PatchFiles.{patch-file, patch-file-bytes}
-use Rattle.wosthile.specs.declared.Written.{Written}
-use Rattle.wosthile.specs.declared.Admitted.{Admitted}
-use Rattle.wosthile.specs.declared.Fed.{Fed}
+use Rattle.meaning.specs.declared.Written.{Written}
+use Rattle.meaning.specs.declared.Admitted.{Admitted}
+use Rattle.meaning.specs.declared.Fed.{Fed}
 pub mod Laws
 pub mod Examples
 

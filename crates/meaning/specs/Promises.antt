@@ -7,11 +7,11 @@ use lib.ListN.{length}
 use Rattle.stream.specs.Reading.{Result, accepted, refused}
 use Rattle.stream.specs.declared.Fault.{Fault}
 use Rattle.stream.specs.Faults.{number}
-use Rattle.wosthile.specs.declared.Written.{Written}
-use Rattle.wosthile.specs.declared.Admitted.{Admitted}
-use Rattle.wosthile.specs.declared.Fed.{Fed}
+use Rattle.meaning.specs.declared.Written.{Written}
+use Rattle.meaning.specs.declared.Admitted.{Admitted}
+use Rattle.meaning.specs.declared.Fed.{Fed}
 use Rattle.stream.specs.Buffers.{front}
-use Rattle.wosthile.specs.Answers.{check, admit, left, join, feed, with-room, fits-one, fits-both, Listed, written, admitted, fed, after}
+use Rattle.meaning.specs.Answers.{check, admit, left, join, feed, with-room, fits-one, fits-both, Listed, written, admitted, fed, after}
 pub mod Laws
 
 -- What an operation with one lent buffer promises: `outcome` is what it has to write, 20 aside.

@@ -7,7 +7,7 @@ use Rattle.stream.specs.Reading.{Result}
 use Rattle.stream.specs.Reading.Examples.{section-of}
 use Rattle.node.specs.Computing.{node-definitions}
 use Rattle.node.specs.PatchFiles.Examples.{sections}
-use Rattle.wosthile.specs.Answers.{check, admit, left, join, feed, FedFiles, with-room, fits-one, fits-both, number-of, admitted, after}
+use Rattle.meaning.specs.Answers.{check, admit, left, join, feed, FedFiles, with-room, fits-one, fits-both, number-of, admitted, after}
 
 -- A patch that passes a cue, and a slice in which it has come.
 abbrev passing : List ℕ

@@ -18,12 +18,12 @@ use Rattle.stream.specs.Prefixes.Laws.{complete-sound, complete-complete}
 use Rattle.stream.specs.Reading.{Bytes, Result, accepted, refused, IsAccepted, require}
 use Rattle.stream.specs.Reading.Laws.{bytes-append, bytes-drop}
 use Rattle.stream.specs.Reading.Refusals.{Refusals}
-use Rattle.wosthile.specs.declared.Written.{Written}
-use Rattle.wosthile.specs.declared.Admitted.{Admitted}
-use Rattle.wosthile.specs.declared.Fed.{Fed}
-use Rattle.wosthile.specs.Answers.{with-room, number-of, value-of, as-number, after, contains, Listed, fits-one, fits-both, written, admitted, fed, FedFiles, check, admit, left, join, feed}
-use Rattle.wosthile.specs.Answers.Laws.{number-positive, enough-room, room-accepted, room-refusals, both-fit, Refuses, WritesSized, FeedsSized}
-use Rattle.wosthile.specs.Promises.{WrittenCall, writes-file, Operations, Keeps, Writes, Admits, FeedPromise, Decided, is-accepted, is-refused, TooShort}
+use Rattle.meaning.specs.declared.Written.{Written}
+use Rattle.meaning.specs.declared.Admitted.{Admitted}
+use Rattle.meaning.specs.declared.Fed.{Fed}
+use Rattle.meaning.specs.Answers.{with-room, number-of, value-of, as-number, after, contains, Listed, fits-one, fits-both, written, admitted, fed, FedFiles, check, admit, left, join, feed}
+use Rattle.meaning.specs.Answers.Laws.{number-positive, enough-room, room-accepted, room-refusals, both-fit, Refuses, WritesSized, FeedsSized}
+use Rattle.meaning.specs.Promises.{WrittenCall, writes-file, Operations, Keeps, Writes, Admits, FeedPromise, Decided, is-accepted, is-refused, TooShort}
 
 -- Faults with a listed number
 

@@ -6,7 +6,7 @@ use Rattle.stream.specs.Reading.{Result, accepted, refused}
 use Rattle.stream.specs.Reading.Examples.{section-of}
 use Rattle.node.specs.Computing.{node-definitions}
 use Rattle.node.specs.PatchFiles.Examples.{sections}
-use Rattle.wosthile.specs.Answers.{check, admit, join, feed, FedFiles, number-of}
+use Rattle.meaning.specs.Answers.{check, admit, join, feed, FedFiles, number-of}
 
 -- A call, by the contents of the sections that it is handed.
 pub data Question : Type 0 where

@@ -28,7 +28,7 @@ use Rattle.node.specs.Feeding.{sends, leaves}
 use Rattle.node.specs.Feeding.Laws.{fed, leaves-allowed}
 use Rattle.node.specs.PatchFiles.{patch-file, patch-file-bytes, PatchFile}
 use Rattle.node.specs.PatchFiles.Laws.{patch-file-complete, patch-file-sound, patch-file-accepted, patch-file-length, patch-file-is-bytes, patch-file-refusals}
-use Rattle.wosthile.specs.Answers.{check, admit, left, join, FedFiles, feed, with-room, fits-both, patch-numbers, admit-numbers, feed-numbers, contains, Listed}
+use Rattle.meaning.specs.Answers.{check, admit, left, join, FedFiles, feed, with-room, fits-both, patch-numbers, admit-numbers, feed-numbers, contains, Listed}
 
 -- No refusal has the number 0, and none has more than two digits.
 pub number-bounds : (e : Fault) → (1 ≤ number e) × (number e ≤ 20)

@@ -15,12 +15,12 @@ use Rattle.node.specs.Nodes.{Node, Small, Allowed}
 use Rattle.node.specs.Feeding.{Feeds, sends, leaves}
 use Rattle.node.specs.Feeding.Laws.{feeds}
 use Rattle.node.specs.PatchFiles.{patch-file-bytes, PatchFile}
-use Rattle.wosthile.specs.Answers.{check, admit, left, join, feed, with-room, fits-one, fits-both, patch-numbers, admit-numbers, feed-numbers}
-use Rattle.wosthile.specs.Answers.Laws.{lanes-join, check-refuses, admit-refuses, left-refuses, join-refuses, feed-refuses, check-accepted, admit-accepted, check-answers, admit-answers, left-answers, join-answers, feed-accepted, check-sized, left-sized, join-sized, feed-sized, feed-sized-of-bytes}
-use Rattle.wosthile.specs.Promises.{Operations, Keeps, writes-file, sends-and-leaves, Decided, TooShort}
-use Rattle.wosthile.specs.Promises.Laws.{kept-by-definitions, writes-decided, admits-decided, feeds-decided, writes-twenty, feeds-twenty, writes-bounded, feeds-bounded, writes-never-twenty, feeds-never-twenty, writes-bytes, feeds-bytes, writes-exactly, writes-zero, feeds-zero, admits-zero, admits-complete}
-use Rattle.wosthile.specs.Runs.{Call, ByteSlices, Run, run, AsOne}
-use Rattle.wosthile.specs.Runs.Laws.{feed-by-rules, run-patch, run-holds, same-stream}
+use Rattle.meaning.specs.Answers.{check, admit, left, join, feed, with-room, fits-one, fits-both, patch-numbers, admit-numbers, feed-numbers}
+use Rattle.meaning.specs.Answers.Laws.{lanes-join, check-refuses, admit-refuses, left-refuses, join-refuses, feed-refuses, check-accepted, admit-accepted, check-answers, admit-answers, left-answers, join-answers, feed-accepted, check-sized, left-sized, join-sized, feed-sized, feed-sized-of-bytes}
+use Rattle.meaning.specs.Promises.{Operations, Keeps, writes-file, sends-and-leaves, Decided, TooShort}
+use Rattle.meaning.specs.Promises.Laws.{kept-by-definitions, writes-decided, admits-decided, feeds-decided, writes-twenty, feeds-twenty, writes-bounded, feeds-bounded, writes-never-twenty, feeds-never-twenty, writes-bytes, feeds-bytes, writes-exactly, writes-zero, feeds-zero, admits-zero, admits-complete}
+use Rattle.meaning.specs.Runs.{Call, ByteSlices, Run, run, AsOne}
+use Rattle.meaning.specs.Runs.Laws.{feed-by-rules, run-patch, run-holds, same-stream}
 
 -- The promises can be kept.
 pub promises-can-be-kept : (ops : Operations) × Keeps ops

@@ -6,8 +6,8 @@ use Prim.Native.Nat.{ℕ, _*_, _+_, _≤_}
 use lib.Dec.{eqb}
 use lib.ListN.{length, take}
 use Rattle.stream.specs.Reading.{Bytes, accepted}
-use Rattle.wosthile.specs.Answers.{check, left, join}
-use Rattle.wosthile.specs.Promises.{FedCall, sends-and-leaves}
+use Rattle.meaning.specs.Answers.{check, left, join}
+use Rattle.meaning.specs.Promises.{FedCall, sends-and-leaves}
 pub mod Laws
 
 -- "Feed calls, none or any number, each with a slice file and two buffers of its own, of any bytes and any lengths."

@@ -1,0 +1,5 @@
+pub mod Answers
+pub mod Promises
+pub mod Runs
+pub mod Cases
+pub mod Demands
