@@ -63,6 +63,13 @@ fits-one lent file = leb (length file) lent
 abbrev pub fits-both : ℕ → ℕ → FedFiles → Bool
 fits-both output left files = leb (length (files .output)) output && leb (length (files .patch)) left
 
+-- The outcome of a call with 20 taken in, by the buffers that it is lent.
+abbrev pub into-one : (lent : List ℕ) → Result (List ℕ) → Result (List ℕ)
+into-one lent r = with-room (fits-one (length lent)) r
+
+abbrev pub into-both : (output left : List ℕ) → Result FedFiles → Result FedFiles
+into-both output left r = with-room (fits-both (length output) (length left)) r
+
 -- "Accepted is 0, with the number of bytes written, for Feed one number for each buffer. Refused: the number alone." The
 -- lengths, and Admit's `complete`, are free on a refusal; they are 0.
 abbrev pub number-of : {A : Type 0} → Result A → ℕ

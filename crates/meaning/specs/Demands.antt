@@ -1,223 +1,166 @@
--- The user's demands, in the user's order, as theorems about any five operations that keep the promises of Promises.antt.
--- What the statements speak of: answers and numbers (Answers.antt), runs (Runs.antt), files (TypeFiles, SliceFiles,
+-- The user's three demands, whole and in order. A statement takes the promise of the call that it speaks of: the very
+-- proposition that is the `ensures` of that operation (crates/wosthile/src/exports.rt), with the bytes handed in, the answer,
+-- and each lent buffer as it is afterwards. `Consequences` has what else follows; the laws have the proofs.
+-- What the statements speak of: answers and numbers (Answers), promises (Promises), runs (Runs), files (TypeFiles, SliceFiles,
 -- PatchFiles), rules (IsPrefix in Prefixes, Types and Allowed in Nodes, Feeds in Feeding).
 use mathlib.Core.Path.{_≡_}
 use mathlib.Core.Logic.{_↔_, Iff·trans}
-use mathlib.Core.List.{List, [], _∷_}
+use mathlib.Core.List.{List, [], _∷_, _++_}
 use Prim.Native.Nat.{ℕ, _≤_}
 use lib.ListN.{length}
-use Rattle.stream.specs.Types.{Ty, par}
-use Rattle.stream.specs.Prefixes.{Prefix, beside, IsPrefix, Complete, empty-prefix, derivative, concat}
-use Rattle.stream.specs.Reading.{Bytes, accepted, IsAccepted}
+use Rattle.stream.specs.Types.{Ty}
+use Rattle.stream.specs.Prefixes.{Prefix, IsPrefix, Complete, derivative, concat}
+use Rattle.stream.specs.Reading.{Bytes, IsAccepted}
 use Rattle.stream.specs.TypeFiles.{type-file-bytes, TypeFile}
 use Rattle.stream.specs.SliceFiles.{slice-file-bytes, SliceFile}
-use Rattle.node.specs.Nodes.{Node, Small, Allowed}
-use Rattle.node.specs.Feeding.{Feeds, sends, leaves}
+use Rattle.node.specs.Nodes.{Node, Allowed}
+use Rattle.node.specs.Feeding.{Feeds}
 use Rattle.node.specs.Feeding.Laws.{feeds}
 use Rattle.node.specs.PatchFiles.{patch-file-bytes, PatchFile}
-use Rattle.meaning.specs.Answers.{check, admit, left, join, feed, with-room, fits-one, fits-both, patch-numbers, admit-numbers, feed-numbers}
-use Rattle.meaning.specs.Answers.Laws.{lanes-join, check-refuses, admit-refuses, left-refuses, join-refuses, feed-refuses, check-accepted, admit-accepted, check-answers, admit-answers, left-answers, join-answers, feed-accepted, check-sized, left-sized, join-sized, feed-sized, feed-sized-of-bytes}
-use Rattle.meaning.specs.Promises.{Operations, Keeps, writes-file, sends-and-leaves, Decided, TooShort}
-use Rattle.meaning.specs.Promises.Laws.{kept-by-definitions, writes-decided, admits-decided, feeds-decided, writes-twenty, feeds-twenty, writes-bounded, feeds-bounded, writes-never-twenty, feeds-never-twenty, writes-bytes, feeds-bytes, writes-exactly, writes-zero, feeds-zero, admits-zero, admits-complete}
-use Rattle.meaning.specs.Runs.{Call, ByteSlices, Run, run, AsOne}
-use Rattle.meaning.specs.Runs.Laws.{feed-by-rules, run-patch, run-holds, same-stream}
+use Rattle.meaning.specs.declared.Written.{Written}
+use Rattle.meaning.specs.declared.Admitted.{Admitted}
+use Rattle.meaning.specs.declared.Fed.{Fed}
+use Rattle.meaning.specs.Answers.{check, admit, left, join, feed, into-one, into-both, patch-numbers, admit-numbers, feed-numbers}
+use Rattle.meaning.specs.Answers.Laws.{check-refuses, admit-refuses, left-refuses, join-refuses, feed-refuses, check-accepted, admit-accepted, left-accepted, join-accepted, feed-accepted, feed-accepted-of-bytes, check-answers, admit-answers, left-answers, joins, check-sized, left-sized, join-sized, feed-sized, feed-sized-of-bytes}
+use Rattle.meaning.specs.Promises.{CheckPromise, AdmitPromise, LeftPromise, JoinPromise, FeedPromise, Decided, Wrote, Sent}
+use Rattle.meaning.specs.Promises.Laws.{writes-decided, admits-decided, feeds-decided, check-kept, admit-kept, left-kept, join-kept, feed-kept, writes-zero, writes-exactly, admits-zero, admits-complete, feeds-zero, feeds-as-check}
+use Rattle.meaning.specs.Runs.{Call, ByteSlices, Run, Ran, Faithful, Through}
+use Rattle.meaning.specs.Runs.Laws.{feed-by-rules, run-patch, run-faithful, run-faithful-so-far, every-list-runs}
 
--- The promises can be kept.
-pub promises-can-be-kept : (ops : Operations) × Keeps ops
-promises-can-be-kept = kept-by-definitions
+-- Demand 1. "A patch, type or slice handed in, whatever its bytes and length, is accepted or is refused with the number that
+-- document 01 gives for its first fault.
 
-module _ (ops : Operations) (keeps : Keeps ops) where
-  -- Demand 1. "A patch, type or slice handed in, whatever its bytes and length, is accepted or is refused with the number that
-  -- document 01 gives for its first fault .. and a refused one alters no byte of a lent buffer."
+pub demand-1-check : (patch : List ℕ) {lent lent-after : List ℕ} {answer : Written} → CheckPromise patch lent answer lent-after
+    → Decided (into-one lent (check patch)) (20 ∷ patch-numbers) (answer .number) (lent ∷ []) (lent-after ∷ [])
+demand-1-check patch call = writes-decided call (check-refuses patch)
 
-  pub demand-1-check : (patch lent : List ℕ)
-      → (let c = ops .check patch lent in
-      Decided (with-room (fits-one (length lent)) (check patch)) (20 ∷ patch-numbers) (c .answer .number) (lent ∷ []) (c .lent ∷ []))
-  demand-1-check patch lent = writes-decided (keeps .check patch lent) (check-refuses patch)
+pub demand-1-admit : (type slice : List ℕ) {answer : Admitted} → AdmitPromise type slice answer
+    → Decided (admit type slice) admit-numbers (answer .number) [] []
+demand-1-admit type slice call = admits-decided call (admit-refuses type slice)
 
-  pub demand-1-admit : (type slice : List ℕ) → Decided (admit type slice) admit-numbers (ops .admit type slice .number) [] []
-  demand-1-admit type slice = admits-decided (keeps .admit type slice) (admit-refuses type slice)
+pub demand-1-left : (type slice : List ℕ) {lent lent-after : List ℕ} {answer : Written} → LeftPromise type slice lent answer lent-after
+    → Decided (into-one lent (left type slice)) (20 ∷ admit-numbers) (answer .number) (lent ∷ []) (lent-after ∷ [])
+demand-1-left type slice call = writes-decided call (left-refuses type slice)
 
-  pub demand-1-left : (type slice lent : List ℕ)
-      → (let c = ops .left type slice lent in
-      Decided (with-room (fits-one (length lent)) (left type slice)) (20 ∷ admit-numbers) (c .answer .number) (lent ∷ []) (c .lent ∷ []))
-  demand-1-left type slice lent = writes-decided (keeps .left type slice lent) (left-refuses type slice)
+pub demand-1-join : (type first second : List ℕ) {lent lent-after : List ℕ} {answer : Written} → JoinPromise type first second lent answer lent-after
+    → Decided (into-one lent (join type first second)) (20 ∷ admit-numbers) (answer .number) (lent ∷ []) (lent-after ∷ [])
+demand-1-join type first second call = writes-decided call (join-refuses type first second)
 
-  pub demand-1-join : (type first second lent : List ℕ)
-      → (let c = ops .join type first second lent in
-      Decided (with-room (fits-one (length lent)) (join type first second)) (20 ∷ admit-numbers) (c .answer .number) (lent ∷ []) (c .lent ∷ []))
-  demand-1-join type first second lent = writes-decided (keeps .join type first second lent) (join-refuses type first second)
+pub demand-1-feed : {patch slice output left output-after left-after : List ℕ} {answer : Fed}
+    → FeedPromise patch slice output left answer output-after left-after
+    → Decided (into-both output left (feed patch slice)) (20 ∷ feed-numbers) (answer .number) (output ∷ left ∷ []) (output-after ∷ left-after ∷ [])
+demand-1-feed {patch} {slice} call = feeds-decided call (feed-refuses patch slice)
 
-  pub demand-1-feed : (patch slice output left : List ℕ)
-      → (let c = ops .feed patch slice output left in
-      Decided (with-room (fits-both (length output) (length left)) (feed patch slice)) (20 ∷ feed-numbers) (c .answer .number)
-      (output ∷ left ∷ []) (c .output ∷ c .left ∷ []))
-  demand-1-feed patch slice output left = feeds-decided (keeps .feed patch slice output left) (feed-refuses patch slice)
+-- Nothing is left for the caller to test first. (The exports have no `requires`; and a promise asks nothing of what is handed
+-- in: whatever that is, some answer and buffers keep it.)
 
-  -- 20 comes exactly if a buffer is too short for an answer that is due.
+pub promises-can-be-kept :
+    ((patch lent : List ℕ) → (answer : Written) × (lent-after : List ℕ) × CheckPromise patch lent answer lent-after)
+    × ((type slice : List ℕ) → (answer : Admitted) × AdmitPromise type slice answer)
+    × ((type slice lent : List ℕ) → (answer : Written) × (lent-after : List ℕ) × LeftPromise type slice lent answer lent-after)
+    × ((type first second lent : List ℕ) → (answer : Written) × (lent-after : List ℕ) × JoinPromise type first second lent answer lent-after)
+    × ((patch slice output left : List ℕ)
+    → (answer : Fed) × (output-after : List ℕ) × (left-after : List ℕ) × FeedPromise patch slice output left answer output-after left-after)
+promises-can-be-kept = (check-kept, admit-kept, left-kept, join-kept, feed-kept)
 
-  pub twenty-check : (patch lent : List ℕ) → ops .check patch lent .answer .number ≡ 20 ↔ TooShort (fits-one (length lent)) (check patch)
-  twenty-check patch lent = writes-twenty (keeps .check patch lent) (check-refuses patch)
+-- Every call ends, (Rattle proves of each function that it ends; one without that proof is not built)
+-- and a refused one alters no byte of a lent buffer." (`is-refused` in Decided: the buffers afterwards are the buffers lent.)
 
-  pub twenty-left : (type slice lent : List ℕ)
-      → ops .left type slice lent .answer .number ≡ 20 ↔ TooShort (fits-one (length lent)) (left type slice)
-  twenty-left type slice lent = writes-twenty (keeps .left type slice lent) (left-refuses type slice)
+-- Demand 2. "A patch is accepted exactly when the kernel rules of stream types, as document 01 takes them for one input, and
+-- its limits allow it;
 
-  pub twenty-join : (type first second lent : List ℕ)
-      → ops .join type first second lent .answer .number ≡ 20 ↔ TooShort (fits-one (length lent)) (join type first second)
-  twenty-join type first second lent = writes-twenty (keeps .join type first second lent) (join-refuses type first second)
+pub demand-2-patch : (patch : List ℕ) {lent lent-after : List ℕ} {answer : Written} → CheckPromise patch lent answer lent-after
+    → Bytes patch → 257 ≤ length lent → answer .number ≡ 0 ↔ PatchFile patch
+demand-2-patch patch call b h = Iff·trans (writes-zero call (check-sized patch b) h) (check-accepted patch b)
 
-  pub twenty-feed : (patch slice output left : List ℕ)
-      → ops .feed patch slice output left .answer .number ≡ 20 ↔ TooShort (fits-both (length output) (length left)) (feed patch slice)
-  twenty-feed patch slice output left = feeds-twenty (keeps .feed patch slice output left) (feed-refuses patch slice)
+pub demand-2-patch-fed : {patch slice lent lent-after output left output-after left-after : List ℕ} {checked : Written} {answer : Fed}
+    → CheckPromise patch lent checked lent-after → FeedPromise patch slice output left answer output-after left-after
+    → (checked .number ≡ 0 → ⊥) → (checked .number ≡ 20 → ⊥) → answer ≡ record { number = checked .number; output = 0; patch = 0 }
+demand-2-patch-fed check-call feed-call not-0 not-20 = feeds-as-check check-call feed-call not-0 not-20
 
-  -- Demand 2. "A patch is accepted exactly when the kernel rules of stream types, as document 01 takes them for one input, and
-  -- its limits allow it;
+-- a slice, exactly when it is a prefix of the type in force.
 
-  pub demand-2-patch : (file lent : List ℕ) → Bytes file → 257 ≤ length lent → ops .check file lent .answer .number ≡ 0 ↔ PatchFile file
-  demand-2-patch file lent b h = Iff·trans (writes-zero (keeps .check file lent) (check-sized file b) h) (check-accepted file b)
+pub demand-2-slice : {file slice output left output-after left-after : List ℕ} {answer : Fed}
+    → FeedPromise file slice output left answer output-after left-after → (patch : PatchFile file) → Bytes slice
+    → 513 ≤ length output → 8482 ≤ length left → answer .number ≡ 0 ↔ SliceFile (patch .input) slice
+demand-2-slice {slice = slice} call patch b h k = Iff·trans (feeds-zero call (feed-sized slice patch b) h k) (feed-accepted slice patch b)
 
-  -- a slice, exactly when it is a prefix of the type in force.
+pub demand-2-feed : {file slice output left output-after left-after : List ℕ} {answer : Fed}
+    → FeedPromise file slice output left answer output-after left-after → Bytes file → Bytes slice
+    → 513 ≤ length output → 8482 ≤ length left → answer .number ≡ 0 ↔ ((patch : PatchFile file) × SliceFile (patch .input) slice)
+demand-2-feed call b c h k = Iff·trans (feeds-zero call (feed-sized-of-bytes _ _ b c) h k) (feed-accepted-of-bytes _ _ b c)
 
-  pub demand-2-slice : (file slice output left : List ℕ) (patch : PatchFile file) → Bytes slice → 513 ≤ length output → 8482 ≤ length left
-      → ops .feed file slice output left .answer .number ≡ 0 ↔ SliceFile (patch .input) slice
-  demand-2-slice file slice output left patch b h k =
-      Iff·trans (feeds-zero (keeps .feed file slice output left) (feed-sized slice patch b) h k) (feed-accepted slice patch b)
+pub demand-2-admit : (type slice : List ℕ) {answer : Admitted} → AdmitPromise type slice answer → Bytes type → Bytes slice
+    → answer .number ≡ 0 ↔ ((t : TypeFile type) × SliceFile (t .type) slice)
+demand-2-admit type slice call b c = Iff·trans (admits-zero call) (admit-accepted type slice b c)
 
-  pub demand-2-admit : (type slice : List ℕ) → Bytes type → Bytes slice
-      → ops .admit type slice .number ≡ 0 ↔ ((t : TypeFile type) × SliceFile (t .type) slice)
-  demand-2-admit type slice b c = Iff·trans (admits-zero (keeps .admit type slice)) (admit-accepted type slice b c)
+pub demand-2-left : (type slice : List ℕ) {lent lent-after : List ℕ} {answer : Written} → LeftPromise type slice lent answer lent-after
+    → Bytes type → Bytes slice → 257 ≤ length lent → answer .number ≡ 0 ↔ ((t : TypeFile type) × SliceFile (t .type) slice)
+demand-2-left type slice call b c h = Iff·trans (writes-zero call (left-sized type slice b c) h) (left-accepted type slice b c)
 
-  pub demand-2-complete : {t : Ty} {p : Prefix} → Small t → IsPrefix t p
-      → ops .admit (type-file-bytes t) (slice-file-bytes p) .complete ≡ 1 ↔ Complete p
-  demand-2-complete w h = admits-complete (keeps .admit _ _) (admit-answers w h)
+pub demand-2-join : (type first second : List ℕ) {lent lent-after : List ℕ} {answer : Written} → JoinPromise type first second lent answer lent-after
+    → Bytes type → Bytes first → Bytes second → 513 ≤ length lent
+    → answer .number ≡ 0 ↔ ((t : TypeFile type) × (p : SliceFile (t .type) first) × SliceFile (derivative (t .type) (p .prefix)) second)
+demand-2-join type first second call b c d h = Iff·trans (writes-zero call (join-sized type first second b c d) h) (join-accepted type first second b c d)
 
-  -- Given long enough buffers, a feed sends the output and leaves the patch that those rules define."
+-- Given long enough buffers, a feed sends the output and leaves the patch that those rules define."
 
-  pub demand-2-feed : {n′ : Node} {p o : Prefix} (file output left : List ℕ) (patch : PatchFile file)
-      → IsPrefix (patch .input) p → Feeds (patch .input) (patch .node) p o n′
-      → length (slice-file-bytes o) ≤ length output → length (patch-file-bytes (derivative (patch .input) p) n′) ≤ length left
-      → ops .feed file (slice-file-bytes p) output left
-      ≡ sends-and-leaves (slice-file-bytes o) (patch-file-bytes (derivative (patch .input) p) n′) output left
-  demand-2-feed file output left patch h f i j = feed-by-rules (ops .feed) (keeps .feed) file patch output left h f i j
+pub demand-2-sends : {n′ : Node} {o : Prefix} {file slice output left output-after left-after : List ℕ} {answer : Fed}
+    → FeedPromise file slice output left answer output-after left-after → (patch : PatchFile file) (taken : SliceFile (patch .input) slice)
+    → Feeds (patch .input) (patch .node) (taken .prefix) o n′
+    → (let patch-left = patch-file-bytes (derivative (patch .input) (taken .prefix)) n′ in
+    length (slice-file-bytes o) ≤ length output → length patch-left ≤ length left
+    → Sent (slice-file-bytes o) patch-left output left answer output-after left-after)
+demand-2-sends call patch taken rule h k = feed-by-rules call patch taken rule h k
 
-  -- The rules do define an output and a patch left, for every prefix.
-  pub demand-2-defined : {s t : Ty} {n : Node} {p : Prefix} → Allowed s n t → IsPrefix s p → (o : Prefix) × (n′ : Node) × Feeds s n p o n′
-  demand-2-defined {s} {t} {n} {p} a h = (sends s n p, leaves s n p, feeds (a .types) h)
+-- Of the other four: Check writes the output type, Admit says whether the slice is complete, Left writes what it leaves, and
+-- Join the two slices as one.
 
-  -- Check, Left and Join write exactly the output type, what is left, and the two slices as one.
+pub demand-2-check-writes : {file lent lent-after : List ℕ} {answer : Written} → CheckPromise file lent answer lent-after → (patch : PatchFile file)
+    → length (type-file-bytes (patch .output)) ≤ length lent → Wrote (type-file-bytes (patch .output)) lent answer lent-after
+demand-2-check-writes call patch h = writes-exactly call (rw (patch .bytes) at (check-answers (patch .allowed))) h
 
-  pub demand-2-check : (file lent : List ℕ) (patch : PatchFile file) → length (type-file-bytes (patch .output)) ≤ length lent
-      → ops .check file lent ≡ writes-file (type-file-bytes (patch .output)) lent
-  demand-2-check file lent patch h = writes-exactly (keeps .check file lent) (rw (patch .bytes) at (check-answers (patch .allowed))) h
+pub demand-2-admit-says : {type slice : List ℕ} {answer : Admitted} → AdmitPromise type slice answer
+    → (t : TypeFile type) (p : SliceFile (t .type) slice) → answer .complete ≡ 1 ↔ Complete (p .prefix)
+demand-2-admit-says call t p = admits-complete call (rw (t .bytes, p .bytes) at (admit-answers (t .small) (p .is-prefix)))
 
-  pub demand-2-left : {t : Ty} {p : Prefix} (lent : List ℕ) → Small t → IsPrefix t p → length (type-file-bytes (derivative t p)) ≤ length lent
-      → ops .left (type-file-bytes t) (slice-file-bytes p) lent ≡ writes-file (type-file-bytes (derivative t p)) lent
-  demand-2-left lent w i h = writes-exactly (keeps .left _ _ lent) (left-answers w i) h
+pub demand-2-left-writes : {type slice lent lent-after : List ℕ} {answer : Written} → LeftPromise type slice lent answer lent-after
+    → (t : TypeFile type) (p : SliceFile (t .type) slice)
+    → (let file = type-file-bytes (derivative (t .type) (p .prefix)) in length file ≤ length lent → Wrote file lent answer lent-after)
+demand-2-left-writes call t p h = writes-exactly call (rw (t .bytes, p .bytes) at (left-answers (t .small) (p .is-prefix))) h
 
-  pub demand-2-join : {t : Ty} {p q : Prefix} (lent : List ℕ) → Small t → IsPrefix t p → IsPrefix (derivative t p) q
-      → length (slice-file-bytes (concat p q)) ≤ length lent
-      → ops .join (type-file-bytes t) (slice-file-bytes p) (slice-file-bytes q) lent ≡ writes-file (slice-file-bytes (concat p q)) lent
-  demand-2-join {q = q} lent w i j h = writes-exactly (keeps .join _ _ _ lent) (join-answers q w i j) h
+pub demand-2-join-writes : {type first second lent lent-after : List ℕ} {answer : Written} → JoinPromise type first second lent answer lent-after
+    → (t : TypeFile type) (p : SliceFile (t .type) first) (q : SliceFile (derivative (t .type) (p .prefix)) second)
+    → (let file = slice-file-bytes (concat (p .prefix) (q .prefix)) in length file ≤ length lent → Wrote file lent answer lent-after)
+demand-2-join-writes call t p q h = writes-exactly call (joins t p q) h
 
-  -- The same of every patch left in a run: it is a patch that the rules allow, takes the prefixes of its own input type, and is
-  -- fed as the rules say.
+-- The rules do define an output and a patch left, for every prefix; and the patch in force in a run is one that they allow.
 
-  pub demand-2-run : (start : List ℕ) (calls : List Call) → PatchFile start → ByteSlices calls → PatchFile (run (ops .feed) start calls .patch)
-  demand-2-run start calls patch b = run-patch (ops .feed) (keeps .feed) start calls patch b
+pub demand-2-defined : {s t : Ty} {n : Node} {p : Prefix} → Allowed s n t → IsPrefix s p → (o : Prefix) × (n′ : Node) × Feeds s n p o n′
+demand-2-defined a h = (_, _, feeds (a .types) h)
 
-  pub demand-2-run-slice : (start : List ℕ) (calls : List Call) (patch : PatchFile start) (b : ByteSlices calls) (slice output left : List ℕ)
-      → Bytes slice → 513 ≤ length output → 8482 ≤ length left
-      → ops .feed (run (ops .feed) start calls .patch) slice output left .answer .number ≡ 0
-      ↔ SliceFile (demand-2-run start calls patch b .input) slice
-  demand-2-run-slice start calls patch b slice output left = demand-2-slice _ slice output left (demand-2-run start calls patch b)
+pub demand-2-run : {start : List ℕ} {calls : List Call} {r : Run} → Ran start calls r → PatchFile start → ByteSlices calls → PatchFile (r .patch)
+demand-2-run ran patch b = run-patch ran patch b
 
-  pub demand-2-run-feed : {n′ : Node} {p o : Prefix} (start : List ℕ) (calls : List Call) (patch : PatchFile start) (b : ByteSlices calls)
-      (output left : List ℕ)
-      → (let q = demand-2-run start calls patch b in
-      IsPrefix (q .input) p → Feeds (q .input) (q .node) p o n′
-      → length (slice-file-bytes o) ≤ length output → length (patch-file-bytes (derivative (q .input) p) n′) ≤ length left
-      → ops .feed (run (ops .feed) start calls .patch) (slice-file-bytes p) output left
-      ≡ sends-and-leaves (slice-file-bytes o) (patch-file-bytes (derivative (q .input) p) n′) output left)
-  demand-2-run-feed start calls patch b output left = demand-2-feed _ output left (demand-2-run start calls patch b)
+-- Demand 3. "Take any accepted patch and any list of feeds from it, refused feeds included, whatever slices and buffers they are
+-- handed, each given the patch that the last accepted one before it left, or the patch at the start while there is none.
+-- (`Ran start calls r`. Every list of calls has such a run.)
 
-  -- Demand 3. "Take any accepted patch and any list of feeds from it, refused feeds included, whatever slices and buffers they are
-  -- handed, each given the patch that the last accepted one before it left, or the patch at the start while there is none. If
-  -- any was accepted, the accepted slices joined in order, fed as one to the patch at the start with long enough buffers, are
-  -- accepted too, send exactly the accepted feeds' outputs joined in order, and leave the patch that the list left, byte for
-  -- byte; if none was, the patch is the one at the start. After every feed the patch is itself accepted. Its input type is
-  -- exactly what the slices taken so far, joined, leave of the input type at the start, and its output type exactly what the
-  -- outputs so far, joined, leave of the output type at the start." (`AsOne` in Runs.antt says the middle part and the last.)
+pub demand-3-any-list : (start : List ℕ) (calls : List Call) → (r : Run) × Ran start calls r
+demand-3-any-list start calls = every-list-runs start calls
 
-  pub demand-3 : (start : List ℕ) (calls : List Call) → Bytes start → IsAccepted (check start) → ByteSlices calls
-      → (let r = run (ops .feed) start calls in
-      (1 ≤ length (r .slices) → AsOne (ops .feed) start r) × (r .slices ≡ [] → r .patch ≡ start) × IsAccepted (check (r .patch)))
-  demand-3 start calls b a c = run-holds (ops .feed) (keeps .feed) start calls (check-accepted start b .0 a) c
+-- If any was accepted, the accepted slices joined in order, fed as one to the patch at the start with long enough buffers, are
+-- accepted too, send exactly the accepted feeds' outputs joined in order, and leave the patch that the list left, byte for
+-- byte; if none was, the patch is the one at the start. (`Faithful start r`.)
 
-  -- So the cut of the stream does not change the show: two runs from one start whose accepted slices join to the same slice leave
-  -- the same patch, and their outputs join to the same output.
-  pub cut-free : {start : List ℕ} {r q : Run} (a : AsOne (ops .feed) start r) (b : AsOne (ops .feed) start q) → a .slice ≡ b .slice
-      → (r .patch ≡ q .patch) × (a .output ≡ b .output)
-  cut-free a b e = same-stream a b e
+pub demand-3 : {start : List ℕ} {calls : List Call} {r : Run} → Ran start calls r
+    → Bytes start → IsAccepted (check start) → ByteSlices calls → Faithful start r
+demand-3 {start} ran b a c = run-faithful ran (check-accepted start b .0 a) c
 
-  -- Bounds. "So a slice file has at most 513 bytes", a type file 257 and a patch file 8,482: no answer is longer.
+-- After every feed the patch is itself accepted. Its input type is exactly what the slices taken so far, joined, leave of the
+-- input type at the start, and its output type exactly what the outputs so far, joined, leave of the output type at the
+-- start." (`Faithful` has this of the end of a list, by `AsOne`; it holds after each call of a list.)
 
-  pub bound-check : (patch lent : List ℕ) → Bytes patch → ops .check patch lent .answer .written ≤ 257
-  bound-check patch lent b = writes-bounded (keeps .check patch lent) (check-sized patch b)
-
-  pub bound-left : (type slice lent : List ℕ) → Bytes type → Bytes slice → ops .left type slice lent .answer .written ≤ 257
-  bound-left type slice lent b c = writes-bounded (keeps .left type slice lent) (left-sized type slice b c)
-
-  pub bound-join : (type first second lent : List ℕ) → Bytes type → Bytes first → Bytes second
-      → ops .join type first second lent .answer .written ≤ 513
-  bound-join type first second lent b c d = writes-bounded (keeps .join type first second lent) (join-sized type first second b c d)
-
-  pub bound-feed : (patch slice output left : List ℕ) → Bytes patch → Bytes slice
-      → (let a = ops .feed patch slice output left .answer in (a .output ≤ 513) × (a .patch ≤ 8482))
-  bound-feed patch slice output left b c = feeds-bounded (keeps .feed patch slice output left) (feed-sized-of-bytes patch slice b c)
-
-  -- So with buffers of these lengths 20 never comes.
-
-  pub never-twenty-check : (patch lent : List ℕ) → Bytes patch → 257 ≤ length lent → ops .check patch lent .answer .number ≡ 20 → ⊥
-  never-twenty-check patch lent b h = writes-never-twenty (keeps .check patch lent) (check-refuses patch) (check-sized patch b) h
-
-  pub never-twenty-left : (type slice lent : List ℕ) → Bytes type → Bytes slice → 257 ≤ length lent
-      → ops .left type slice lent .answer .number ≡ 20 → ⊥
-  never-twenty-left type slice lent b c h =
-      writes-never-twenty (keeps .left type slice lent) (left-refuses type slice) (left-sized type slice b c) h
-
-  pub never-twenty-join : (type first second lent : List ℕ) → Bytes type → Bytes first → Bytes second → 513 ≤ length lent
-      → ops .join type first second lent .answer .number ≡ 20 → ⊥
-  never-twenty-join type first second lent b c d h =
-      writes-never-twenty (keeps .join type first second lent) (join-refuses type first second) (join-sized type first second b c d) h
-
-  pub never-twenty-feed : (patch slice output left : List ℕ) → Bytes patch → Bytes slice → 513 ≤ length output → 8482 ≤ length left
-      → ops .feed patch slice output left .answer .number ≡ 20 → ⊥
-  never-twenty-feed patch slice output left b c h k =
-      feeds-never-twenty (keeps .feed patch slice output left) (feed-refuses patch slice) (feed-sized-of-bytes patch slice b c) h k
-
-  -- What is lent as bytes stays bytes: no definition asks for a number above 255.
-
-  pub bytes-check : (patch lent : List ℕ) → Bytes patch → Bytes lent → Bytes (ops .check patch lent .lent)
-  bytes-check patch lent b c = writes-bytes (keeps .check patch lent) (check-sized patch b) c
-
-  pub bytes-left : (type slice lent : List ℕ) → Bytes type → Bytes slice → Bytes lent → Bytes (ops .left type slice lent .lent)
-  bytes-left type slice lent b c d = writes-bytes (keeps .left type slice lent) (left-sized type slice b c) d
-
-  pub bytes-join : (type first second lent : List ℕ) → Bytes type → Bytes first → Bytes second → Bytes lent
-      → Bytes (ops .join type first second lent .lent)
-  bytes-join type first second lent b c d e = writes-bytes (keeps .join type first second lent) (join-sized type first second b c d) e
-
-  pub bytes-feed : (patch slice output left : List ℕ) → Bytes patch → Bytes slice → Bytes output → Bytes left
-      → (let c = ops .feed patch slice output left in Bytes (c .output) × Bytes (c .left))
-  bytes-feed patch slice output left b c d e = feeds-bytes (keeps .feed patch slice output left) (feed-sized-of-bytes patch slice b c) d e
-
--- The order in which two lanes side by side arrive does not matter either (the source's Theorem 3.4, "Determinism"): the slice of
--- one and then that of the other join to the same slice either way.
-pub order-free : {s t : Ty} {p q : Prefix} → Small (par s t) → IsPrefix s p → IsPrefix t q
-    → (let type = type-file-bytes (par s t) in
-    (join type (slice-file-bytes (beside p (empty-prefix t))) (slice-file-bytes (beside (empty-prefix (derivative s p)) q))
-    ≡ accepted (slice-file-bytes (beside p q)))
-    × (join type (slice-file-bytes (beside (empty-prefix s) q)) (slice-file-bytes (beside p (empty-prefix (derivative t q))))
-    ≡ accepted (slice-file-bytes (beside p q))))
-order-free w h k = lanes-join w h k
+pub demand-3-after-every-feed : {start : List ℕ} {r : Run} (calls more : List Call) → Ran start (calls ++ more) r
+    → Bytes start → IsAccepted (check start) → ByteSlices (calls ++ more) → (t : Through start calls more r) × Faithful start (t .so-far)
+demand-3-after-every-feed {start} calls more ran b a c = run-faithful-so-far calls more ran (check-accepted start b .0 a) c

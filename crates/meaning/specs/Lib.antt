@@ -3,3 +3,4 @@ pub mod Promises
 pub mod Runs
 pub mod Cases
 pub mod Demands
+pub mod Consequences

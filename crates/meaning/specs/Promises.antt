@@ -1,4 +1,4 @@
--- The promises of the five operations: the text of each one's `ensures`; and what it is to keep them.
+-- The promises of the five operations: each is the text of an `ensures`, and what the demands take of a call.
 use mathlib.Core.Path.{_≡_}
 use mathlib.Core.Bool.{Bool, false}
 use mathlib.Core.List.{List}
@@ -11,13 +11,13 @@ use Rattle.meaning.specs.declared.Written.{Written}
 use Rattle.meaning.specs.declared.Admitted.{Admitted}
 use Rattle.meaning.specs.declared.Fed.{Fed}
 use Rattle.stream.specs.Buffers.{front}
-use Rattle.meaning.specs.Answers.{check, admit, left, join, feed, with-room, fits-one, fits-both, Listed, written, admitted, fed, after}
+use Rattle.meaning.specs.Answers.{check, admit, left, join, feed, into-one, into-both, Listed, written, admitted, fed, after}
 pub mod Laws
 
 -- What an operation with one lent buffer promises: `outcome` is what it has to write, 20 aside.
 pub record Writes (outcome : Result (List ℕ)) (lent : List ℕ) (answer : Written) (lent-after : List ℕ) : Type 0 where
-  pub answers : answer ≡ written (with-room (fits-one (length lent)) outcome)
-  pub buffer : lent-after ≡ after (λ file. file) (with-room (fits-one (length lent)) outcome) lent
+  pub answers : answer ≡ written (into-one lent outcome)
+  pub buffer : lent-after ≡ after (λ file. file) (into-one lent outcome) lent
 
 -- What an operation that writes nothing promises.
 pub record Admits (outcome : Result Bool) (answer : Admitted) : Type 0 where
@@ -36,48 +36,18 @@ abbrev pub JoinPromise : (type first second lent : List ℕ) → Written → Lis
 JoinPromise type first second lent answer lent-after = Writes (join type first second) lent answer lent-after
 
 pub record FeedPromise (patch slice output left : List ℕ) (answer : Fed) (output-after left-after : List ℕ) : Type 0 where
-  pub answers : answer ≡ fed (with-room (fits-both (length output) (length left)) (feed patch slice))
-  pub output-buffer : output-after ≡ after (λ w. w .output) (with-room (fits-both (length output) (length left)) (feed patch slice)) output
-  pub left-buffer : left-after ≡ after (λ w. w .patch) (with-room (fits-both (length output) (length left)) (feed patch slice)) left
-
--- The five operations as functions of the bytes handed in: the answer, and each lent buffer afterwards. (A function of the
--- code is given bytes alone; on a list that holds other numbers, take the definition's answer for its own.)
-pub record WrittenCall : Type 0 where
-  pub answer : Written
-  pub lent : List ℕ
-
-pub record FedCall : Type 0 where
-  pub answer : Fed
-  pub output : List ℕ
-  pub left : List ℕ
+  pub answers : answer ≡ fed (into-both output left (feed patch slice))
+  pub output-buffer : output-after ≡ after (λ w. w .output) (into-both output left (feed patch slice)) output
+  pub left-buffer : left-after ≡ after (λ w. w .patch) (into-both output left (feed patch slice)) left
 
 -- Accepted calls that write a file, or the two files of a feed, at the front of what they were lent.
-abbrev pub writes-file : (file lent : List ℕ) → WrittenCall
-writes-file file lent = record { answer = record { number = 0; written = length file }; lent = front file lent }
+abbrev pub Wrote : (file lent : List ℕ) → Written → List ℕ → Type 0
+Wrote file lent answer lent-after = (answer ≡ record { number = 0; written = length file }) × (lent-after ≡ front file lent)
 
-abbrev pub sends-and-leaves : (output patch output-lent left-lent : List ℕ) → FedCall
-sends-and-leaves output patch output-lent left-lent =
-    record {
-      answer = record { number = 0; output = length output; patch = length patch };
-      output = front output output-lent;
-      left = front patch left-lent;
-    }
-
-pub record Operations : Type 0 where
-  pub check : (patch lent : List ℕ) → WrittenCall
-  pub admit : (type slice : List ℕ) → Admitted
-  pub left : (type slice lent : List ℕ) → WrittenCall
-  pub join : (type first second lent : List ℕ) → WrittenCall
-  pub feed : (patch slice output left : List ℕ) → FedCall
-
-pub record Keeps (ops : Operations) : Type 0 where
-  pub check : (patch lent : List ℕ) → (let c = ops .check patch lent in CheckPromise patch lent (c .answer) (c .lent))
-  pub admit : (type slice : List ℕ) → AdmitPromise type slice (ops .admit type slice)
-  pub left : (type slice lent : List ℕ) → (let c = ops .left type slice lent in LeftPromise type slice lent (c .answer) (c .lent))
-  pub join : (type first second lent : List ℕ)
-      → (let c = ops .join type first second lent in JoinPromise type first second lent (c .answer) (c .lent))
-  pub feed : (patch slice output left : List ℕ)
-      → (let c = ops .feed patch slice output left in FeedPromise patch slice output left (c .answer) (c .output) (c .left))
+abbrev pub Sent : (sent patch output left : List ℕ) → Fed → List ℕ → List ℕ → Type 0
+Sent sent patch output left answer output-after left-after =
+    (answer ≡ record { number = 0; output = length sent; patch = length patch })
+    × (output-after ≡ front sent output) × (left-after ≡ front patch left)
 
 -- What demand 1 asks of a call, whose outcome is known with 20 taken in: "accepted or .. refused with the number that
 -- document 01 gives for its first fault .. and a refused one alters no byte of a lent buffer". `listed` are the numbers that

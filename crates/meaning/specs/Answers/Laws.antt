@@ -15,7 +15,7 @@ use Rattle.stream.specs.Types.{Ty, par}
 use Rattle.stream.specs.Types.Laws.{and-both}
 use Rattle.stream.specs.Prefixes.{Prefix, beside, IsPrefix, of-beside, complete, empty-prefix, derivative, concat}
 use Rattle.stream.specs.Prefixes.Laws.{derivative-size, concat-is-prefix, empty-prefix-is-prefix, left-lane-first, right-lane-first, right-lane-after, left-lane-after}
-use Rattle.stream.specs.Reading.{Bytes, Result, accepted, IsAccepted, go-on, require}
+use Rattle.stream.specs.Reading.{Bytes, Result, accepted, refused, IsAccepted, go-on, require}
 use Rattle.stream.specs.Reading.Laws.{bytes-nil, go-on-accepted, require-accepted}
 use Rattle.stream.specs.Reading.Refusals.{Refusals, go-on-refusals, require-refusals}
 use Rattle.stream.specs.TypeFiles.{type-file, type-file-bytes, TypeFile}
@@ -26,7 +26,7 @@ use Rattle.node.specs.Nodes.{Node, Small, Allowed}
 use Rattle.node.specs.Nodes.Laws.{output-small}
 use Rattle.node.specs.Feeding.{sends, leaves}
 use Rattle.node.specs.Feeding.Laws.{fed, leaves-allowed}
-use Rattle.node.specs.PatchFiles.{patch-file, patch-file-bytes, PatchFile}
+use Rattle.node.specs.PatchFiles.{Checked, patch-file, patch-file-bytes, PatchFile}
 use Rattle.node.specs.PatchFiles.Laws.{patch-file-complete, patch-file-sound, patch-file-accepted, patch-file-length, patch-file-is-bytes, patch-file-refusals}
 use Rattle.meaning.specs.Answers.{check, admit, left, join, FedFiles, feed, with-room, fits-both, patch-numbers, admit-numbers, feed-numbers, contains, Listed}
 
@@ -144,6 +144,43 @@ feed-accepted slice f b = rw (← f .bytes) (go (f .input) (f .node) (f .output)
           slice-file-accepted s slice (a .input-small) b .0 (x .0, x .1)),
       (λ g. (_, rw (g .bytes) at (feed-answers a (g .is-prefix)))),
     )
+
+pub left-accepted : (type slice : List ℕ) → Bytes type → Bytes slice
+    → IsAccepted (left type slice) ↔ ((t : TypeFile type) × SliceFile (t .type) slice)
+unfolding left
+left-accepted type slice b c = (
+  (λ a. let x = type-and-slice type slice (λ t p. accepted (type-file-bytes (derivative t p))) (a .0) b c (a .1) in (x .typed, x .sliced)),
+  (λ x. let t = x .0 in let p = x .1 in (_, rw (t .bytes, p .bytes) at (left-answers (t .small) (p .is-prefix)))),
+)
+
+-- Join of files that are what they should be.
+pub joins : {type first second : List ℕ} (t : TypeFile type) (p : SliceFile (t .type) first) (q : SliceFile (derivative (t .type) (p .prefix)) second)
+    → join type first second ≡ accepted (slice-file-bytes (concat (p .prefix) (q .prefix)))
+joins t p q = rw (t .bytes, p .bytes, q .bytes) at (join-answers (q .prefix) (t .small) (p .is-prefix) (q .is-prefix))
+
+pub join-accepted : (type first second : List ℕ) → Bytes type → Bytes first → Bytes second
+    → IsAccepted (join type first second)
+    ↔ ((t : TypeFile type) × (p : SliceFile (t .type) first) × SliceFile (derivative (t .type) (p .prefix)) second)
+unfolding join
+join-accepted type first second b c d = (
+  (λ a. let x = type-and-slice type first (λ t p. go-on (slice-file (derivative t p) second) (λ q. accepted (slice-file-bytes (concat p q)))) (a .0) b c (a .1) in
+      let t = x .typed .type in
+      let p = x .sliced .prefix in
+      let y = go-on-accepted (slice-file (derivative t p) second) (λ q. accepted (slice-file-bytes (concat p q))) (a .0) (x .made) in
+      let q = slice-file-sound (derivative t p) second (y .0) d (y .1) in
+      (x .typed, x .sliced, record { prefix = y .0; is-prefix = q .1; bytes = q .0 })),
+  (λ x. (_, joins (x .0) (x .1) (x .2))),
+)
+
+-- What Check refuses, Feed refuses too, whatever the slice.
+pub check-refused-feed : (patch slice : List ℕ) {e : Fault} → check patch ≡ refused e → feed patch slice ≡ refused e
+unfolding check feed
+check-refused-feed patch slice {e} d = go (patch-file patch) d
+  where
+    go : (r : Result Checked) → go-on r (λ c. accepted (type-file-bytes (c .output))) ≡ refused e
+        → go-on r (λ c. go-on (slice-file (c .patch .input) slice) (λ p. accepted (fed-files (c .patch .input) (c .patch .node) p))) ≡ refused e
+    go (accepted c) h = let z : _≡_ {A = ℕ} 0 1 = cc in absurd (omega arith)
+    go (refused x) h = let z : x ≡ e = cc in ap (λ y. refused y) z
 
 -- Room
 
@@ -308,3 +345,11 @@ fed-patch patch slice w b e =
 
 pub feed-sized-of-bytes : (patch slice : List ℕ) → Bytes patch → Bytes slice → FeedsSized (feed patch slice)
 feed-sized-of-bytes patch slice b c = record { sized = λ w e. (feed-sized slice (fed-patch patch slice w b e) c) .sized w e }
+
+-- Feed accepts exactly a patch file with a slice file of its input type.
+pub feed-accepted-of-bytes : (patch slice : List ℕ) → Bytes patch → Bytes slice
+    → IsAccepted (feed patch slice) ↔ ((f : PatchFile patch) × SliceFile (f .input) slice)
+feed-accepted-of-bytes patch slice b c = (
+  (λ a. let f = fed-patch patch slice (a .0) b (a .1) in (f, feed-accepted slice f c .0 a)),
+  (λ x. feed-accepted slice (x .0) c .1 (x .1)),
+)

@@ -8,7 +8,8 @@ use Prim.Native.Nat.{ℕ, _≤_}
 use native.Mathlib.Omega.{arith}
 use native.Mathlib.Nat.{le-trans}
 use lib.Dec.{eqb}
-use lib.ListN.{length, drop}
+use lib.ListN.{length, take, drop}
+use lib.Seq.{take-append-seam}
 use borrow.Author.Tests.{le-leb}
 use Rattle.stream.specs.declared.Fault.{Fault}
 use Rattle.stream.specs.declared.Fault.the-variants.{NoRoom}
@@ -22,8 +23,8 @@ use Rattle.meaning.specs.declared.Written.{Written}
 use Rattle.meaning.specs.declared.Admitted.{Admitted}
 use Rattle.meaning.specs.declared.Fed.{Fed}
 use Rattle.meaning.specs.Answers.{with-room, number-of, value-of, as-number, after, contains, Listed, fits-one, fits-both, written, admitted, fed, FedFiles, check, admit, left, join, feed}
-use Rattle.meaning.specs.Answers.Laws.{number-positive, enough-room, room-accepted, room-refusals, both-fit, Refuses, WritesSized, FeedsSized}
-use Rattle.meaning.specs.Promises.{WrittenCall, writes-file, Operations, Keeps, Writes, Admits, FeedPromise, Decided, is-accepted, is-refused, TooShort}
+use Rattle.meaning.specs.Answers.Laws.{number-positive, enough-room, room-accepted, room-refusals, both-fit, check-refused-feed, Refuses, WritesSized, FeedsSized}
+use Rattle.meaning.specs.Promises.{Writes, Admits, CheckPromise, AdmitPromise, LeftPromise, JoinPromise, FeedPromise, Wrote, Sent, Decided, is-accepted, is-refused, TooShort}
 
 -- Faults with a listed number
 
@@ -140,11 +141,11 @@ module _ {outcome : Result (List ℕ)} {lent : List ℕ} {answer : Written} {len
 
   -- With room for its file, the call writes exactly that.
   pub writes-exactly : {file : List ℕ} → outcome ≡ accepted file → length file ≤ length lent
-      → _≡_ {A = WrittenCall} (record { answer = answer; lent = lent-after }) (writes-file file lent)
+      → Wrote file lent answer lent-after
   unfolding written after
   writes-exactly {file} e h =
       let o = enough-room (fits-one (length lent)) outcome e (le-leb (length file) (length lent) h) in
-      λ i. record { answer = (promise .answers ∙ ap written o) i; lent = (promise .buffer ∙ ap (λ r. after (λ f. f) r lent) o) i }
+      (promise .answers ∙ ap written o, promise .buffer ∙ ap (λ r. after (λ f. f) r lent) o)
 
   pub writes-zero : {most : ℕ} → WritesSized most outcome → most ≤ length lent → answer .number ≡ 0 ↔ IsAccepted outcome
   writes-zero l h = rw told (zero-with-room (fits-one (length lent)) outcome (all-fit l h))
@@ -198,6 +199,39 @@ module _ {patch slice output left : List ℕ} {answer : Fed} {output-after left-
   pub feeds-zero : FeedsSized (feed patch slice) → 513 ≤ length output → 8482 ≤ length left → answer .number ≡ 0 ↔ IsAccepted (feed patch slice)
   feeds-zero l h k = rw fed-told (zero-with-room fits (feed patch slice) (both-fits l h k))
 
+  -- With room for its files, the call writes exactly these.
+  pub feeds-exactly : {w : FedFiles} → feed patch slice ≡ accepted w → length (w .output) ≤ length output → length (w .patch) ≤ length left
+      → Sent (w .output) (w .patch) output left answer output-after left-after
+  unfolding fed after
+  feeds-exactly {w} e h k =
+      let o = enough-room fits (feed patch slice) e (both-fit w h k) in (
+        promise .answers ∙ ap fed o,
+        promise .output-buffer ∙ ap (λ r. after (λ f. f .output) r output) o,
+        promise .left-buffer ∙ ap (λ r. after (λ f. f .patch) r left) o,
+      )
+
+  -- An accepted call has written the two files that it had to.
+  pub record Accepted : Type 0 where
+    pub files : FedFiles
+    pub due : feed patch slice ≡ accepted files
+    pub output-file : take (answer .output) output-after ≡ files .output
+    pub patch-file : take (answer .patch) left-after ≡ files .patch
+
+  pub feeds-accepted : answer .number ≡ 0 → Accepted
+  unfolding fed after
+  feeds-accepted z =
+      let a = zero-accepted (with-room fits (feed patch slice)) .0 (sym fed-told ∙ z) in
+      let w = a .0 in
+      let told = promise .answers ∙ ap fed (a .1) in
+      record {
+        files = w;
+        due = room-accepted fits (feed patch slice) w (a .1) .0;
+        output-file = ap₂ take (ap (λ (f : Fed). f .output) told) (promise .output-buffer ∙ ap (λ r. after (λ f. f .output) r output) (a .1))
+            ∙ take-append-seam (w .output) (drop (length (w .output)) output);
+        patch-file = ap₂ take (ap (λ (f : Fed). f .patch) told) (promise .left-buffer ∙ ap (λ r. after (λ f. f .patch) r left) (a .1))
+            ∙ take-append-seam (w .patch) (drop (length (w .patch)) left);
+      }
+
 -- Admit
 
 one-true : (b : Bool) → as-number b ≡ 1 ↔ b ≡ true
@@ -221,33 +255,52 @@ module _ {o : Result Bool} {answer : Admitted} (promise : Admits o answer) where
       rw (ap (λ (a : Admitted). a .complete) (promise .answers ∙ ap admitted d))
       (Iff·trans (one-true (complete p)) ((λ e. complete-sound p e), (λ c. complete-complete c)))
 
--- The definitions themselves keep the promises.
-defined : Operations
-defined =
-    record {
-      check = λ patch lent. writing (check patch) lent;
-      admit = λ type slice. admitted (admit type slice);
-      left = λ type slice lent. writing (left type slice) lent;
-      join = λ type first second lent. writing (join type first second) lent;
-      feed = λ patch slice output left.
-          let o = with-room (fits-both (length output) (length left)) (feed patch slice) in
-          record { answer = fed o; output = after (λ w. w .output) o output; left = after (λ w. w .patch) o left };
-    }
-  where
-    writing : Result (List ℕ) → List ℕ → WrittenCall
-    writing r lent =
-        let o = with-room (fits-one (length lent)) r in
-        record { answer = written o; lent = after (λ file. file) o lent }
+-- Each promise can be kept, whatever is handed in, and in one way only.
 
-pub kept-by-definitions : (ops : Operations) × Keeps ops
-unfolding defined
-kept-by-definitions = (
-  defined,
-  record {
-    check = λ patch lent. record { answers = refl; buffer = refl };
-    admit = λ type slice. record { answers = refl };
-    left = λ type slice lent. record { answers = refl; buffer = refl };
-    join = λ type first second lent. record { answers = refl; buffer = refl };
-    feed = λ patch slice output left. record { answers = refl; output-buffer = refl; left-buffer = refl };
-  },
-)
+writes-kept : (outcome : Result (List ℕ)) (lent : List ℕ) → (answer : Written) × (lent-after : List ℕ) × Writes outcome lent answer lent-after
+writes-kept outcome lent = (_, _, record { answers = refl; buffer = refl })
+
+pub check-kept : (patch lent : List ℕ) → (answer : Written) × (lent-after : List ℕ) × CheckPromise patch lent answer lent-after
+check-kept patch lent = writes-kept (check patch) lent
+
+pub admit-kept : (type slice : List ℕ) → (answer : Admitted) × AdmitPromise type slice answer
+admit-kept type slice = (_, record { answers = refl })
+
+pub left-kept : (type slice lent : List ℕ) → (answer : Written) × (lent-after : List ℕ) × LeftPromise type slice lent answer lent-after
+left-kept type slice lent = writes-kept (left type slice) lent
+
+pub join-kept : (type first second lent : List ℕ)
+    → (answer : Written) × (lent-after : List ℕ) × JoinPromise type first second lent answer lent-after
+join-kept type first second lent = writes-kept (join type first second) lent
+
+pub feed-kept : (patch slice output left : List ℕ)
+    → (answer : Fed) × (output-after : List ℕ) × (left-after : List ℕ) × FeedPromise patch slice output left answer output-after left-after
+feed-kept patch slice output left = (_, _, _, record { answers = refl; output-buffer = refl; left-buffer = refl })
+
+pub writes-alike : {outcome : Result (List ℕ)} {lent x y : List ℕ} {a b : Written} → Writes outcome lent a x → Writes outcome lent b y
+    → (a ≡ b) × (x ≡ y)
+writes-alike h k = (h .answers ∙ sym (k .answers), h .buffer ∙ sym (k .buffer))
+
+pub admits-alike : {outcome : Result Bool} {a b : Admitted} → Admits outcome a → Admits outcome b → a ≡ b
+admits-alike h k = h .answers ∙ sym (k .answers)
+
+pub feeds-alike : {patch slice output left x y u v : List ℕ} {a b : Fed} → FeedPromise patch slice output left a x u
+    → FeedPromise patch slice output left b y v → (a ≡ b) × (x ≡ y) × (u ≡ v)
+feeds-alike h k = (h .answers ∙ sym (k .answers), h .output-buffer ∙ sym (k .output-buffer), h .left-buffer ∙ sym (k .left-buffer))
+
+-- What Check refuses, 20 aside, Feed refuses with the same number.
+pub feeds-as-check : {patch slice lent lent-after output left output-after left-after : List ℕ} {c : Written} {f : Fed}
+    → CheckPromise patch lent c lent-after → FeedPromise patch slice output left f output-after left-after
+    → (c .number ≡ 0 → ⊥) → (c .number ≡ 20 → ⊥) → f ≡ record { number = c .number; output = 0; patch = 0 }
+unfolding with-room fed written
+feeds-as-check {patch} {slice} {lent} {output = output} {left = left} {c = c} {f = f} check-call feed-call n m = go (check patch) refl
+  where
+    short : (file : List ℕ) (b : Bool) → c .number ≡ number-of (require b NoRoom (accepted file)) → f ≡ record { number = c .number; output = 0; patch = 0 }
+    short file true e = absurd (n e)
+    short file false e = absurd (m e)
+
+    go : (r : Result (List ℕ)) → check patch ≡ r → f ≡ record { number = c .number; output = 0; patch = 0 }
+    go (accepted file) e = short file (fits-one (length lent) file) (told check-call ∙ ap (λ r. number-of (with-room (fits-one (length lent)) r)) e)
+    go (refused e) d =
+        feed-call .answers ∙ ap (λ r. fed (with-room (fits-both (length output) (length left)) r)) (check-refused-feed patch slice d)
+        ∙ (λ i. record { number = sym (told check-call ∙ ap (λ r. number-of (with-room (fits-one (length lent)) r)) d) i; output = 0; patch = 0 })
