@@ -2,9 +2,9 @@
 use mathlib.Core.Bool.{Bool, true, false, _&&_, _||_}
 use mathlib.Core.Path.{_≡_}
 use mathlib.Core.List.{List, [], _∷_}
-use Prim.Native.Nat.{ℕ}
+use Prim.Native.Nat.{ℕ, _+_, _*_}
 use lib.Dec.{leb, eqb}
-use lib.ListN.{length}
+use lib.ListN.{length, take}
 use Rattle.stream.specs.declared.Fault.{Fault}
 use Rattle.stream.specs.declared.Fault.the-variants.{NoRoom}
 use Rattle.stream.specs.Faults.{number}
@@ -98,6 +98,12 @@ fed r =
 unfoldable pub after : {A : Type 0} → (A → List ℕ) → Result A → List ℕ → List ℕ
 after file (accepted a) lent = front (file a) lent
 after file (refused e) lent = lent
+
+-- The input type file of a patch file is its first section.
+unfoldable pub first-section : List ℕ → List ℕ
+first-section [] = []
+first-section (h ∷ []) = h ∷ []
+first-section (h ∷ l ∷ s) = h ∷ l ∷ take (h * 256 + l) s
 
 -- The numbers that document 01 lists for Check ("1" to "7"), for Admit, Left and Join ("1 to 4 as above", 11 to 14), and for
 -- Feed ("As Check without 20; 11 to 14"), 20 aside.

@@ -23,7 +23,7 @@ use Rattle.writing.specs.Writing.Laws.{Begun, front-length}
 use Rattle.meaning.specs.declared.Fed.{Fed}
 use Rattle.meaning.specs.Answers.{feed, FedFiles, number-of, fed, after}
 use Rattle.meaning.specs.Answers.Laws.{number-bounds, fed-files, feed-of-patch, fed-patch, FedSized, feed-sized-of-bytes}
-use Rattle.meaning.specs.Runs.Laws.{first-section-of}
+use Rattle.meaning.specs.Answers.Laws.{first-section-of}
 use Rattle.transcript.specs.declared.Stage.the-variants.{Feeding}
 use Rattle.transcript.specs.Transcripts.{number-line, contents, fed-line, line, feeding, patch-after, takes}
 use Rattle.transcript.specs.Transcripts.Laws.{number-line-length, fed-line-length}

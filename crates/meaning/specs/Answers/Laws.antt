@@ -2,11 +2,12 @@
 use mathlib.Core.Path.{_≡_, refl, sym, ap, _∙_}
 use mathlib.Core.Logic.{_↔_}
 use mathlib.Core.Bool.{Bool, true, false}
-use mathlib.Core.List.{List, []}
-use Prim.Native.Nat.{ℕ, _≤_}
+use mathlib.Core.List.{List, [], append-nil}
+use Prim.Native.Nat.{ℕ, _+_, _*_, _/_, _%_, _≤_}
 use native.Mathlib.Omega.{arith}
 use native.Mathlib.Nat.{le-trans}
 use lib.ListN.{length}
+use lib.Seq.{take-append-seam}
 use borrow.Author.Tests.{le-leb}
 use Rattle.stream.specs.declared.Fault.{Fault}
 use Rattle.stream.specs.declared.Fault.the-variants.{CutShort, Unlisted, LeftOver, TypeTooLarge, TooManyNodes, NotNullable, WrongShape, SliceCutShort, SliceUnlisted, SliceLeftOver, SliceMisplaced, NoRoom}
@@ -15,10 +16,10 @@ use Rattle.stream.specs.Types.{Ty, par}
 use Rattle.stream.specs.Types.Laws.{and-both}
 use Rattle.stream.specs.Prefixes.{Prefix, beside, IsPrefix, of-beside, complete, empty-prefix, derivative, concat}
 use Rattle.stream.specs.Prefixes.Laws.{derivative-size, concat-is-prefix, empty-prefix-is-prefix, left-lane-first, right-lane-first, right-lane-after, left-lane-after}
-use Rattle.stream.specs.Reading.{Bytes, Result, accepted, refused, IsAccepted, go-on, require}
+use Rattle.stream.specs.Reading.{Bytes, Result, accepted, refused, IsAccepted, go-on, require, section-bytes}
 use Rattle.stream.specs.Reading.Laws.{bytes-nil, go-on-accepted, require-accepted}
 use Rattle.stream.specs.Reading.Refusals.{Refusals, go-on-refusals, require-refusals}
-use Rattle.stream.specs.TypeFiles.{type-file, type-file-bytes, TypeFile}
+use Rattle.stream.specs.TypeFiles.{type-bytes, type-file, type-file-bytes, TypeFile}
 use Rattle.stream.specs.TypeFiles.Laws.{type-file-complete, type-file-sound, type-file-length, type-section-is-bytes, type-file-refusals}
 use Rattle.stream.specs.SliceFiles.{slice-file, slice-file-bytes, SliceFile}
 use Rattle.stream.specs.SliceFiles.Laws.{slice-file-complete, slice-file-sound, slice-file-accepted, slice-file-length, slice-file-is-bytes, slice-file-refusals}
@@ -26,9 +27,9 @@ use Rattle.node.specs.Nodes.{Node, Small, Allowed}
 use Rattle.node.specs.Nodes.Laws.{output-small}
 use Rattle.node.specs.Feeding.{sends, leaves}
 use Rattle.node.specs.Feeding.Laws.{fed, leaves-allowed}
-use Rattle.node.specs.PatchFiles.{Checked, patch-file, patch-file-bytes, PatchFile}
+use Rattle.node.specs.PatchFiles.{Checked, node-bytes, patch-file, patch-file-bytes, PatchFile}
 use Rattle.node.specs.PatchFiles.Laws.{patch-file-complete, patch-file-sound, patch-file-accepted, patch-file-length, patch-file-is-bytes, patch-file-refusals}
-use Rattle.meaning.specs.Answers.{check, admit, left, join, FedFiles, feed, with-room, fits-both, patch-numbers, admit-numbers, feed-numbers, contains, Listed}
+use Rattle.meaning.specs.Answers.{check, admit, left, join, FedFiles, feed, with-room, fits-both, patch-numbers, admit-numbers, feed-numbers, contains, Listed, first-section}
 
 -- No refusal has the number 0, and none has more than two digits.
 pub number-bounds : (e : Fault) → (1 ≤ number e) × (number e ≤ 20)
@@ -353,3 +354,15 @@ feed-accepted-of-bytes patch slice b c = (
   (λ a. let f = fed-patch patch slice (a .0) b (a .1) in (f, feed-accepted slice f c .0 a)),
   (λ x. feed-accepted slice (x .0) c .1 (x .1)),
 )
+
+-- The first section of a file that begins with one, and of a patch file.
+
+pub first-section-of : (body r : List ℕ) → first-section (section-bytes body r) ≡ section-bytes body []
+unfolding first-section section-bytes
+first-section-of body r =
+    let e : length body / 256 * 256 + length body % 256 ≡ length body = omega arith in
+    rw (e, take-append-seam body r, append-nil body)
+
+pub first-section-of-patch : (s : Ty) (n : Node) → first-section (patch-file-bytes s n) ≡ type-file-bytes s
+unfolding patch-file-bytes type-file-bytes
+first-section-of-patch s n = first-section-of (type-bytes s []) (section-bytes (node-bytes n []) [])

@@ -6,7 +6,7 @@ use Rattle.stream.specs.Reading.Examples.{section-of}
 use Rattle.node.specs.Computing.{node-definitions}
 use Rattle.node.specs.PatchFiles.Examples.{sections}
 use Rattle.meaning.specs.Answers.{check, feed}
-use Rattle.meaning.specs.Runs.{first-section}
+use Rattle.meaning.specs.Answers.{first-section}
 use Rattle.transcript.specs.Transcripts.{files-within, files, digit, hexadecimal, number-line, line, patch-after, takes, prints, transcript}
 
 -- Prepend, after its length; a slice file, after its own.

@@ -1,8 +1,8 @@
 -- What else follows from the promises, call by call: when 20 comes, how long an answer is, that bytes stay bytes, that a promise
 -- leaves no choice, and that neither the cut of a stream nor the order of two lanes changes the show.
-use mathlib.Core.Path.{_≡_}
+use mathlib.Core.Path.{_≡_, sym, _∙_}
 use mathlib.Core.Logic.{_↔_}
-use mathlib.Core.List.{List, [], _∷_}
+use mathlib.Core.List.{List}
 use Prim.Native.Nat.{ℕ, _≤_}
 use lib.ListN.{length}
 use Rattle.stream.specs.Types.{Ty, par}
@@ -12,17 +12,19 @@ use Rattle.stream.specs.TypeFiles.{type-file-bytes}
 use Rattle.stream.specs.SliceFiles.{slice-file-bytes, SliceFile}
 use Rattle.node.specs.Nodes.{Node, Small}
 use Rattle.node.specs.Feeding.{Feeds}
+use Rattle.node.specs.Feeding.Laws.{feeds-only}
 use Rattle.node.specs.PatchFiles.{patch-file-bytes, PatchFile}
 use Rattle.meaning.specs.declared.Written.{Written}
 use Rattle.meaning.specs.declared.Admitted.{Admitted}
 use Rattle.meaning.specs.declared.Fed.{Fed}
 use Rattle.meaning.specs.Answers.{check, left, join, feed, fits-one, fits-both}
 use Rattle.meaning.specs.Answers.Laws.{lanes-join, check-refuses, left-refuses, join-refuses, feed-refuses, check-sized, left-sized, join-sized, feed-sized-of-bytes}
-use Rattle.meaning.specs.Promises.{CheckPromise, AdmitPromise, LeftPromise, JoinPromise, FeedPromise, Sent, TooShort}
-use Rattle.meaning.specs.Promises.Laws.{writes-twenty, feeds-twenty, writes-bounded, feeds-bounded, writes-never-twenty, feeds-never-twenty, writes-bytes, feeds-bytes, writes-alike, admits-alike, feeds-alike}
-use Rattle.meaning.specs.Runs.{Call, ByteSlices, Run, Ran, AsOne}
-use Rattle.meaning.specs.Runs.Laws.{runs-alike, same-stream}
-use Rattle.meaning.specs.Demands.{demand-2-slice, demand-2-sends, demand-2-run}
+use Rattle.meaning.specs.Promises.{CheckPromise, AdmitPromise, LeftPromise, JoinPromise, FeedPromise}
+use Rattle.demands.specs.Calls.{Sent, TooShort}
+use Rattle.demands.specs.Calls.Laws.{writes-twenty, feeds-twenty, writes-bounded, feeds-bounded, writes-never-twenty, feeds-never-twenty, writes-bytes, feeds-bytes, writes-alike, admits-alike, feeds-alike}
+use Rattle.demands.specs.Runs.{Call, ByteSlices, Run, Ran, AsOne}
+use Rattle.demands.specs.Runs.Laws.{runs-alike, same-stream}
+use Rattle.demands.specs.Demands.{demand-2-slice, demand-2-sends, demand-2-run}
 
 -- A call of Check
 
@@ -121,6 +123,10 @@ module _ {start : List ℕ} {calls : List Call} {r : Run} (ran : Ran start calls
       → length (slice-file-bytes o) ≤ length output → length (patch-file-bytes (derivative (p .input) (taken .prefix)) n′) ≤ length left
       → Sent (slice-file-bytes o) (patch-file-bytes (derivative (p .input) (taken .prefix)) n′) output left answer output-after left-after)
   run-sends taken rule h k = demand-2-sends call (demand-2-run ran patch b) taken rule h k
+
+-- The rules define one output and one node left.
+pub one-rule : {s : Ty} {n n′ m : Node} {p o q : Prefix} → Feeds s n p o n′ → Feeds s n p q m → (o ≡ q) × (n′ ≡ m)
+one-rule h k = let x = feeds-only h in let y = feeds-only k in (x .sent ∙ sym (y .sent), x .node ∙ sym (y .node))
 
 -- The same calls from the same start come to the same.
 pub one-run : {start : List ℕ} {r q : Run} (calls : List Call) → Ran start calls r → Ran start calls q → r ≡ q

@@ -1,7 +1,7 @@
 -- The user's three demands, whole and in order. A statement takes the promise of the call that it speaks of: the very
 -- proposition that is the `ensures` of that operation (crates/wosthile/src/exports.rt), with the bytes handed in, the answer,
 -- and each lent buffer as it is afterwards. `Consequences` has what else follows; the laws have the proofs.
--- What the statements speak of: answers and numbers (Answers), promises (Promises), runs (Runs), files (TypeFiles, SliceFiles,
+-- What the statements speak of: answers and numbers (Answers), promises (Promises), calls and runs (Calls, Runs), files (TypeFiles, SliceFiles,
 -- PatchFiles), rules (IsPrefix in Prefixes, Types and Allowed in Nodes, Feeds in Feeding).
 use mathlib.Core.Path.{_≡_}
 use mathlib.Core.Logic.{_↔_, Iff·trans}
@@ -17,15 +17,16 @@ use Rattle.node.specs.Nodes.{Node, Allowed}
 use Rattle.node.specs.Feeding.{Feeds}
 use Rattle.node.specs.Feeding.Laws.{feeds}
 use Rattle.node.specs.PatchFiles.{patch-file-bytes, PatchFile}
 use Rattle.meaning.specs.declared.Written.{Written}
 use Rattle.meaning.specs.declared.Admitted.{Admitted}
 use Rattle.meaning.specs.declared.Fed.{Fed}
 use Rattle.meaning.specs.Answers.{check, admit, left, join, feed, into-one, into-both, patch-numbers, admit-numbers, feed-numbers}
 use Rattle.meaning.specs.Answers.Laws.{check-refuses, admit-refuses, left-refuses, join-refuses, feed-refuses, check-accepted, admit-accepted, left-accepted, join-accepted, feed-accepted, feed-accepted-of-bytes, check-answers, admit-answers, left-answers, joins, check-sized, left-sized, join-sized, feed-sized, feed-sized-of-bytes}
-use Rattle.meaning.specs.Promises.{CheckPromise, AdmitPromise, LeftPromise, JoinPromise, FeedPromise, Decided, Wrote, Sent}
-use Rattle.meaning.specs.Promises.Laws.{writes-decided, admits-decided, feeds-decided, check-kept, admit-kept, left-kept, join-kept, feed-kept, writes-zero, writes-exactly, admits-zero, admits-complete, feeds-zero, feeds-as-check}
-use Rattle.meaning.specs.Runs.{Call, ByteSlices, Run, Ran, Faithful, Through}
-use Rattle.meaning.specs.Runs.Laws.{feed-by-rules, run-patch, run-faithful, run-faithful-so-far, every-list-runs}
+use Rattle.meaning.specs.Promises.{CheckPromise, AdmitPromise, LeftPromise, JoinPromise, FeedPromise}
+use Rattle.demands.specs.Calls.{Decided, Wrote, Sent}
+use Rattle.demands.specs.Calls.Laws.{writes-decided, admits-decided, feeds-decided, check-kept, admit-kept, left-kept, join-kept, feed-kept, writes-zero, writes-exactly, admits-zero, admits-complete, feeds-zero, feeds-as-check}
+use Rattle.demands.specs.Runs.{Call, ByteSlices, Run, Ran, Faithful, Through}
+use Rattle.demands.specs.Runs.Laws.{feed-by-rules, run-patch, run-faithful, run-faithful-so-far, every-list-runs}
 
 -- Demand 1. "A patch, type or slice handed in, whatever its bytes and length, is accepted or is refused with the number that
 -- document 01 gives for its first fault.

@@ -1,8 +1,8 @@
 -- Runs: a list of Feed calls is a list of feeds of trees, and so it is as one feed.
 use mathlib.Core.Path.{_≡_, refl, sym, ap, ap₂, _∙_}
 use mathlib.Core.Bool.{Bool, true, false}
-use mathlib.Core.List.{List, [], _∷_, _++_, map, append-nil}
-use Prim.Native.Nat.{ℕ, _+_, _*_, _/_, _%_, _≤_}
+use mathlib.Core.List.{List, [], _∷_, _++_, map}
+use Prim.Native.Nat.{ℕ, _≤_}
 use native.Mathlib.Omega.{arith}
 use lib.Dec.{eqb}
 use lib.ListN.{length, take, drop, length-append}
@@ -11,9 +11,9 @@ use borrow.Author.Tests.{eqb-true, eqb-false}
 use Rattle.stream.specs.Types.{Ty}
 use Rattle.stream.specs.Prefixes.{Prefix, IsPrefix, derivative}
 use Rattle.stream.specs.Prefixes.Laws.{concat-is-prefix, derivative-concat}
-use Rattle.stream.specs.Reading.{Bytes, Result, accepted, refused, IsAccepted, go-on, section-bytes}
+use Rattle.stream.specs.Reading.{Bytes, accepted}
 use Rattle.stream.specs.Reading.Laws.{go-on-accepted}
-use Rattle.stream.specs.TypeFiles.{type-bytes, type-file-bytes}
+use Rattle.stream.specs.TypeFiles.{type-file-bytes}
 use Rattle.stream.specs.SliceFiles.{slice-file, slice-file-bytes, SliceFile}
 use Rattle.stream.specs.SliceFiles.Laws.{slice-file-sound}
 use Rattle.node.specs.Nodes.{Node, Small, Allowed}
@@ -21,14 +21,15 @@ use Rattle.node.specs.Feeding.{Feeds, sends, leaves}
 use Rattle.node.specs.Nodes.Laws.{output-small}
 use Rattle.node.specs.Feeding.Laws.{Fed as FedLaws, fed as fed-laws, feeds-only, leaves-allowed}
 use Rattle.node.specs.Feeding.Lists.{Pieces, no-more, piece, concat-all, derivative-all, sends-all, leaves-all, sends-pieces, concat-all-is-prefix, derivative-concat-all, sends-concat-all, leaves-concat-all, leaves-all-allowed}
-use Rattle.node.specs.PatchFiles.{node-bytes, patch-file-bytes, PatchFile}
+use Rattle.node.specs.PatchFiles.{patch-file-bytes, PatchFile}
 use Rattle.stream.specs.Buffers.{front}
 use Rattle.meaning.specs.declared.Fed.{Fed}
 use Rattle.meaning.specs.Answers.{check, left, FedFiles, feed}
-use Rattle.meaning.specs.Answers.Laws.{check-answers, patch-checked, left-answers, join-answers, fed-files, feed-of-patch, feed-answers}
-use Rattle.meaning.specs.Promises.{FeedPromise, Sent}
-use Rattle.meaning.specs.Promises.Laws.{feeds-exactly, feeds-accepted, feed-kept, feeds-alike}
-use Rattle.meaning.specs.Runs.{Call, ByteSlices, Run, Ran, no-call, accepted-call, refused-call, Joins, alone, joined, first-section, AsOne, Faithful, Through}
+use Rattle.meaning.specs.Answers.Laws.{check-answers, patch-checked, left-answers, join-answers, fed-files, feed-of-patch, feed-answers, first-section-of-patch}
+use Rattle.meaning.specs.Promises.{FeedPromise}
+use Rattle.demands.specs.Calls.{Sent}
+use Rattle.demands.specs.Calls.Laws.{feeds-exactly, feeds-accepted, feed-kept, feeds-alike}
+use Rattle.demands.specs.Runs.{Call, ByteSlices, Run, Ran, no-call, accepted-call, refused-call, Joins, alone, joined, AsOne, Faithful, Through}
 
 -- Where a run has come to, by trees.
 record Traced (s : Ty) (n : Node) (r : Run) : Type 0 where
@@ -82,18 +83,6 @@ joins-all : {s : Ty} {p : Prefix} (ps : List Prefix) → Small s → IsPrefix s 
 unfolding concat-all
 joins-all [] w h k = alone
 joins-all (q ∷ ps) w h (piece k r) = joined (join-answers q w h k) (joins-all ps w (concat-is-prefix q h k) (rw (derivative-concat q h k) r))
-
--- The first section of a file that begins with one, and of a patch file.
-
-pub first-section-of : (body r : List ℕ) → first-section (section-bytes body r) ≡ section-bytes body []
-unfolding first-section section-bytes
-first-section-of body r =
-    let e : length body / 256 * 256 + length body % 256 ≡ length body = omega arith in
-    rw (e, take-append-seam body r, append-nil body)
-
-pub first-section-of-patch : (s : Ty) (n : Node) → first-section (patch-file-bytes s n) ≡ type-file-bytes s
-unfolding patch-file-bytes type-file-bytes
-first-section-of-patch s n = first-section-of (type-bytes s []) (section-bytes (node-bytes n []) [])
 
 as-one-by : {s t : Ty} {n : Node} (r : Run) (ps : List Prefix) → Allowed s n t → Pieces s ps
     → r .patch ≡ patch-file-bytes (derivative-all s ps) (leaves-all s n ps) → r .slices ≡ map slice-file-bytes ps

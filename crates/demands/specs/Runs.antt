@@ -1,12 +1,13 @@
 -- Runs: lists of Feed calls, on bytes (document 01, Runs).
 use mathlib.Core.Path.{_≡_}
 use mathlib.Core.List.{List, [], _∷_, _++_}
-use Prim.Native.Nat.{ℕ, _*_, _+_, _≤_}
+use Prim.Native.Nat.{ℕ, _≤_}
 use lib.ListN.{length, take}
 use Rattle.stream.specs.Reading.{Bytes, accepted, IsAccepted}
 use Rattle.meaning.specs.declared.Fed.{Fed}
-use Rattle.meaning.specs.Answers.{check, left, join}
-use Rattle.meaning.specs.Promises.{FeedPromise, Sent}
+use Rattle.meaning.specs.Answers.{check, left, join, first-section}
+use Rattle.meaning.specs.Promises.{FeedPromise}
+use Rattle.demands.specs.Calls.{Sent}
 pub mod Laws
 
 -- "Feed calls, none or any number, each with a slice file and two buffers of its own, of any bytes and any lengths."
@@ -46,12 +47,6 @@ pub data Joins (type : List ℕ) : List (List ℕ) → List ℕ → Type 0 where
   alone : {file : List ℕ} → Joins type (file ∷ []) file
   joined : {first second both all : List ℕ} {files : List (List ℕ)} → join type first second ≡ accepted both
       → Joins type (both ∷ files) all → Joins type (first ∷ second ∷ files) all
-
--- The input type file of a patch file is its first section.
-unfoldable pub first-section : List ℕ → List ℕ
-first-section [] = []
-first-section (h ∷ []) = h ∷ []
-first-section (h ∷ l ∷ s) = h ∷ l ∷ take (h * 256 + l) s
 
 -- "The accepted slices joined in order, fed as one to the patch at the start with long enough buffers, are accepted too, send
 -- exactly the accepted feeds' outputs joined in order, and leave the patch that the list left, byte for byte": whatever call

@@ -1,0 +1,1 @@
+// The demands are definitions and theorems, in specs/. No code stands above them.
