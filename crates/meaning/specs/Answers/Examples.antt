@@ -7,7 +7,7 @@ use Rattle.stream.specs.Reading.{Result}
 use Rattle.stream.specs.Reading.Examples.{section-of}
 use Rattle.node.specs.Computing.{node-definitions}
 use Rattle.node.specs.PatchFiles.Examples.{sections}
-use Rattle.meaning.specs.Answers.{check, admit, left, join, feed, FedFiles, with-room, fits-one, fits-both, number-of, admitted, after}
+use Rattle.meaning.specs.Answers.{check, admit, left, join, feed, FedFiles, with-room, fits-one, fits-both, number-of, written, admitted, fed, after}
 
 -- A patch that passes a cue, and a slice in which it has come.
 abbrev passing : List ℕ
@@ -41,6 +41,19 @@ pub buffer-examples :
     ≡ (0 ∷ 1 ∷ 1 ∷ 8 ∷ 7 ∷ []) ∷ (9 ∷ 8 ∷ []) ∷ []
 unfolding node-definitions check after with-room
 buffer-examples = refl
+
+-- The caller is told the number, and the length of each file that was written; 0 on a refusal.
+pub written-examples :
+    written (checked-in 5) ∷ written (checked-in 2) ∷ written (with-room (fits-one 9) (check (sections (4 ∷ 1 ∷ 2 ∷ []) (0 ∷ [])))) ∷ []
+    ≡ record { number = 0; written = 3 } ∷ record { number = 20; written = 0 } ∷ record { number = 0; written = 5 } ∷ []
+unfolding node-definitions check with-room written
+written-examples = refl
+
+pub fed-examples :
+    fed (fed-in 3 6) ∷ fed (fed-in 3 5) ∷ []
+    ≡ record { number = 0; output = 3; patch = 6 } ∷ record { number = 20; output = 0; patch = 0 } ∷ []
+unfolding node-definitions feed with-room fed
+fed-examples = refl
 
 -- 1 for complete, 0 for not, and 0 on a refusal.
 pub admit-examples :
