@@ -7,7 +7,7 @@ use lib.ListN.{length}
 use Rattle.stream.specs.Reading.{Result, accepted, refused}
 use Rattle.stream.specs.declared.Fault.{Fault}
 use Rattle.stream.specs.Faults.{number}
-use Rattle.stream.specs.Buffers.{front}
+use Rattle.stream.specs.Buffers.{at-front}
 use Rattle.meaning.specs.declared.Written.{Written}
 use Rattle.meaning.specs.declared.Fed.{Fed}
 use Rattle.meaning.specs.Answers.{Listed}
@@ -15,12 +15,12 @@ pub mod Laws
 
 -- Accepted calls that write a file, or the two files of a feed, at the front of what they were lent.
 abbrev pub Wrote : (file lent : List ℕ) → Written → List ℕ → Type 0
-Wrote file lent answer lent-after = (answer ≡ record { number = 0; written = length file }) × (lent-after ≡ front file lent)
+Wrote file lent answer lent-after = (answer ≡ record { number = 0; written = length file }) × (lent-after ≡ at-front file lent)
 
 abbrev pub Sent : (sent patch output left : List ℕ) → Fed → List ℕ → List ℕ → Type 0
 Sent sent patch output left answer output-after left-after =
     (answer ≡ record { number = 0; output = length sent; patch = length patch })
-    × (output-after ≡ front sent output) × (left-after ≡ front patch left)
+    × (output-after ≡ at-front sent output) × (left-after ≡ at-front patch left)
 
 -- What demand 1 asks of a call, whose outcome is known with 20 taken in: "accepted or .. refused with the number that
 -- document 01 gives for its first fault .. and a refused one alters no byte of a lent buffer". `listed` are the numbers that

@@ -8,7 +8,7 @@ use lib.ListN.{length, take}
 use Rattle.stream.specs.declared.Fault.{Fault}
 use Rattle.stream.specs.declared.Fault.the-variants.{NoRoom}
 use Rattle.stream.specs.Faults.{number}
-use Rattle.stream.specs.Buffers.{front}
+use Rattle.stream.specs.Buffers.{at-front}
 use Rattle.stream.specs.Prefixes.{complete, derivative, concat}
 use Rattle.stream.specs.Reading.{Result, accepted, refused, go-on, require}
 use Rattle.stream.specs.TypeFiles.{type-file, type-file-bytes}
@@ -96,7 +96,7 @@ fed r =
 
 -- "These stand at the front of the lent buffer, and the bytes behind them stay. Refused: .. every lent buffer unaltered."
 unfoldable pub after : {A : Type 0} → (A → List ℕ) → Result A → List ℕ → List ℕ
-after file (accepted a) lent = front (file a) lent
+after file (accepted a) lent = at-front (file a) lent
 after file (refused e) lent = lent
 
 -- The input type file of a patch file is its first section.

@@ -4,7 +4,7 @@ use lib.Dec.{leb}
 use Rattle.stream.specs.declared.Fault.the-variants.{TypeTooLarge, NotNullable, WrongShape}
 use Rattle.stream.specs.Types.{Ty, empty, cue, level, seq, par, nullable, size, type-limit, first-part, second-part, has-kind}
 use Rattle.stream.specs.Reading.{Result, accepted, require, go-on}
-use Rattle.node.specs.Nodes.{Node, pass, silent, emit-cue, emit-level, both, left, right, first, second, then, chain, regroup-right, regroup-left, spread, front}
+use Rattle.node.specs.Nodes.{Node, pass, silent, emit-cue, emit-level, both, left-side, right-side, first, second, then, chain, regroup-right, regroup-left, spread, front}
 pub mod Laws
 
 -- "4 if the type it gives is too large."
@@ -18,8 +18,8 @@ typing s (silent n) = require (nullable n) NotNullable (gives n)
 typing s emit-cue = gives cue
 typing s (emit-level v) = gives level
 typing s (both n m) = go-on (typing s n) (λ t. go-on (typing s m) (λ r. gives (par t r)))
-typing s left = require (has-kind 4 s) WrongShape (gives (first-part s))
-typing s right = require (has-kind 4 s) WrongShape (gives (second-part s))
+typing s left-side = require (has-kind 4 s) WrongShape (gives (first-part s))
+typing s right-side = require (has-kind 4 s) WrongShape (gives (second-part s))
 typing s first = require (has-kind 3 s) WrongShape (gives (first-part s))
 typing s second = require (has-kind 3 s) WrongShape (gives (second-part s))
 typing s (then n m) =

@@ -2,7 +2,7 @@
 use Prim.Native.Nat.{ℕ}
 use Rattle.stream.specs.Types.{Ty, empty, seq, par, first-part, second-part}
 use Rattle.stream.specs.Prefixes.{Prefix, nothing, cue-come, level-come, in-first, crossed, beside, empty-prefix, derivative, on-seq, on-par}
-use Rattle.node.specs.Nodes.{Node, pass, silent, emit-cue, emit-level, both, left, right, first, second, then, chain, regroup-right, regroup-left, spread, front, Types, output-type}
+use Rattle.node.specs.Nodes.{Node, pass, silent, emit-cue, emit-level, both, left-side, right-side, first, second, then, chain, regroup-right, regroup-left, spread, front, Takes, output-type}
 pub mod Laws
 pub mod Lists
 pub mod Examples
@@ -21,8 +21,8 @@ pub data Feeds : Ty → Node → Prefix → Prefix → Node → Type 0 where
   feeds-both : {s : Ty} {n m n′ m′ : Node} {p o u : Prefix} → Feeds s n p o n′ → Feeds s m p u m′
       → Feeds s (both n m) p (beside o u) (both n′ m′)
   -- "left, right: one side of a type 4. Sends that side; itself."
-  feeds-left : {s t : Ty} {p q : Prefix} → Feeds (par s t) left (beside p q) p left
-  feeds-right : {s t : Ty} {p q : Prefix} → Feeds (par s t) right (beside p q) q right
+  feeds-left : {s t : Ty} {p q : Prefix} → Feeds (par s t) left-side (beside p q) p left-side
+  feeds-right : {s t : Ty} {p q : Prefix} → Feeds (par s t) right-side (beside p q) q right-side
   -- "first: On 5 p sends p; itself. On 6 b q sends b; silent with what b leaves of s."
   feeds-first-coming : {s t : Ty} {p : Prefix} → Feeds (seq s t) first (in-first p) p first
   feeds-first-crossed : {s t : Ty} {b q : Prefix} → Feeds (seq s t) first (crossed b q) b (silent (derivative s b))
@@ -36,7 +36,7 @@ pub data Feeds : Ty → Node → Prefix → Prefix → Node → Type 0 where
   feeds-then-crossed : {s t : Ty} {n m n′ m′ : Node} {b q o u : Prefix} → Feeds s n b o n′ → Feeds t m q u m′
       → Feeds (seq s t) (then n m) (crossed b q) (crossed o u) m′
   -- "chain: the second takes what the first sends; chain of both left."
-  feeds-chain : {s t : Ty} {n m n′ m′ : Node} {p o u : Prefix} → Types s n t → Feeds s n p o n′ → Feeds t m o u m′
+  feeds-chain : {s t : Ty} {n m n′ m′ : Node} {p o u : Prefix} → Takes s n t → Feeds s n p o n′ → Feeds t m o u m′
       → Feeds s (chain n m) p u (chain n′ m′)
   -- "regroup right: 5 5 p gives 5 p, itself. 5 6 b q gives 6 b 5 q, pass. 6 6 b c q gives 6 b 6 c q, pass."
   feeds-regroup-right-in-first : {s : Ty} {p : Prefix} → Feeds s regroup-right (in-first (in-first p)) (in-first p) regroup-right
@@ -59,8 +59,8 @@ sends s (silent n) p = empty-prefix n
 sends s emit-cue p = cue-come
 sends s (emit-level v) p = level-come v
 sends s (both n m) p = beside (sends s n p) (sends s m p)
-sends s left p = on-par nothing (λ x y. x) p
-sends s right p = on-par nothing (λ x y. y) p
+sends s left-side p = on-par nothing (λ x y. x) p
+sends s right-side p = on-par nothing (λ x y. y) p
 sends s first p = on-seq nothing (λ x. x) (λ b q. b) p
 sends s second p = on-seq nothing (λ x. empty-prefix (second-part s)) (λ b q. q) p
 sends s (then n m) p =
@@ -86,8 +86,8 @@ leaves s (silent n) p = silent n
 leaves s emit-cue p = silent empty
 leaves s (emit-level v) p = silent empty
 leaves s (both n m) p = both (leaves s n p) (leaves s m p)
-leaves s left p = left
-leaves s right p = right
+leaves s left-side p = left-side
+leaves s right-side p = right-side
 leaves s first p = on-seq first (λ x. first) (λ b q. silent (derivative (first-part s) b)) p
 leaves s second p = on-seq second (λ x. second) (λ b q. pass) p
 leaves s (then n m) p = on-seq (then n m) (λ x. then (leaves (first-part s) n x) m) (λ b q. leaves (second-part s) m q) p

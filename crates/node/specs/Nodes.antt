@@ -11,8 +11,8 @@ pub data Node : Type 0 where
   emit-cue : Node  -- 2, document 01's cue, the source's ()
   emit-level : ℕ → Node  -- 3, document 01's level, and its value
   both : Node → Node → Node  -- 4, the source's PAR-R
-  left : Node  -- 5
-  right : Node  -- 6
+  left-side : Node  -- 5
+  right-side : Node  -- 6
   first : Node  -- 7
   second : Node  -- 8
   then : Node → Node → Node  -- 9, the source's CAT-R
@@ -22,23 +22,23 @@ pub data Node : Type 0 where
   spread : Node  -- 13
   front : Node  -- 14
 
--- "Each node takes an input type to an output type": Types s n t says that n takes s to t.
-pub data Types : Ty → Node → Ty → Type 0 where
-  types-pass : {s : Ty} → Types s pass s
-  types-silent : {s n : Ty} → Nullable n → Types s (silent n) n
-  types-cue : {s : Ty} → Types s emit-cue cue
-  types-level : {s : Ty} {v : ℕ} → v < level-limit → Types s (emit-level v) level
-  types-both : {s t r : Ty} {n m : Node} → Types s n t → Types s m r → Types s (both n m) (par t r)
-  types-left : {s t : Ty} → Types (par s t) left s
-  types-right : {s t : Ty} → Types (par s t) right t
-  types-first : {s t : Ty} → Types (seq s t) first s
-  types-second : {s t : Ty} → Types (seq s t) second t
-  types-then : {s t u v : Ty} {n m : Node} → Types s n u → Types t m v → Types (seq s t) (then n m) (seq u v)
-  types-chain : {s t r : Ty} {n m : Node} → Types s n t → Types t m r → Types s (chain n m) r
-  types-regroup-right : {s t r : Ty} → Types (seq (seq s t) r) regroup-right (seq s (seq t r))
-  types-regroup-left : {s t r : Ty} → Types (seq s (seq t r)) regroup-left (seq (seq s t) r)
-  types-spread : {s t r : Ty} → Types (seq s (par t r)) spread (par (seq s t) (seq s r))
-  types-front : {s : Ty} → Types s front (seq empty s)
+-- "Each node takes an input type to an output type": Takes s n t says that n takes s to t.
+pub data Takes : Ty → Node → Ty → Type 0 where
+  takes-pass : {s : Ty} → Takes s pass s
+  takes-silent : {s n : Ty} → Nullable n → Takes s (silent n) n
+  takes-cue : {s : Ty} → Takes s emit-cue cue
+  takes-level : {s : Ty} {v : ℕ} → v < level-limit → Takes s (emit-level v) level
+  takes-both : {s t r : Ty} {n m : Node} → Takes s n t → Takes s m r → Takes s (both n m) (par t r)
+  takes-left : {s t : Ty} → Takes (par s t) left-side s
+  takes-right : {s t : Ty} → Takes (par s t) right-side t
+  takes-first : {s t : Ty} → Takes (seq s t) first s
+  takes-second : {s t : Ty} → Takes (seq s t) second t
+  takes-then : {s t u v : Ty} {n m : Node} → Takes s n u → Takes t m v → Takes (seq s t) (then n m) (seq u v)
+  takes-chain : {s t r : Ty} {n m : Node} → Takes s n t → Takes t m r → Takes s (chain n m) r
+  takes-regroup-right : {s t r : Ty} → Takes (seq (seq s t) r) regroup-right (seq s (seq t r))
+  takes-regroup-left : {s t r : Ty} → Takes (seq s (seq t r)) regroup-left (seq (seq s t) r)
+  takes-spread : {s t r : Ty} → Takes (seq s (par t r)) spread (par (seq s t) (seq s r))
+  takes-front : {s : Ty} → Takes s front (seq empty s)
 
 -- The output type that the rules give.
 unfoldable pub output-type : Ty → Node → Ty
@@ -47,8 +47,8 @@ output-type s (silent n) = n
 output-type s emit-cue = cue
 output-type s (emit-level v) = level
 output-type s (both n m) = par (output-type s n) (output-type s m)
-output-type s left = first-part s
-output-type s right = second-part s
+output-type s left-side = first-part s
+output-type s right-side = second-part s
 output-type s first = first-part s
 output-type s second = second-part s
 output-type s (then n m) = seq (output-type (first-part s) n) (output-type (second-part s) m)
@@ -65,8 +65,8 @@ count (silent n) = 1
 count emit-cue = 1
 count (emit-level v) = 1
 count (both n m) = suc (count n + count m)
-count left = 1
-count right = 1
+count left-side = 1
+count right-side = 1
 count first = 1
 count second = 1
 count (then n m) = suc (count n + count m)
@@ -90,8 +90,8 @@ Fits s (silent n) = Small n
 Fits s emit-cue = Small cue
 Fits s (emit-level v) = Small level
 Fits s (both n m) = Fits s n × Fits s m × Small (output-type s (both n m))
-Fits s left = Small (output-type s left)
-Fits s right = Small (output-type s right)
+Fits s left-side = Small (output-type s left-side)
+Fits s right-side = Small (output-type s right-side)
 Fits s first = Small (output-type s first)
 Fits s second = Small (output-type s second)
 Fits s (then n m) = Fits (first-part s) n × Fits (second-part s) m × Small (output-type s (then n m))
@@ -103,7 +103,7 @@ Fits s front = Small (output-type s front)
 
 -- A patch, "the kernel rules .. as document 01 takes them for one input, and its limits": from s to t by n.
 pub record Allowed (s : Ty) (n : Node) (t : Ty) : Type 0 where
-  pub types : Types s n t
+  pub types : Takes s n t
   pub input-small : Small s
   pub few : count n ≤ node-limit
   pub fits : Fits s n

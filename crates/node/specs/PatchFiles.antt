@@ -8,7 +8,7 @@ use Rattle.stream.specs.Types.{Ty}
 use Rattle.stream.specs.Levels.{value-bytes, read-value}
 use Rattle.stream.specs.Reading.{Reading, read, fault, Result, accepted, read-on, go-on, whole, section-bytes, section, Root, tree, leaf, two-parts}
 use Rattle.stream.specs.TypeFiles.{type-bytes, read-type, type-section}
-use Rattle.node.specs.Nodes.{Node, pass, silent, emit-cue, emit-level, both, left, right, first, second, then, chain, regroup-right, regroup-left, spread, front, node-limit, Allowed}
+use Rattle.node.specs.Nodes.{Node, pass, silent, emit-cue, emit-level, both, left-side, right-side, first, second, then, chain, regroup-right, regroup-left, spread, front, node-limit, Allowed}
 use Rattle.node.specs.Checking.{typing}
 pub mod Laws
 pub mod Examples
@@ -20,8 +20,8 @@ node-bytes (silent n) r = 1 ∷ type-bytes n r
 node-bytes emit-cue r = 2 ∷ r
 node-bytes (emit-level v) r = 3 ∷ value-bytes v r
 node-bytes (both n m) r = 4 ∷ node-bytes n (node-bytes m r)
-node-bytes left r = 5 ∷ r
-node-bytes right r = 6 ∷ r
+node-bytes left-side r = 5 ∷ r
+node-bytes right-side r = 6 ∷ r
 node-bytes first r = 7 ∷ r
 node-bytes second r = 8 ∷ r
 node-bytes (then n m) r = 9 ∷ node-bytes n (node-bytes m r)
@@ -51,8 +51,8 @@ node-kinds =
     ∷ leaf emit-cue
     ∷ (λ s. read-on (read-value CutShort s) (λ v r. leaf (emit-level v) r))
     ∷ two-parts both tt tt
-    ∷ leaf left
-    ∷ leaf right
+    ∷ leaf left-side
+    ∷ leaf right-side
     ∷ leaf first
     ∷ leaf second
     ∷ two-parts then tt tt

@@ -21,7 +21,7 @@ use Rattle.stream.specs.TypeFiles.Laws.{type-length, read-type-sound}
 use Rattle.files.specs.Sections.{end-of}
 use Rattle.files.specs.Sections.Laws.{failed, Within, tree-within}
 use Rattle.files.specs.TypeReads.Laws.{type-drop, read-type-within}
-use Rattle.node.specs.Nodes.{Node, pass, silent, emit-cue, emit-level, both, left, right, first, second, then, chain, regroup-right, regroup-left, spread, front, node-limit}
+use Rattle.node.specs.Nodes.{Node, pass, silent, emit-cue, emit-level, both, left-side, right-side, first, second, then, chain, regroup-right, regroup-left, spread, front, node-limit}
 use Rattle.node.specs.PatchFiles.{node-kinds, node-root, read-node}
 use Rattle.patches.specs.PatchReads.{node-arity}
 use Rattle.patches.specs.PatchReads.Laws.{leaf-arity}
@@ -56,7 +56,7 @@ shape : (k : ℕ) → Shape k (node-arity k) (kind-root k)
 shape =
     every (λ k f. Shape k (node-arity k) f) (λ r. fault Unlisted) node-kinds
     (plain pass & carries & plain emit-cue & values & forks both
-    & plain left & plain right & plain first & plain second & forks then & forks chain
+    & plain left-side & plain right-side & plain first & plain second & forks then & forks chain
     & plain regroup-right & plain regroup-left & plain spread & plain front
     & past none)
   where

@@ -5,7 +5,7 @@ use Prim.Native.Nat.{ℕ, _+_, _-_, _≤_}
 use native.Mathlib.Omega.{arith}
 use lib.ListN.{length, take, drop, set}
 use lib.Seq.{drop-drop}
-use Rattle.stream.specs.Buffers.{front}
+use Rattle.stream.specs.Buffers.{at-front}
 use Rattle.stream.specs.Levels.{value-bytes}
 use Rattle.stream.specs.Levels.Laws.{value-length}
 use Rattle.stream.specs.Prefixes.{level-come}
@@ -45,7 +45,7 @@ module _ {nodes : List ℕ} {from : ℕ} {out remainder : List ℕ} (due : Level
       rw (value-taken, room-left (begins {lent = out} 4 (omega (arith, level-room))))
       (omega (arith, value-length (due .value) [], level-room))
 
-  pub level-sent : {z : List ℕ} → z ≡ front copied (part 1 (set out 0 4))
+  pub level-sent : {z : List ℕ} → z ≡ at-front copied (part 1 (set out 0 4))
       → Begun (prefix-bytes (level-come (due .value)) []) out (back 1 (set out 0 4) z) 3
   unfolding prefix-bytes
   level-sent h =

@@ -8,7 +8,7 @@ use Rattle.stream.specs.Types.{Ty, size, first-part, second-part}
 use Rattle.stream.specs.Prefixes.{Prefix, Complete, IsPrefix, of-first, of-crossed, of-beside, empty-prefix, derivative}
 use Rattle.files.specs.SliceReads.{width, PrefixAt, SomePrefixAt, PrefixEnds}
 use Rattle.files.specs.SliceReads.Laws.{kind-at, in-first-at, crossed-first-at, crossed-second-at, beside-first-at, beside-second-at}
-use Rattle.node.specs.Nodes.{silent, left, right, first, second, Types, types-left, types-right, types-first, types-second}
+use Rattle.node.specs.Nodes.{silent, left-side, right-side, first, second, Takes, takes-left, takes-right, takes-first, takes-second}
 use Rattle.node.specs.Feeding.{sends, leaves}
 use Rattle.node.specs.PatchFiles.{node-bytes}
 
@@ -27,52 +27,52 @@ pub record Waits (type : Ty) (p : Prefix) : Type 0 where
 module _ {slice : List ℕ} {place : ℕ} where
   -- The two sides: the first behind the kind byte, the second where the first ends.
 
-  pub left-part-at : {type output : Ty} {p : Prefix} → Types type left output → IsPrefix type p → PrefixAt slice place p
-      → PrefixAt slice (place + 1) (sends type left p)
+  pub left-part-at : {type output : Ty} {p : Prefix} → Takes type left-side output → IsPrefix type p → PrefixAt slice place p
+      → PrefixAt slice (place + 1) (sends type left-side p)
   unfolding sends
-  left-part-at types-left (of-beside h k) stands = beside-first-at stands
+  left-part-at takes-left (of-beside h k) stands = beside-first-at stands
 
-  pub right-before : {type output : Ty} {p : Prefix} → Types type right output → IsPrefix type p → PrefixAt slice place p
+  pub right-before : {type output : Ty} {p : Prefix} → Takes type right-side output → IsPrefix type p → PrefixAt slice place p
       → SomePrefixAt slice (place + 1)
-  right-before types-right (of-beside {p = p} h k) stands = record { prefix = p; stands = beside-first-at stands }
+  right-before takes-right (of-beside {p = p} h k) stands = record { prefix = p; stands = beside-first-at stands }
 
-  pub right-part-at : {type output : Ty} {p : Prefix} {side : ℕ} → Types type right output → IsPrefix type p → PrefixAt slice place p
-      → PrefixEnds slice (place + 1) side → PrefixAt slice side (sends type right p)
+  pub right-part-at : {type output : Ty} {p : Prefix} {side : ℕ} → Takes type right-side output → IsPrefix type p → PrefixAt slice place p
+      → PrefixEnds slice (place + 1) side → PrefixAt slice side (sends type right-side p)
   unfolding sends
-  right-part-at types-right (of-beside {p = p} h k) stands skipped = beside-second-at stands (skipped .each p (beside-first-at stands))
+  right-part-at takes-right (of-beside {p = p} h k) stands skipped = beside-second-at stands (skipped .each p (beside-first-at stands))
 
   -- The first part: behind the kind byte; the kind tells whether more of it can come.
 
-  pub first-part-at : {type output : Ty} {p : Prefix} → Types type first output → IsPrefix type p → PrefixAt slice place p
+  pub first-part-at : {type output : Ty} {p : Prefix} → Takes type first output → IsPrefix type p → PrefixAt slice place p
       → PrefixAt slice (place + 1) (sends type first p)
   unfolding sends
-  first-part-at types-first (of-first h) stands = in-first-at stands
-  first-part-at types-first (of-crossed h c k) stands = crossed-first-at stands
+  first-part-at takes-first (of-first h) stands = in-first-at stands
+  first-part-at takes-first (of-crossed h c k) stands = crossed-first-at stands
 
-  pub first-coming : {type output : Ty} {p : Prefix} → Types type first output → IsPrefix type p → PrefixAt slice place p
+  pub first-coming : {type output : Ty} {p : Prefix} → Takes type first output → IsPrefix type p → PrefixAt slice place p
       → getD slice place 0 ≡ 5 → node-bytes (leaves type first p) [] ≡ 7 ∷ []
   unfolding leaves node-bytes
-  first-coming types-first (of-first h) stands five = refl
-  first-coming types-first (of-crossed h c k) stands five = absurd (omega (arith, kind-at stands))
+  first-coming takes-first (of-first h) stands five = refl
+  first-coming takes-first (of-crossed h c k) stands five = absurd (omega (arith, kind-at stands))
 
-  pub first-crossed : {type output : Ty} {p : Prefix} → Types type first output → IsPrefix type p → PrefixAt slice place p
+  pub first-crossed : {type output : Ty} {p : Prefix} → Takes type first output → IsPrefix type p → PrefixAt slice place p
       → (getD slice place 0 ≡ 5 → ⊥) → Spent type p
   unfolding sends leaves size
-  first-crossed types-first (of-first h) stands other = absurd (other (kind-at stands))
-  first-crossed types-first (of-crossed h c k) stands other = record { is-prefix = h; is-complete = c; part-size = omega arith; node = refl }
+  first-crossed takes-first (of-first h) stands other = absurd (other (kind-at stands))
+  first-crossed takes-first (of-crossed h c k) stands other = record { is-prefix = h; is-complete = c; part-size = omega arith; node = refl }
 
   -- The second part: none of it before the crossing, and then where the first part ends.
 
-  pub second-coming : {type output : Ty} {p : Prefix} → Types type second output → IsPrefix type p → PrefixAt slice place p
+  pub second-coming : {type output : Ty} {p : Prefix} → Takes type second output → IsPrefix type p → PrefixAt slice place p
       → getD slice place 0 ≡ 5 → Waits type p
   unfolding sends leaves node-bytes
-  second-coming types-second (of-first h) stands five = record { sent = refl; node = refl }
-  second-coming types-second (of-crossed h c k) stands five = absurd (omega (arith, kind-at stands))
+  second-coming takes-second (of-first h) stands five = record { sent = refl; node = refl }
+  second-coming takes-second (of-crossed h c k) stands five = absurd (omega (arith, kind-at stands))
 
-  pub second-part-at : {type output : Ty} {p : Prefix} (wide : ℕ) → Types type second output → IsPrefix type p → PrefixAt slice place p
+  pub second-part-at : {type output : Ty} {p : Prefix} (wide : ℕ) → Takes type second output → IsPrefix type p → PrefixAt slice place p
       → (getD slice place 0 ≡ 5 → ⊥) → ((b : Prefix) → IsPrefix (first-part type) b → Complete b → wide ≡ width b)
       → PrefixAt slice (place + 1 + wide) (sends type second p) × (node-bytes (leaves type second p) [] ≡ 0 ∷ [])
   unfolding sends leaves node-bytes
-  second-part-at wide types-second (of-first h) stands other is-wide = absurd (other (kind-at stands))
-  second-part-at wide types-second (of-crossed {b = b} h c k) stands other is-wide =
+  second-part-at wide takes-second (of-first h) stands other is-wide = absurd (other (kind-at stands))
+  second-part-at wide takes-second (of-crossed {b = b} h c k) stands other is-wide =
       (crossed-second-at stands (ap (λ w. place + 1 + w) (is-wide b h c)), refl)

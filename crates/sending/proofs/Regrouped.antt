@@ -13,7 +13,7 @@ use Rattle.stream.specs.SliceFiles.{prefix-bytes}
 use Rattle.stream.specs.SliceFiles.Laws.{prefix-length}
 use Rattle.files.specs.SliceReads.{width, PrefixAt, SomePrefixAt, PrefixEnds}
 use Rattle.files.specs.SliceReads.Laws.{prefix-width, width-positive, prefix-before, prefix-inside, kind-at, in-first-at, crossed-first-at, crossed-second-at, beside-first-at, beside-second-at}
-use Rattle.node.specs.Nodes.{Node, regroup-right, regroup-left, spread, Types, types-regroup-right, types-regroup-left, types-spread}
+use Rattle.node.specs.Nodes.{Node, regroup-right, regroup-left, spread, Takes, takes-regroup-right, takes-regroup-left, takes-spread}
 use Rattle.node.specs.Feeding.{sends, leaves}
 use Rattle.node.specs.PatchFiles.{node-bytes}
 use Rattle.writing.specs.Appending.Laws.{Written}
@@ -158,33 +158,33 @@ nested-apart {k = k} found = found .nested-is ∙ sym (append-assoc (crossing (f
 -- Regroup right
 
 -- It takes a sequence.
-right-sequence : {slice : List ℕ} {place : ℕ} {t u : Ty} {p : Prefix} → Types t regroup-right u → IsPrefix t p → PrefixAt slice place p
+right-sequence : {slice : List ℕ} {place : ℕ} {t u : Ty} {p : Prefix} → Takes t regroup-right u → IsPrefix t p → PrefixAt slice place p
     → SomePrefixAt slice (place + 1)
-right-sequence types-regroup-right h stands = first-stands h stands
+right-sequence takes-regroup-right h stands = first-stands h stands
 
 -- 5 5 p: what is sent stands behind the first byte.
 pub record Inner (slice : List ℕ) (place : ℕ) (t : Ty) (p : Prefix) : Type 0 where
   pub stands : PrefixAt slice (place + 1) (sends t regroup-right p)
   pub left : node-bytes (leaves t regroup-right p) [] ≡ 11 ∷ []
 
-right-inner : {slice : List ℕ} {place : ℕ} {t u : Ty} {p : Prefix} → Types t regroup-right u → IsPrefix t p → PrefixAt slice place p
+right-inner : {slice : List ℕ} {place : ℕ} {t u : Ty} {p : Prefix} → Takes t regroup-right u → IsPrefix t p → PrefixAt slice place p
     → getD slice (place + 1) 0 ≡ 5 → Inner slice place t p
 unfolding sends leaves node-bytes
-right-inner types-regroup-right (of-first (of-first h)) stands coming = record { stands = in-first-at stands; left = refl }
-right-inner types-regroup-right (of-first (of-crossed h c k)) stands coming = absurd (omega (arith, kind-at (in-first-at stands)))
-right-inner types-regroup-right (of-crossed (of-crossed h c k) d l) stands coming =
+right-inner takes-regroup-right (of-first (of-first h)) stands coming = record { stands = in-first-at stands; left = refl }
+right-inner takes-regroup-right (of-first (of-crossed h c k)) stands coming = absurd (omega (arith, kind-at (in-first-at stands)))
+right-inner takes-regroup-right (of-crossed (of-crossed h c k) d l) stands coming =
     absurd (omega (arith, kind-at (crossed-first-at stands)))
 
 -- 5 6 b q and 6 6 b c q.
-right-turned : {slice : List ℕ} {place : ℕ} {t u : Ty} {p : Prefix} → Types t regroup-right u → IsPrefix t p → PrefixAt slice place p
+right-turned : {slice : List ℕ} {place : ℕ} {t u : Ty} {p : Prefix} → Takes t regroup-right u → IsPrefix t p → PrefixAt slice place p
     → (getD slice (place + 1) 0 ≡ 5 → ⊥)
     → Turned slice (place + 1 + 1) (getD slice place 0) (prefix-bytes p []) (prefix-bytes (sends t regroup-right p) [])
     (node-bytes (leaves t regroup-right p) [])
 unfolding sends leaves node-bytes prefix-bytes
-right-turned types-regroup-right (of-first (of-first h)) stands other = absurd (other (kind-at (in-first-at stands)))
-right-turned types-regroup-right (of-first (of-crossed h c k)) stands other =
+right-turned takes-regroup-right (of-first (of-first h)) stands other = absurd (other (kind-at (in-first-at stands)))
+right-turned takes-regroup-right (of-first (of-crossed h c k)) stands other =
     turned _ _ (crossed-first-at (in-first-at stands)) (kind-at stands)
-right-turned types-regroup-right (of-crossed (of-crossed h c k) d l) stands other =
+right-turned takes-regroup-right (of-crossed (of-crossed h c k) d l) stands other =
     turned _ _ (crossed-first-at (crossed-first-at stands)) (kind-at stands)
 
 -- After that crossing: where b ends, and where all ends.
@@ -252,31 +252,31 @@ module _ {slice : List ℕ} {place : ℕ} {out remainder : List ℕ} (due : Leaf
 
 -- It takes a sequence, crossed unless a 5 stands there.
 
-left-sequence : {slice : List ℕ} {place : ℕ} {t u : Ty} {p : Prefix} → Types t regroup-left u → IsPrefix t p → PrefixAt slice place p
+left-sequence : {slice : List ℕ} {place : ℕ} {t u : Ty} {p : Prefix} → Takes t regroup-left u → IsPrefix t p → PrefixAt slice place p
     → SomePrefixAt slice (place + 1)
-left-sequence types-regroup-left h stands = first-stands h stands
+left-sequence takes-regroup-left h stands = first-stands h stands
 
-left-crossed : {slice : List ℕ} {place second : ℕ} {t u : Ty} {p : Prefix} → Types t regroup-left u → IsPrefix t p → PrefixAt slice place p
+left-crossed : {slice : List ℕ} {place second : ℕ} {t u : Ty} {p : Prefix} → Takes t regroup-left u → IsPrefix t p → PrefixAt slice place p
     → (getD slice place 0 ≡ 5 → ⊥) → PrefixEnds slice (place + 1) second → Rest slice place p second
-left-crossed types-regroup-left h stands other skipped = rest-stands h stands other skipped
+left-crossed takes-regroup-left h stands other skipped = rest-stands h stands other skipped
 
 -- 5 p.
-left-in-first : {slice : List ℕ} {place : ℕ} {t u : Ty} {p : Prefix} → Types t regroup-left u → IsPrefix t p → PrefixAt slice place p
+left-in-first : {slice : List ℕ} {place : ℕ} {t u : Ty} {p : Prefix} → Takes t regroup-left u → IsPrefix t p → PrefixAt slice place p
     → getD slice place 0 ≡ 5 → Sends t regroup-left p (5 ∷ prefix-bytes p []) 12
 unfolding sends leaves node-bytes prefix-bytes
-left-in-first types-regroup-left (of-first h) stands coming = record { sent = refl; left = refl }
-left-in-first types-regroup-left (of-crossed h c k) stands coming = absurd (omega (arith, kind-at stands))
+left-in-first takes-regroup-left (of-first h) stands coming = record { sent = refl; left = refl }
+left-in-first takes-regroup-left (of-crossed h c k) stands coming = absurd (omega (arith, kind-at stands))
 
 -- 6 b 5 q and 6 b 6 c q.
-left-turned : {slice : List ℕ} {place second : ℕ} {t u : Ty} {p : Prefix} → Types t regroup-left u → IsPrefix t p → PrefixAt slice place p
+left-turned : {slice : List ℕ} {place second : ℕ} {t u : Ty} {p : Prefix} → Takes t regroup-left u → IsPrefix t p → PrefixAt slice place p
     → (getD slice place 0 ≡ 5 → ⊥) → PrefixEnds slice (place + 1) second
     → Turned slice (place + 1) (getD slice second 0) (prefix-bytes (sends t regroup-left p) []) (prefix-bytes p [])
     (node-bytes (leaves t regroup-left p) [])
 unfolding sends leaves node-bytes prefix-bytes
-left-turned types-regroup-left (of-first h) stands other skipped = absurd (other (kind-at stands))
-left-turned types-regroup-left (of-crossed h c (of-first k)) stands other skipped =
+left-turned takes-regroup-left (of-first h) stands other skipped = absurd (other (kind-at stands))
+left-turned takes-regroup-left (of-crossed h c (of-first k)) stands other skipped =
     turned _ _ (crossed-first-at stands) (kind-at (crossed-second-at stands (skipped .each _ (crossed-first-at stands))))
-left-turned types-regroup-left (of-crossed h c (of-crossed k d l)) stands other skipped =
+left-turned takes-regroup-left (of-crossed h c (of-crossed k d l)) stands other skipped =
     turned _ _ (crossed-first-at stands) (kind-at (crossed-second-at stands (skipped .each _ (crossed-first-at stands))))
 
 -- After that crossing: where b ends, and where all ends.
@@ -342,17 +342,17 @@ module _ {slice : List ℕ} {place : ℕ} {out remainder : List ℕ} (due : Leaf
 -- Spread
 
 -- It takes a sequence.
-spread-sequence : {slice : List ℕ} {place : ℕ} {t u : Ty} {p : Prefix} → Types t spread u → IsPrefix t p → PrefixAt slice place p
+spread-sequence : {slice : List ℕ} {place : ℕ} {t u : Ty} {p : Prefix} → Takes t spread u → IsPrefix t p → PrefixAt slice place p
     → SomePrefixAt slice (place + 1)
-spread-sequence types-spread h stands = first-stands h stands
+spread-sequence takes-spread h stands = first-stands h stands
 
 -- 5 p.
-spread-in-first : {slice : List ℕ} {place : ℕ} {t u : Ty} {p : Prefix} → Types t spread u → IsPrefix t p → PrefixAt slice place p
+spread-in-first : {slice : List ℕ} {place : ℕ} {t u : Ty} {p : Prefix} → Takes t spread u → IsPrefix t p → PrefixAt slice place p
     → getD slice place 0 ≡ 5 → Sends t spread p (7 ∷ (prefix-bytes p [] ++ prefix-bytes p [])) 13
 unfolding sends leaves node-bytes prefix-bytes
-spread-in-first types-spread (of-first {p = q} h) stands coming =
+spread-in-first takes-spread (of-first {p = q} h) stands coming =
     record { sent = ap (λ l. 7 ∷ 5 ∷ l) (prefix-before q (5 ∷ prefix-bytes q [])); left = refl }
-spread-in-first types-spread (of-crossed h c k) stands coming = absurd (omega (arith, kind-at stands))
+spread-in-first takes-spread (of-crossed h c k) stands coming = absurd (omega (arith, kind-at stands))
 
 -- What is put behind the bytes of a prefix.
 onto : (p : Prefix) (r s : List ℕ) → prefix-bytes p r ++ s ≡ prefix-bytes p (r ++ s)
@@ -370,11 +370,11 @@ pub record Forked (slice : List ℕ) (place rest : ℕ) (t : Ty) (p : Prefix) : 
   pub sent-are : prefix-bytes (sends t spread p) [] ≡ 7 ∷ (((crossing part ++ prefix-bytes one []) ++ crossing part) ++ prefix-bytes other [])
   pub left-is : node-bytes (leaves t spread p) [] ≡ 0 ∷ []
 
-spread-forked : {slice : List ℕ} {place rest : ℕ} {t u : Ty} {p : Prefix} → Types t spread u → IsPrefix t p → PrefixAt slice place p
+spread-forked : {slice : List ℕ} {place rest : ℕ} {t u : Ty} {p : Prefix} → Takes t spread u → IsPrefix t p → PrefixAt slice place p
     → (getD slice place 0 ≡ 5 → ⊥) → PrefixEnds slice (place + 1) rest → Forked slice place rest t p
 unfolding sends leaves node-bytes prefix-bytes
-spread-forked types-spread (of-first h) stands other skipped = absurd (other (kind-at stands))
-spread-forked types-spread (of-crossed {b = b} h c (of-beside {p = q} {q = r} k l)) stands other skipped =
+spread-forked takes-spread (of-first h) stands other skipped = absurd (other (kind-at stands))
+spread-forked takes-spread (of-crossed {b = b} h c (of-beside {p = q} {q = r} k l)) stands other skipped =
     let below = crossed-second-at stands (skipped .each b (crossed-first-at stands)) in
     record {
       part = b;

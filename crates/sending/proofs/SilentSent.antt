@@ -5,7 +5,7 @@ use Prim.Native.Nat.{ℕ, _+_, _-_, _≤_}
 use native.Mathlib.Omega.{arith}
 use lib.ListN.{length, take, drop}
 use Rattle.stream.specs.Types.{Ty, Nullable, null-empty, null-par, size}
-use Rattle.stream.specs.Buffers.{front}
+use Rattle.stream.specs.Buffers.{at-front}
 use Rattle.stream.specs.Prefixes.{empty-prefix}
 use Rattle.files.specs.TypeReads.{TypeAt}
 use Rattle.files.specs.SliceReads.{width as prefix-width}
@@ -61,7 +61,7 @@ module _ {nodes : List ℕ} {from : ℕ} {out remainder : List ℕ} (due : Silen
     silent-room = omega (arith, ap length silent-taken, wide, due .node-at .carries, due .left-room)
 
     -- The node is left as it was.
-    pub silent-delivered : {remainder-after : List ℕ} → remainder-after ≡ front (take (from + (1 + many) - from) (drop from nodes)) remainder
+    pub silent-delivered : {remainder-after : List ℕ} → remainder-after ≡ at-front (take (from + (1 + many) - from) (drop from nodes)) remainder
         → Delivers (empty-prefix (due .type)) (silent (due .type)) out remainder out-after remainder-after (record { sent = many; left = 1 + many })
     silent-delivered copied =
         let sent = written .each empty-due in

@@ -4,12 +4,12 @@ use mathlib.Core.List.{List, [], _∷_}
 use Prim.Native.Nat.{ℕ, suc, _+_, _≤_}
 use lib.ListN.{length}
 use Rattle.stream.specs.Types.{Ty, empty, Nullable, size, type-limit, first-part, second-part}
-use Rattle.stream.specs.Buffers.{front}
+use Rattle.stream.specs.Buffers.{at-front}
 use Rattle.stream.specs.Prefixes.{Prefix, cue-come, level-come, IsPrefix, empty-prefix}
 use Rattle.stream.specs.SliceFiles.{prefix-bytes}
 use Rattle.files.specs.TypeReads.{TypeAt}
 use Rattle.files.specs.SliceReads.{PrefixAt, width as prefix-width}
-use Rattle.node.specs.Nodes.{Node, silent, emit-level, second, Types, Small}
+use Rattle.node.specs.Nodes.{Node, silent, emit-level, second, Takes, Small}
 use Rattle.node.specs.Feeding.{sends, leaves}
 use Rattle.node.specs.PatchFiles.{node-bytes}
 use Rattle.patches.specs.PatchReads.{width, NodeAt}
@@ -20,7 +20,7 @@ pub mod Laws
 pub record Leaves (n : Node) (many : ℕ) (remainder remainder-after : List ℕ) (fed : Sent) : Type 0 where
   pub sent : fed .sent ≡ many
   pub left : fed .left ≡ width n
-  pub buffer : remainder-after ≡ front (node-bytes n []) remainder
+  pub buffer : remainder-after ≡ at-front (node-bytes n []) remainder
 
 -- The same for the nodes of one byte, by that byte.
 pub record LeavesKind (k many : ℕ) (remainder remainder-after : List ℕ) (fed : Sent) : Type 0 where
@@ -32,7 +32,7 @@ LeavesSilent many remainder remainder-after fed = Leaves (silent empty) many rem
 -- The prefix o is sent and the node n is left.
 pub record Delivers (o : Prefix) (n : Node) (out remainder out-after remainder-after : List ℕ) (fed : Sent) : Type 0 where
   pub leaves : Leaves n (prefix-width o) remainder remainder-after fed
-  pub output : out-after ≡ front (prefix-bytes o []) out
+  pub output : out-after ≡ at-front (prefix-bytes o []) out
 
 abbrev pub EmitsCue : (out remainder out-after remainder-after : List ℕ) → Sent → Type 0
 EmitsCue out remainder out-after remainder-after fed = Delivers cue-come (silent empty) out remainder out-after remainder-after fed
@@ -44,7 +44,7 @@ pub record LeafDue (n : Node) (slice : List ℕ) (place : ℕ) (out remainder : 
   pub output-type : Ty
   pub prefix : Prefix
   pub prefix-at : PrefixAt slice place prefix
-  pub types : Types type n output-type
+  pub types : Takes type n output-type
   pub small : Small type
   pub is-prefix : IsPrefix type prefix
   pub output-room : prefix-width (sends type n prefix) ≤ length out

@@ -10,7 +10,7 @@ use writing::write_empty;
 use writing::write_spent;
 ghost use Prim.Native.Nat.{_≤_};
 ghost use lib.ListN.{length};
-ghost use Rattle.node.specs.Nodes.{pass, left, right, first, regroup-right, regroup-left, spread, front};
+ghost use Rattle.node.specs.Nodes.{pass, left-side, right-side, first, regroup-right, regroup-left, spread, front};
 ghost use Rattle.sending.specs.Sending.{LeavesKind, LeavesSilent, LeafDue, LeafFed, SilentDue, SilentFed, EmitsCue, LevelDue, LevelFed, SecondDue, SecondFed};
 
 // How many bytes a node sends, and how many the node left has.
@@ -80,8 +80,8 @@ pub fn feed_level(nodes: &[u8], from: usize, out: &mut [u8], remainder: &mut [u8
 
 // Left sends the first side.
 pub fn feed_left(slice: &[u8], place: usize, out: &mut [u8], remainder: &mut [u8]) -> Sent
-    requires { ⌜ LeafDue left (now slice) place (now out) (now remainder) ⌝ }
-    ensures { λ r. ⌜ LeafFed left (now (slice .entry)) place (now (out .entry)) (now (remainder .entry)) (now (out .exit)) (now (remainder .exit)) r ⌝ }
+    requires { ⌜ LeafDue left-side (now slice) place (now out) (now remainder) ⌝ }
+    ensures { λ r. ⌜ LeafFed left-side (now (slice .entry)) place (now (out .entry)) (now (remainder .entry)) (now (out .exit)) (now (remainder .exit)) r ⌝ }
 {
     let sent = copy_prefix(slice, place + 1, out);
     leave(5, sent, remainder)
@@ -89,8 +89,8 @@ pub fn feed_left(slice: &[u8], place: usize, out: &mut [u8], remainder: &mut [u8
 
 // Right sends the second side.
 pub fn feed_right(slice: &[u8], place: usize, out: &mut [u8], remainder: &mut [u8]) -> Sent
-    requires { ⌜ LeafDue right (now slice) place (now out) (now remainder) ⌝ }
-    ensures { λ r. ⌜ LeafFed right (now (slice .entry)) place (now (out .entry)) (now (remainder .entry)) (now (out .exit)) (now (remainder .exit)) r ⌝ }
+    requires { ⌜ LeafDue right-side (now slice) place (now out) (now remainder) ⌝ }
+    ensures { λ r. ⌜ LeafFed right-side (now (slice .entry)) place (now (out .entry)) (now (remainder .entry)) (now (out .exit)) (now (remainder .exit)) r ⌝ }
 {
     let second = skip_prefix(slice, place + 1);
     let sent = copy_prefix(slice, second, out);

@@ -7,7 +7,7 @@ use native.Mathlib.Nat.{add-zero}
 use lib.ListN.{getD, drop}
 use lib.Seq.{drop-drop}
 use Rattle.stream.specs.Reading.{Reading, read, fault}
-use Rattle.node.specs.Nodes.{Node, pass, silent, emit-cue, emit-level, both, left, right, first, second, then, chain, regroup-right, regroup-left, spread, front, count, node-limit}
+use Rattle.node.specs.Nodes.{Node, pass, silent, emit-cue, emit-level, both, left-side, right-side, first, second, then, chain, regroup-right, regroup-left, spread, front, count, node-limit}
 use Rattle.node.specs.PatchFiles.{read-node}
 use Rattle.node.specs.PatchFiles.Laws.{read-node-reads}
 use Rattle.patches.specs.PatchReads.{width, NodeAt}
@@ -22,8 +22,8 @@ count-positive (silent n) = omega arith
 count-positive emit-cue = omega arith
 count-positive (emit-level v) = omega arith
 count-positive (both n m) = omega arith
-count-positive left = omega arith
-count-positive right = omega arith
+count-positive left-side = omega arith
+count-positive right-side = omega arith
 count-positive first = omega arith
 count-positive second = omega arith
 count-positive (then n m) = omega arith

@@ -8,7 +8,7 @@ use Rattle.stream.specs.Types.{Ty, kind, first-part, second-part, type-limit}
 use Rattle.stream.specs.Reading.{accepted}
 use Rattle.files.specs.TypeReads.{TypeAt, SomeTypeAt, TypeEnds}
 use Rattle.files.specs.TypeReads.Laws.{first-at, second-at, second-behind}
-use Rattle.node.specs.Nodes.{second, Types, types-second, output-type, count, node-limit}
+use Rattle.node.specs.Nodes.{second, Takes, takes-second, output-type, count, node-limit}
 use Rattle.node.specs.Feeding.{sends, leaves}
 use Rattle.node.specs.Checking.{gives}
 use Rattle.node.specs.Checking.Laws.{gives-small}
@@ -23,8 +23,8 @@ use Rattle.step.specs.Steps.Laws.{left-width}
 use Rattle.step.proofs.Giving.{makes-step}
 
 -- Second takes a sequence.
-takes-sequence : {s t : Ty} → Types s second t → kind s ≡ 3
-takes-sequence types-second = refl
+takes-sequence : {s t : Ty} → Takes s second t → kind s ≡ 3
+takes-sequence takes-second = refl
 
 module _ {types : List ℕ} {at : ℕ} {slice : List ℕ} {place : ℕ} {out remainder given : List ℕ}
     (due : BehindDue types at slice place out remainder given) where

@@ -8,15 +8,15 @@ use lib.ListN.{getD}
 use Rattle.stream.specs.Types.{Ty, size}
 use Rattle.stream.specs.Prefixes.{Prefix}
 use Rattle.files.specs.SliceReads.{width as prefix-width}
-use Rattle.node.specs.Nodes.{Node, both, Types, types-both, output-type, count}
+use Rattle.node.specs.Nodes.{Node, both, Takes, takes-both, output-type, count}
 use Rattle.node.specs.Feeding.{sends, leaves}
 use Rattle.patches.specs.PatchReads.Laws.{both-forks, Parts, parts-at}
 use Rattle.step.specs.declared.Step.{Step}
 use Rattle.step.specs.Steps.{Feedable, Room, FeedDue, FeedsNode, PartsDue, FeedsParts}
 
 -- The types of both parts.
-both-types : {s o : Ty} {n m : Node} → Types s (both n m) o → ((t : Ty) × Types s n t) × ((r : Ty) × Types s m r)
-both-types (types-both {t = t} {r = r} d e) = ((t, d), (r, e))
+both-types : {s o : Ty} {n m : Node} → Takes s (both n m) o → ((t : Ty) × Takes s n t) × ((r : Ty) × Takes s m r)
+both-types (takes-both {t = t} {r = r} d e) = ((t, d), (r, e))
 
 -- If *both* is fed, so are its parts.
 both-feedable : {s : Ty} {n m : Node} {p : Prefix} → Feedable s (both n m) p → Feedable s n p × Feedable s m p

@@ -11,10 +11,10 @@ use Rattle.stream.specs.SliceFiles.Laws.{prefix-length}
 use Rattle.files.specs.SliceReads.{width as prefix-width}
 use Rattle.files.specs.SliceReads.Laws.{prefix-width as prefix-bytes-long}
 use Rattle.writing.specs.Writing.Laws.{part, back}
-use Rattle.node.specs.Nodes.{Node, chain, Types, types-chain, output-type, count, Small}
+use Rattle.node.specs.Nodes.{Node, chain, Takes, takes-chain, output-type, count, Small}
 use Rattle.node.specs.Nodes.Laws.{output-type-is, output-small}
 use Rattle.node.specs.Feeding.{sends, leaves}
-use Rattle.node.specs.Feeding.Laws.{fed}
+use Rattle.node.specs.Feeding.Laws.{preserved}
 use Rattle.node.specs.PatchFiles.{node-bytes}
 use Rattle.patches.specs.PatchReads.{width, NodeAt}
 use Rattle.patches.specs.PatchReads.Laws.{chain-forks, Parts, parts-at, node-before}
@@ -27,11 +27,11 @@ use Rattle.step.proofs.Below.{below-one, chain-count, parts-count}
 record Typings (s : Ty) (n m : Node) : Type 0 where
   middle : Ty
   output : Ty
-  first-types : Types s n middle
-  second-types : Types middle m output
+  first-types : Takes s n middle
+  second-types : Takes middle m output
 
-chain-typings : {s t : Ty} {n m : Node} → Types s (chain n m) t → Typings s n m
-chain-typings (types-chain d e) = record { middle = _; output = _; first-types = d; second-types = e }
+chain-typings : {s t : Ty} {n m : Node} → Takes s (chain n m) t → Typings s n m
+chain-typings (takes-chain d e) = record { middle = _; output = _; first-types = d; second-types = e }
 
 -- The first node has been fed: each list is as long as it was, and what is left of the node has room.
 pub record FirstFed (between middle remainder remainder-now : List ℕ) (step : Step) : Type 0 where
@@ -97,7 +97,7 @@ module _ {types : List ℕ} {at : ℕ} {nodes : List ℕ} {from : ℕ} {slice : 
       }
 
   is-sent : IsPrefix middle-type sent
-  is-sent = rw (output-type-is (typings .first-types)) (fed (typings .first-types) (due .feedable .is-prefix) .sent)
+  is-sent = rw (output-type-is (typings .first-types)) (preserved (typings .first-types) (due .feedable .is-prefix) .sent)
 
   second-feedable : Feedable middle-type (parts .second) sent
   second-feedable =

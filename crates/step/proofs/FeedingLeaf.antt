@@ -8,7 +8,7 @@ use lib.ListN.{length, getD}
 use Rattle.stream.specs.Types.{Ty, Nullable, type-limit}
 use Rattle.stream.specs.Prefixes.{cue-come}
 use Rattle.files.specs.SliceReads.{width as prefix-width}
-use Rattle.node.specs.Nodes.{Node, silent, emit-cue, emit-level, second, Types, types-silent}
+use Rattle.node.specs.Nodes.{Node, silent, emit-cue, emit-level, second, Takes, takes-silent}
 use Rattle.node.specs.Feeding.{sends, leaves}
 use Rattle.node.specs.PatchFiles.{node-bytes}
 use Rattle.patches.specs.PatchReads.{node-arity}
@@ -21,8 +21,8 @@ use Rattle.step.specs.Steps.Laws.{left-width}
 use Rattle.step.proofs.Below.{count-positive}
 use Rattle.step.proofs.Giving.{makes-step}
 
-silent-nullable : {s t o : Ty} → Types s (silent t) o → Nullable t
-silent-nullable (types-silent null) = null
+silent-nullable : {s t o : Ty} → Takes s (silent t) o → Nullable t
+silent-nullable (takes-silent null) = null
 
 -- A number below n is one of those below n.
 

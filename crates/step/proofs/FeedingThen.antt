@@ -9,7 +9,7 @@ use lib.ListN.{length, getD, take, drop, set, length-append}
 use Rattle.stream.specs.declared.Fault.{Fault}
 use Rattle.stream.specs.Types.{Ty, seq, size, kind, first-part, second-part}
 use Rattle.stream.specs.Reading.{accepted}
-use Rattle.stream.specs.Buffers.{front}
+use Rattle.stream.specs.Buffers.{at-front}
 use Rattle.stream.specs.Prefixes.{Prefix, in-first, crossed, Complete, IsPrefix, of-empty, of-cue-awaited, of-cue-come, of-level-awaited, of-level-come, of-first, of-crossed, of-beside}
 use Rattle.stream.specs.TypeFiles.{type-bytes}
 use Rattle.stream.specs.SliceFiles.{prefix-bytes}
@@ -18,7 +18,7 @@ use Rattle.files.specs.TypeReads.Laws.{first-at, second-behind, type-before, ty
 use Rattle.files.specs.SliceReads.{PrefixAt, TypeSpans, CompleteWide, width as prefix-width}
 use Rattle.files.specs.SliceReads.Laws.{prefix-width as prefix-bytes-long, width-positive, prefix-kind, prefix-inside, kind-at, in-first-at, crossed-first-at, crossed-second-at}
 use Rattle.writing.specs.Writing.Laws.{part, back}
-use Rattle.node.specs.Nodes.{Node, then, Types, types-then, output-type, count}
+use Rattle.node.specs.Nodes.{Node, then, Takes, takes-then, output-type, count}
 use Rattle.node.specs.Feeding.{sends, leaves}
 use Rattle.node.specs.PatchFiles.{node-bytes}
 use Rattle.node.specs.PatchFiles.Laws.{node-length}
@@ -38,11 +38,11 @@ record Typings (s : Ty) (n m : Node) : Type 0 where
   sequence : kind s ≡ 3
   first-output : Ty
   second-output : Ty
-  first-types : Types (first-part s) n first-output
-  second-types : Types (second-part s) m second-output
+  first-types : Takes (first-part s) n first-output
+  second-types : Takes (second-part s) m second-output
 
-then-typings : {s t : Ty} {n m : Node} → Types s (then n m) t → Typings s n m
-then-typings (types-then d e) = record { sequence = refl; first-output = _; second-output = _; first-types = d; second-types = e }
+then-typings : {s t : Ty} {n m : Node} → Takes s (then n m) t → Typings s n m
+then-typings (takes-then d e) = record { sequence = refl; first-output = _; second-output = _; first-types = d; second-types = e }
 
 -- A prefix of a sequence, while the first part is coming and at the crossing.
 
@@ -458,7 +458,7 @@ module _ {types : List ℕ} {at : ℕ} {nodes : List ℕ} {from : ℕ} {slice : 
 
             -- The bytes of the second node are copied.
             module _ {x : List ℕ}
-                (copied : x ≡ front (take (end - step .end) (drop (step .end) nodes)) (part (1 + step .left) remainder-now)) where
+                (copied : x ≡ at-front (take (end - step .end) (drop (step .end) nodes)) (part (1 + step .left) remainder-now)) where
               node-leads : Leads (node-bytes (parts .second) []) (part (1 + step .left) remainder-now) x
               node-leads = rw (← taken) (front-leads _ _ copied copy-room)
 

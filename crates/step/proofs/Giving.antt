@@ -14,7 +14,7 @@ use Rattle.stream.specs.SliceFiles.{prefix-bytes}
 use Rattle.files.specs.TypeReads.Laws.{type-width}
 use Rattle.files.specs.SliceReads.{width as prefix-width}
 use Rattle.files.specs.SliceReads.Laws.{prefix-width as prefix-length}
-use Rattle.node.specs.Nodes.{Node, Types, output-type, Fits}
+use Rattle.node.specs.Nodes.{Node, Takes, output-type, Fits}
 use Rattle.node.specs.Nodes.Laws.{output-type-is}
 use Rattle.node.specs.Checking.Laws.{typing-complete}
 use Rattle.node.specs.PatchFiles.{node-bytes}
@@ -48,7 +48,7 @@ module _ {end : ℕ} {t : Ty} {given given-after : List ℕ} {answer : Typed} (a
 module _ {types : List ℕ} {at : ℕ} {nodes : List ℕ} {from : ℕ} {given given-after : List ℕ} {answer : Typed}
     (told : TypesNode types at nodes from given given-after answer) where
   -- The answer at a node that has a type is the type that the rules give.
-  pub node-answered : {output : Ty} (due : TypingDue types at nodes from) → Types (due .type) (due .node) output → Fits (due .type) (due .node)
+  pub node-answered : {output : Ty} (due : TypingDue types at nodes from) → Takes (due .type) (due .node) output → Fits (due .type) (due .node)
       → Answers (from + width (due .node)) (accepted (output-type (due .type) (due .node))) given given-after answer
   node-answered due is-typed fits = rw (output-type-is is-typed, ← typing-complete is-typed fits) (told .each due)
 

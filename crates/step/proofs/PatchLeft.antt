@@ -7,7 +7,7 @@ use Rattle.stream.specs.Types.{Ty}
 use Rattle.stream.specs.Prefixes.{derivative}
 use Rattle.stream.specs.Reading.{section-bytes}
 use Rattle.stream.specs.TypeFiles.{type-bytes, type-file-bytes}
-use Rattle.stream.specs.Buffers.{front}
+use Rattle.stream.specs.Buffers.{at-front}
 use Rattle.node.specs.Nodes.{Node}
 use Rattle.node.specs.PatchFiles.{node-bytes, patch-file-bytes}
 use Rattle.writing.specs.Writing.{LeftFileWritten}
@@ -22,16 +22,16 @@ patch-file-parts s n = rw (append-nil (type-bytes s []))
 
 -- The type's file, and the section on the part behind it, make the patch file.
 pub patch-left-written : (types : List ℕ) (at : ℕ) (slice : List ℕ) (left : ℕ) (nodes lent : List ℕ) {now after : List ℕ}
-    → LeftFileWritten types at slice left lent now → after ≡ front (section-bytes nodes []) (part (2 + left) now)
+    → LeftFileWritten types at slice left lent now → after ≡ at-front (section-bytes nodes []) (part (2 + left) now)
     → PatchLeftWritten types at slice left nodes lent (back (2 + left) now after)
 patch-left-written types at slice left nodes lent {now} {after} written more = record { each = go }
   where
     go : (due : PatchLeftDue types at slice left nodes lent)
-        → back (2 + left) now after ≡ front (patch-file-bytes (derivative (due .type-due .type) (due .type-due .prefix)) (due .node)) lent
+        → back (2 + left) now after ≡ at-front (patch-file-bytes (derivative (due .type-due .type) (due .type-due .prefix)) (due .node)) lent
     go due =
         let s = derivative (due .type-due .type) (due .type-due .prefix) in
         let begun : Begun (type-file-bytes s) lent now (2 + left)
         = record { long = omega (arith, type-file-size s, due .type-due .measured); buffer = written .each (due .type-due) } in
-        let body : after ≡ front (section-bytes (node-bytes (due .node) []) []) (part (2 + left) now) = rw (← due .here) more in
+        let body : after ≡ at-front (section-bytes (node-bytes (due .node) []) []) (part (2 + left) now) = rw (← due .here) more in
         goes-on begun (section-bytes (node-bytes (due .node) []) []) body refl .buffer
-        ∙ ap (λ l. front l lent) (patch-file-parts s (due .node))
+        ∙ ap (λ l. at-front l lent) (patch-file-parts s (due .node))

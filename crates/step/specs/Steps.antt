@@ -9,13 +9,13 @@ use lib.ListN.{length, getD}
 use Rattle.stream.specs.Types.{Ty, seq, par, size}
 use Rattle.stream.specs.Reading.{read, fault}
 use Rattle.stream.specs.Prefixes.{Prefix, crossed, beside, IsPrefix, derivative}
-use Rattle.stream.specs.Buffers.{front}
+use Rattle.stream.specs.Buffers.{at-front}
 use Rattle.stream.specs.TypeFiles.{type-bytes}
 use Rattle.stream.specs.SliceFiles.{prefix-bytes}
 use Rattle.files.specs.TypeReads.{TypeAt}
 use Rattle.files.specs.SliceReads.{PrefixAt, width as prefix-width}
 use Rattle.writing.specs.Writing.{LeftFileDue}
-use Rattle.node.specs.Nodes.{Node, both, second, Types, output-type, count, node-limit, Fits}
+use Rattle.node.specs.Nodes.{Node, both, second, Takes, output-type, count, node-limit, Fits}
 use Rattle.node.specs.Feeding.{sends, leaves}
 use Rattle.node.specs.PatchFiles.{node-bytes, read-node, patch-file-bytes}
 use Rattle.patches.specs.PatchReads.{node-arity, width, NodeAt}
@@ -38,7 +38,7 @@ pub record Leads (bytes lent now : List ℕ) : Type 0 where
 -- A node takes a type within the limits, and is fed a prefix of it.
 pub record Feedable (s : Ty) (n : Node) (p : Prefix) : Type 0 where
   pub output : Ty
-  pub types : Types s n output
+  pub types : Takes s n output
   pub fits : Fits s n
   pub few : count n ≤ node-limit
   pub is-prefix : IsPrefix s p
@@ -92,7 +92,7 @@ pub record GiveDue (types : List ℕ) (at : ℕ) (nodes : List ℕ) (from : ℕ)
   pub output : Ty
   pub type-at : TypeAt types at type
   pub node-at : NodeAt nodes from node
-  pub is-typed : Types type node output
+  pub is-typed : Takes type node output
   pub fits : Fits type node
   pub leaf : node-arity (getD nodes from 0) ≡ 0
   pub room : size (output-type type node) ≤ length given
@@ -160,4 +160,4 @@ pub record PatchLeftDue (types : List ℕ) (at : ℕ) (slice : List ℕ) (left :
 
 pub record PatchLeftWritten (types : List ℕ) (at : ℕ) (slice : List ℕ) (left : ℕ) (nodes lent lent-after : List ℕ) : Type 0 where
   pub each : (due : PatchLeftDue types at slice left nodes lent)
-      → lent-after ≡ front (patch-file-bytes (derivative (due .type-due .type) (due .type-due .prefix)) (due .node)) lent
+      → lent-after ≡ at-front (patch-file-bytes (derivative (due .type-due .type) (due .type-due .prefix)) (due .node)) lent

@@ -50,9 +50,9 @@ whole left-over (read a (b ∷ r)) = refused left-over
 whole left-over (fault e) = refused e
 
 -- The bytes r come after what was read.
-abbrev pub before : {A : Type 0} → List ℕ → Result A → Reading A
-before r (accepted a) = read a r
-before r (refused e) = fault e
+abbrev pub followed-by : {A : Type 0} → List ℕ → Result A → Reading A
+followed-by r (accepted a) = read a r
+followed-by r (refused e) = fault e
 
 -- "A section is a two-byte count and then that many bytes", the high byte first: the section of `body`, and then `r`.
 unfoldable pub section-bytes : List ℕ → List ℕ → List ℕ
@@ -61,7 +61,7 @@ section-bytes body r = length body / 256 ∷ length body % 256 ∷ (body ++ r)
 -- "A section's length is tried before its contents", here the n bytes of its count. The contents fill the section.
 unfoldable pub counted : {A : Type 0} → Fault → Fault → (List ℕ → Reading A) → ℕ → List ℕ → Reading A
 counted cut-short left-over contents n s =
-    elim (leb n (length s)) [ true ↦ before (drop n s) (whole left-over (contents (take n s))) | false ↦ fault cut-short ]
+    elim (leb n (length s)) [ true ↦ followed-by (drop n s) (whole left-over (contents (take n s))) | false ↦ fault cut-short ]
 
 unfoldable pub section : {A : Type 0} → Fault → Fault → (List ℕ → Reading A) → List ℕ → Reading A
 section cut-short left-over contents [] = fault cut-short

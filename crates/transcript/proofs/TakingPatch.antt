@@ -6,7 +6,7 @@ use native.Mathlib.Omega.{arith}
 use lib.ListN.{length, take, drop}
 use lib.Seq.{take-at}
 use Rattle.stream.specs.Reading.{Bytes, Result, accepted, refused}
-use Rattle.stream.specs.Buffers.{front}
+use Rattle.stream.specs.Buffers.{at-front}
 use Rattle.writing.specs.Writing.Laws.{Begun, front-length}
 use Rattle.node.specs.PatchFiles.Laws.{patch-file-length}
 use Rattle.meaning.specs.Answers.{check, number-of}
@@ -25,7 +25,7 @@ patch-short file b none = go (check file) refl none
     go (refused f) e n = absurd (omega (arith, number-bounds f .0))
 
 module _ (patch file lent : List ℕ) where
-  pub patch-kept : number-of (check file) ≡ 0 → length file ≤ length patch → {patch-after : List ℕ} → patch-after ≡ front file patch
+  pub patch-kept : number-of (check file) ≡ 0 → length file ≤ length patch → {patch-after : List ℕ} → patch-after ≡ at-front file patch
       → TakesFile Awaiting patch file lent (record { stage = Feeding (length file); written = 0 }) patch-after lent
   unfolding state-of Inside takes
   patch-kept none room {patch-after} kept = go (check file) refl none

@@ -12,7 +12,7 @@ use Rattle.stream.specs.SliceFiles.{prefix-bytes, slice-file, slice-file-bytes}
 use Rattle.stream.specs.SliceFiles.Laws.{slice-file-sound}
 use Rattle.stream.specs.Reading.{Bytes, Result, accepted, refused, section-bytes}
 use Rattle.stream.specs.Reading.Laws.{go-on-accepted}
-use Rattle.stream.specs.Buffers.{front}
+use Rattle.stream.specs.Buffers.{at-front}
 use Rattle.stream.specs.Types.{Ty}
 use Rattle.stream.specs.Prefixes.{derivative}
 use Rattle.node.specs.Nodes.{Node, Small, Allowed}
@@ -81,7 +81,7 @@ fed-sections patch slice w b c e =
         }
 
 -- The section as it is read back from the buffer at whose front the file stands.
-module _ (body r lent now : List ℕ) (stands : now ≡ front (section-bytes body r) lent) where
+module _ (body r lent now : List ℕ) (stands : now ≡ at-front (section-bytes body r) lent) where
   pub body-stands : {n : ℕ} → n ≡ length body → take n (drop 2 now) ≡ body
   unfolding section-bytes
   body-stands {n} long =
@@ -107,7 +107,7 @@ module _ (patch slice lent : List ℕ) (n : ℕ) where
 
   -- An accepted one leaves the patch that Feed wrote.
   pub slice-fed : (w : FedFiles) (f : FedSections w) → feed (take n patch) slice ≡ accepted w → 8482 ≤ length patch
-      → {patch-left lent-after : List ℕ} {kept written : ℕ} → kept ≡ length (w .patch) → patch-left ≡ front (w .patch) patch
+      → {patch-left lent-after : List ℕ} {kept written : ℕ} → kept ≡ length (w .patch) → patch-left ≡ at-front (w .patch) patch
       → Begun (fed-line (f .output) (f .type)) lent lent-after written
       → TakesFile (Feeding n) patch slice lent (record { stage = Feeding kept; written = written }) patch-left lent-after
   unfolding state-of Inside takes line patch-after
@@ -130,8 +130,8 @@ pub record Sent (patch slice output left : List ℕ) (answer : Fed) (output-afte
   pub sections : FedSections written
   pub sent : answer .output ≡ 2 + length (sections .output)
   pub kept : answer .patch ≡ length (written .patch)
-  pub output-stands : output-after ≡ front (section-bytes (sections .output) []) output
-  pub left-stands : left-after ≡ front (section-bytes (sections .type) (sections .nodes)) left
+  pub output-stands : output-after ≡ at-front (section-bytes (sections .output) []) output
+  pub left-stands : left-after ≡ at-front (section-bytes (sections .type) (sections .nodes)) left
   pub output-long : length output-after ≡ length output
   pub left-long : length left-after ≡ length left
 
@@ -148,16 +148,16 @@ is-sent patch slice output left {answer} {output-after} {left-after} b c h k by 
         let sections = fed-sections patch slice w b c e in
         let answers : answer ≡ fed (accepted w) = by .answers ∙ ap fed e in
         let sized = feed-sized-of-bytes patch slice b c .sized w e in
-        let output-stands : output-after ≡ front (w .output) output = by .output-buffer ∙ ap (λ o. after (λ (v : FedFiles). v .output) o output) e in
-        let left-stands : left-after ≡ front (w .patch) left = by .left-buffer ∙ ap (λ o. after (λ (v : FedFiles). v .patch) o left) e in
+        let output-stands : output-after ≡ at-front (w .output) output = by .output-buffer ∙ ap (λ o. after (λ (v : FedFiles). v .output) o output) e in
+        let left-stands : left-after ≡ at-front (w .patch) left = by .left-buffer ∙ ap (λ o. after (λ (v : FedFiles). v .patch) o left) e in
         record {
           written = w;
           is-fed = e;
           sections = sections;
           sent = ap (λ (a : Fed). a .output) answers ∙ ap length (sections .output-is) ∙ section-length (sections .output) [] ∙ omega arith;
           kept = ap (λ (a : Fed). a .patch) answers;
-          output-stands = output-stands ∙ ap (λ l. front l output) (sections .output-is);
-          left-stands = left-stands ∙ ap (λ l. front l left) (sections .patch-is);
+          output-stands = output-stands ∙ ap (λ l. at-front l output) (sections .output-is);
+          left-stands = left-stands ∙ ap (λ l. at-front l left) (sections .patch-is);
           output-long = ap length output-stands ∙ front-length (w .output) output (le-trans (sized .output .short) h);
           left-long = ap length left-stands ∙ front-length (w .patch) left (le-trans (sized .patch .short) k);
         }

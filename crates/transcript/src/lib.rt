@@ -8,7 +8,7 @@ use writing::copy;
 ghost use mathlib.Core.Path.{_≡_};
 ghost use Prim.Native.Nat.{_*_, _-_, _≤_, _<_};
 ghost use lib.ListN.{length, take, drop};
-ghost use Rattle.stream.specs.Buffers.{front};
+ghost use Rattle.stream.specs.Buffers.{at-front};
 ghost use Rattle.writing.specs.Writing.Laws.{Begun};
 ghost use Rattle.transcript.specs.Transcripts.{hexadecimal, number-line, fed-line};
 ghost use Rattle.transcript.specs.Transcripts.{digit as Transcripts·digit};
@@ -69,7 +69,7 @@ fn digit(value: u8) -> u8
 // Writes all of `source`, two digits a byte.
 fn put_hexadecimal(source: &[u8], out: &mut [u8])
     requires { ⌜ 2 * length (now source) ≤ length (now out) ⌝ }
-    ensures { λ _. ⌜ now (out .exit) ≡ front (hexadecimal (now (source .entry))) (now (out .entry)) ⌝ }
+    ensures { λ _. ⌜ now (out .exit) ≡ at-front (hexadecimal (now (source .entry))) (now (out .entry)) ⌝ }
 {
     let mut at = 0;
     while at < source.len() {

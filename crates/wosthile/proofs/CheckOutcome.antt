@@ -9,7 +9,7 @@ use Rattle.stream.specs.declared.Fault.{Fault}
 use Rattle.stream.specs.Types.{Ty}
 use Rattle.stream.specs.Types.Laws.{limit-is}
 use Rattle.stream.specs.Reading.{accepted, refused, section-bytes}
-use Rattle.stream.specs.Buffers.{front}
+use Rattle.stream.specs.Buffers.{at-front}
 use Rattle.stream.specs.TypeFiles.{type-bytes, type-file-bytes}
 use Rattle.files.specs.TypeReads.Laws.{bytes-at, type-width}
 use Rattle.writing.specs.Writing.Standing.{type-file-size, written-stands}
@@ -51,14 +51,14 @@ module _ {file : List ℕ} {place : Place} (read : AcceptedPatch file place) {en
       go gives =
           let t = gives .type in
           let small = typing-small _ _ (read .node-at .carries) (gives .given) in
-          let front = answers .writes t (gives .given) .in-front (omega (arith, type-width t, small, limit-is)) in
+          let at-front = answers .writes t (gives .given) .in-front (omega (arith, type-width t, small, limit-is)) in
           record {
             output = t;
             is-typed = rw (read .is-accepted, gives .given);
             small = omega (arith, gives .sized, small, limit-is);
             inside = omega (arith, gives .sized, small, limit-is, answers .long);
             long = omega (arith, gives .sized, type-file-size t);
-            bytes = rw (gives .sized) (bytes-at (written-stands t lent front small));
+            bytes = rw (gives .sized) (bytes-at (written-stands t lent at-front small));
           }
 
 -- The section of those bytes is the file of the type.
@@ -68,7 +68,7 @@ module _ {file given : List ℕ} {many : ℕ} (t : TypeGiven file given many) wh
       let long : length (take many given) ≡ many = length-take-le many given (t .inside) in
       (omega (arith, long, t .small), omega (arith, long))
 
-  pub type-section-written : (out : List ℕ) {out-after : List ℕ} → out-after ≡ front (section-bytes (take many given) []) out
-      → out-after ≡ front (type-file-bytes (t .output)) out
+  pub type-section-written : (out : List ℕ) {out-after : List ℕ} → out-after ≡ at-front (section-bytes (take many given) []) out
+      → out-after ≡ at-front (type-file-bytes (t .output)) out
   unfolding type-file-bytes
-  type-section-written out e = e ∙ ap (λ body. front (section-bytes body []) out) (t .bytes)
+  type-section-written out e = e ∙ ap (λ body. at-front (section-bytes body []) out) (t .bytes)

@@ -14,7 +14,7 @@ use Rattle.stream.specs.Types.Laws.{limit-is}
 use Rattle.stream.specs.Prefixes.{Prefix, derivative}
 use Rattle.stream.specs.Prefixes.Laws.{derivative-size}
 use Rattle.stream.specs.Reading.{accepted, refused, section-bytes}
-use Rattle.stream.specs.Buffers.{front}
+use Rattle.stream.specs.Buffers.{at-front}
 use Rattle.stream.specs.TypeFiles.{type-bytes}
 use Rattle.stream.specs.SliceFiles.{prefix-bytes, slice-file-bytes, slice-file}
 use Rattle.stream.specs.SliceFiles.Laws.{prefix-length}
@@ -25,9 +25,9 @@ use Rattle.writing.specs.Writing.Standing.{slice-file-size}
 use Rattle.node.specs.Nodes.{Node, count, node-limit}
 use Rattle.node.specs.Nodes.Laws.{output-type-is, output-small}
 use Rattle.node.specs.Feeding.{sends, leaves}
-use Rattle.node.specs.Feeding.Laws.{fed}
+use Rattle.node.specs.Feeding.Laws.{preserved}
 use Rattle.node.specs.Checking.{typing}
-use Rattle.node.specs.Checking.Laws.{Typed, typing-sound}
+use Rattle.node.specs.Checking.Laws.{WellTyped, typing-sound}
 use Rattle.node.specs.PatchFiles.{node-bytes, patch-file-bytes, first-pass, second-pass, patch-file}
 use Rattle.patches.specs.declared.Patch.{Patch as Place}
 use Rattle.patches.specs.PatchReads.Laws.{ends-inside, count-within}
@@ -65,7 +65,7 @@ module _ (output left : List ℕ) {patch slice : List ℕ} where
 
     pub files-keep : length (files .output) ≤ length output → length (files .patch) ≤ length left
         → {sent kept : ℕ} → sent ≡ length (files .output) → kept ≡ length (files .patch)
-        → {output-after left-after : List ℕ} → output-after ≡ front (files .output) output → left-after ≡ front (files .patch) left
+        → {output-after left-after : List ℕ} → output-after ≡ at-front (files .output) output → left-after ≡ at-front (files .patch) left
         → FeedPromise patch slice output left (record { number = 0; output = sent; patch = kept }) output-after left-after
     unfolding with-room told after
     files-keep r s n m o l =
@@ -101,7 +101,7 @@ module _ {patch : List ℕ} {place : Place} {slice : List ℕ} {remains : ℕ} (
   abbrev prefix : Prefix
   prefix = due .taken .prefix
 
-  pub is-typed : Typed input node (due .output)
+  pub is-typed : WellTyped input node (due .output)
   is-typed = typing-sound input node (due .output) (due .read .node-at .carries) (due .is-typed)
 
   abbrev pub files : FedFiles
@@ -116,7 +116,7 @@ module _ {patch : List ℕ} {place : Place} {slice : List ℕ} {remains : ℕ} (
   sent-short =
       omega (
         arith,
-        prefix-length [] (fed (is-typed .types) (due .taken .is-prefix) .sent),
+        prefix-length [] (preserved (is-typed .types) (due .taken .is-prefix) .sent),
         prefix-long (sends input node prefix) [],
         output-small (is-typed .types) (is-typed .fits),
         limit-is,
@@ -205,10 +205,10 @@ module _ {patch : List ℕ} {place : Place} {slice : List ℕ} {remains : ℕ} (
         let long : length (take (step .sent) sent) ≡ step .sent = length-take-le (step .sent) sent (done .sent-inside) in
         (omega (arith, long, done .sent-small), omega (arith, long))
 
-    pub output-written : (out : List ℕ) {out-after : List ℕ} → out-after ≡ front (section-bytes (take (step .sent) sent) []) out
-        → out-after ≡ front (files .output) out
+    pub output-written : (out : List ℕ) {out-after : List ℕ} → out-after ≡ at-front (section-bytes (take (step .sent) sent) []) out
+        → out-after ≡ at-front (files .output) out
     unfolding slice-file-bytes
-    output-written out e = e ∙ ap (λ body. front (section-bytes body []) out) (done .sent-taken)
+    output-written out e = e ∙ ap (λ body. at-front (section-bytes body []) out) (done .sent-taken)
 
     abbrev pub patch-left-due : (left : List ℕ) → 2 + remains + 2 + step .left ≤ length left
         → PatchLeftDue patch (place .input .start) slice remains (take (step .left) nodes) left

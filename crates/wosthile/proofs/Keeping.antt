@@ -11,7 +11,7 @@ use Rattle.stream.specs.declared.Fault.{Fault}
 use Rattle.stream.specs.declared.Fault.the-variants.{NoRoom}
 use Rattle.stream.specs.Faults.{number}
 use Rattle.stream.specs.Reading.{Result, accepted, refused}
-use Rattle.stream.specs.Buffers.{front}
+use Rattle.stream.specs.Buffers.{at-front}
 use Rattle.meaning.specs.Answers.{with-room, after, written, admitted, as-number}
 use Rattle.meaning.specs.Promises.{Writes, Admits}
 
@@ -27,7 +27,7 @@ module _ (lent : List ℕ) where
   shortage-keeps file h short = record { answers = rw (h, lt-leb _ _ short); buffer = rw (h, lt-leb _ _ short) }
 
   pub file-keeps : {outcome : Result (List ℕ)} (file : List ℕ) → outcome ≡ accepted file → length file ≤ length lent
-      → {n : ℕ} → n ≡ length file → {lent-after : List ℕ} → lent-after ≡ front file lent
+      → {n : ℕ} → n ≡ length file → {lent-after : List ℕ} → lent-after ≡ at-front file lent
       → Writes outcome lent (record { number = 0; written = n }) lent-after
   unfolding with-room written after
   file-keeps file h room n s = record { answers = rw (h, le-leb _ _ room, n); buffer = rw (h, le-leb _ _ room, s) }

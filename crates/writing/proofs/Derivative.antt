@@ -13,7 +13,7 @@ use Rattle.files.specs.TypeReads.{TypeAt, SomeTypeAt, TypeEnds}
 use Rattle.files.specs.TypeReads.Laws.{type-before, type-width, starts-inside, ends-inside, bytes-at, first-at, second-at}
 use Rattle.files.specs.SliceReads.{width, leaf-width, PrefixAt, SomePrefixAt, PrefixEnds}
 use Rattle.files.specs.SliceReads.Laws.{prefix-kind, width-positive, prefix-inside, kind-at, in-first-at, crossed-first-at, crossed-second-at, beside-first-at, beside-second-at}
-use Rattle.stream.specs.Buffers.{front}
+use Rattle.stream.specs.Buffers.{at-front}
 use Rattle.writing.specs.Writing.{leaf-left, Stands, DerivativeDue, Moves, DerivativeWritten}
 use Rattle.writing.specs.Writing.Laws.{part, back, byte, front-length, Begun, begins, goes-on, room-left, length-kept}
 use Rattle.writing.proofs.PrefixKinds.{Case, by-kind, leaf-is}
@@ -184,7 +184,7 @@ module _ (types : List ℕ) (at : ℕ) (slice : List ℕ) (from : ℕ) (lent : L
 
     -- The bytes of a second part, behind them.
     with-second : {now z : List ℕ} {first : Moved} {n : ℕ} (t : Ty) → First now first
-        → z ≡ front (type-bytes t []) (part (1 + first .written) now) → n ≡ length (type-bytes t [])
+        → z ≡ at-front (type-bytes t []) (part (1 + first .written) now) → n ≡ length (type-bytes t [])
         → Begun (k ∷ type-bytes (derivative s p) (type-bytes t [])) lent (back (1 + first .written) now z) (1 + first .written + n)
     with-second t f h long =
         rw (type-before (derivative s p) (type-bytes t [])) (goes-on (f .begun) (type-bytes t []) h long)
@@ -250,7 +250,7 @@ module _ (types : List ℕ) (at : ℕ) (slice : List ℕ) (from : ℕ) (lent : L
             let f = first-coming s t p h due written in
             rw (room-left (f .begun)) (simp length-take (omega (arith, end-is s t p h due, f .long, coming-room s t p h due))))
 
-        pub coming-written : {z : List ℕ} → z ≡ front second-bytes (part (1 + first .written) now-coming)
+        pub coming-written : {z : List ℕ} → z ≡ at-front second-bytes (part (1 + first .written) now-coming)
             → DerivativeWritten types at slice from lent (back (1 + first .written) now-coming z)
             (record { first = end; second = first .second; written = 1 + first .written + (end - first .first) })
         unfolding size width derivative type-bytes

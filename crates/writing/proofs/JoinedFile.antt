@@ -7,11 +7,11 @@ use Rattle.writing.specs.declared.Moved.{Moved}
 use Rattle.stream.specs.Prefixes.{concat}
 use Rattle.stream.specs.SliceFiles.{prefix-bytes, slice-file-bytes}
 use Rattle.files.specs.SliceReads.Laws.{prefix-width}
-use Rattle.stream.specs.Buffers.{front}
+use Rattle.stream.specs.Buffers.{at-front}
 use Rattle.writing.specs.Writing.{ConcatDue, ConcatWritten, JoinedFileDue, JoinedFileWritten}
 use Rattle.writing.specs.Writing.Laws.{part, back, count-bytes, room-behind-count, section-written}
 
-module _ {first second : List ℕ} {joined : ℕ} {lent y : List ℕ} (counted : y ≡ front (count-bytes joined) lent) where
+module _ {first second : List ℕ} {joined : ℕ} {lent y : List ℕ} (counted : y ≡ at-front (count-bytes joined) lent) where
   abbrev pub body-due : JoinedFileDue first second joined lent → ConcatDue first 2 second 2 (part 2 y)
   body-due due =
       record {
@@ -27,7 +27,7 @@ module _ {first second : List ℕ} {joined : ℕ} {lent y : List ℕ} (counted :
   unfolding slice-file-bytes
   joined-file-written {z} written = record { each = go }
     where
-      go : (due : JoinedFileDue first second joined lent) → back 2 y z ≡ front (slice-file-bytes (concat (due .one) (due .other))) lent
+      go : (due : JoinedFileDue first second joined lent) → back 2 y z ≡ at-front (slice-file-bytes (concat (due .one) (due .other))) lent
       go due =
           section-written joined lent y counted (prefix-bytes (concat (due .one) (due .other)) []) z
           (omega (arith, due .measured, prefix-width (concat (due .one) (due .other)) []))

@@ -10,7 +10,7 @@ use Rattle.stream.specs.Prefixes.{derivative}
 use Rattle.stream.specs.Prefixes.Laws.{derivative-size}
 use Rattle.stream.specs.TypeFiles.{type-bytes, type-file-bytes}
 use Rattle.files.specs.TypeReads.Laws.{type-width}
-use Rattle.stream.specs.Buffers.{front}
+use Rattle.stream.specs.Buffers.{at-front}
 use Rattle.writing.specs.Writing.{DerivativeDue, DerivativeWritten, LeftFileDue, LeftFileWritten}
 use Rattle.writing.specs.Writing.Laws.{part, back, count-bytes, room-behind-count, section-written}
 
@@ -22,7 +22,7 @@ module _ (types : List ℕ) (at : ℕ) (slice : List ℕ) (left : ℕ) (lent : L
     omega (arith, due .room),
   )
 
-  module _ {y : List ℕ} (counted : y ≡ front (count-bytes left) lent) where
+  module _ {y : List ℕ} (counted : y ≡ at-front (count-bytes left) lent) where
     abbrev pub body-due : LeftFileDue types at slice left lent → DerivativeDue types at slice 2 (part 2 y)
     body-due due =
         record {
@@ -37,7 +37,7 @@ module _ (types : List ℕ) (at : ℕ) (slice : List ℕ) (left : ℕ) (lent : L
     unfolding type-file-bytes
     left-file-written {z} {moved} written = record { each = go }
       where
-        go : (due : LeftFileDue types at slice left lent) → back 2 y z ≡ front (type-file-bytes (derivative (due .type) (due .prefix))) lent
+        go : (due : LeftFileDue types at slice left lent) → back 2 y z ≡ at-front (type-file-bytes (derivative (due .type) (due .prefix))) lent
         go due =
             section-written left lent y counted (type-bytes (derivative (due .type) (due .prefix)) []) z
             (due .measured ∙ sym (type-width (derivative (due .type) (due .prefix))))

@@ -6,12 +6,12 @@ use native.Mathlib.Omega.{arith}
 use native.Mathlib.Numerals.{add-one}
 use lib.ListN.{length, drop, set, length-append, length-drop, drop-of-length-le}
 use lib.Seq.{drop-drop, set-split}
-use Rattle.stream.specs.Buffers.{front}
+use Rattle.stream.specs.Buffers.{at-front}
 use Rattle.writing.specs.Writing.Laws.{part, back, part-is, front-length}
 use Rattle.writing.specs.Appending.{Appends}
 use Rattle.writing.specs.Appending.Laws.{part-length, back-length, holds-part}
 
-pub appended : {source now y : List ℕ} (written : ℕ) → written + length source ≤ length now → y ≡ front source (part written now)
+pub appended : {source now y : List ℕ} (written : ℕ) → written + length source ≤ length now → y ≡ at-front source (part written now)
     → Appends source written now (back written now y) (written + length source)
 appended {source} {now} {y} written room copied =
     record {
@@ -34,7 +34,7 @@ not-appended source now written full =
     }
 
 -- One byte that is set is a part of one byte that comes back.
-set-back : (x : List ℕ) (i k : ℕ) → i < length x → set x i k ≡ back i x (front (k ∷ []) (part i x))
+set-back : (x : List ℕ) (i k : ℕ) → i < length x → set x i k ≡ back i x (at-front (k ∷ []) (part i x))
 set-back x i k h =
     set-split x i k h
     ∙ rw (part-is i x, drop-drop 1 i x, drop-of-length-le (drop i x) {i = length x - i} (omega (arith, length-drop i x)), append-nil (drop (i + 1) x), add-one)

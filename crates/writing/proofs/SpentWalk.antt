@@ -8,7 +8,7 @@ use lib.ListN.{length, getD, set, length-append}
 use lib.Seq.{append-snoc}
 use Rattle.stream.specs.Types.{Ty, first-part, second-part}
 use Rattle.stream.specs.Types.Laws.{size-positive}
-use Rattle.stream.specs.Buffers.{front}
+use Rattle.stream.specs.Buffers.{at-front}
 use Rattle.stream.specs.Prefixes.{Prefix, Complete, whole-nothing, whole-cue, whole-level, whole-crossed, whole-beside, derivative}
 use Rattle.stream.specs.TypeFiles.{type-bytes}
 use Rattle.stream.specs.TypeFiles.Laws.{type-length}
@@ -140,7 +140,7 @@ module _ {slice lent whole now : List ℕ} {owed from written : ℕ} (spending :
   length-stays = spending .so-far .holds .long
 
   -- Where no prefix is owed any more all is written.
-  finished : owed ≡ 0 → (written ≡ length whole) × (now ≡ front whole lent)
+  finished : owed ≡ 0 → (written ≡ length whole) × (now ≡ at-front whole lent)
   finished z =
       let e = nothing-left (spending .pending) z in
       let same : spending .bytes ≡ whole = sym (append-nil (spending .bytes)) ∙ ap (λ l. spending .bytes ++ l) (sym e) ∙ spending .all in

@@ -3,13 +3,13 @@ use mathlib.Core.Path.{_≡_}
 use mathlib.Core.List.{List, _++_}
 use Prim.Native.Nat.{ℕ, _+_, _≤_}
 use lib.ListN.{length}
-use Rattle.stream.specs.Buffers.{front}
+use Rattle.stream.specs.Buffers.{at-front}
 pub mod Laws
 
 -- `bytes` have been written at the front of `lent`, which is `now` by now, if they have room there.
 pub record Holds (bytes lent now : List ℕ) : Type 0 where
   pub long : length now ≡ length lent
-  pub in-front : length bytes ≤ length lent → now ≡ front bytes lent
+  pub in-front : length bytes ≤ length lent → now ≡ at-front bytes lent
 
 -- `source` is written behind the first `written` bytes.
 pub record Appends (source : List ℕ) (written : ℕ) (now now-after : List ℕ) (end : ℕ) : Type 0 where

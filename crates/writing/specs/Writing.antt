@@ -5,7 +5,7 @@ use Prim.Native.Nat.{ℕ, _+_, _≤_, _<_}
 use lib.ListN.{length, getD}
 use Rattle.writing.specs.declared.Moved.{Moved}
 use Rattle.stream.specs.Types.{Ty, size}
-use Rattle.stream.specs.Buffers.{front}
+use Rattle.stream.specs.Buffers.{at-front}
 use Rattle.stream.specs.Prefixes.{Prefix, Complete, IsPrefix, empty-prefix, derivative, concat}
 use Rattle.stream.specs.TypeFiles.{type-bytes, type-file-bytes}
 use Rattle.stream.specs.SliceFiles.{prefix-bytes, slice-file-bytes}
@@ -21,7 +21,7 @@ pub record PrefixDue (bytes : List ℕ) (at : ℕ) (lent : List ℕ) : Type 0 wh
   pub room : width prefix ≤ length lent
 
 pub record PrefixWritten (bytes : List ℕ) (at : ℕ) (lent lent-after : List ℕ) (written : ℕ) : Type 0 where
-  pub each : (due : PrefixDue bytes at lent) → (written ≡ width (due .prefix)) × (lent-after ≡ front (prefix-bytes (due .prefix) []) lent)
+  pub each : (due : PrefixDue bytes at lent) → (written ≡ width (due .prefix)) × (lent-after ≡ at-front (prefix-bytes (due .prefix) []) lent)
 
 -- The kind of the type that a leaf of a slice leaves.
 abbrev pub leaf-left : ℕ → ℕ
@@ -45,7 +45,7 @@ pub record Moves (first-end second-end : ℕ) (bytes lent lent-after : List ℕ)
   pub first : moved .first ≡ first-end
   pub second : moved .second ≡ second-end
   pub written : moved .written ≡ length bytes
-  pub buffer : lent-after ≡ front bytes lent
+  pub buffer : lent-after ≡ at-front bytes lent
 
 pub record DerivativeWritten (types : List ℕ) (at : ℕ) (slice : List ℕ) (from : ℕ) (lent lent-after : List ℕ) (moved : Moved) : Type 0 where
   pub each : (due : DerivativeDue types at slice from lent)
@@ -61,7 +61,7 @@ pub record LeftFileDue (types : List ℕ) (at : ℕ) (slice : List ℕ) (left : 
   pub room : 2 + left ≤ length lent
 
 pub record LeftFileWritten (types : List ℕ) (at : ℕ) (slice : List ℕ) (left : ℕ) (lent lent-after : List ℕ) : Type 0 where
-  pub each : (due : LeftFileDue types at slice left lent) → lent-after ≡ front (type-file-bytes (derivative (due .type) (due .prefix))) lent
+  pub each : (due : LeftFileDue types at slice left lent) → lent-after ≡ at-front (type-file-bytes (derivative (due .type) (due .prefix))) lent
 
 -- A prefix, and one of what it leaves, in their bytes.
 pub record Follows (first : List ℕ) (at : ℕ) (second : List ℕ) (from : ℕ) (t : Ty) (p q : Prefix) : Type 0 where
@@ -98,7 +98,7 @@ pub record JoinedFileDue (first second : List ℕ) (joined : ℕ) (lent : List �
   pub room : 2 + joined ≤ length lent
 
 pub record JoinedFileWritten (first second : List ℕ) (joined : ℕ) (lent lent-after : List ℕ) : Type 0 where
-  pub each : (due : JoinedFileDue first second joined lent) → lent-after ≡ front (slice-file-bytes (concat (due .one) (due .other))) lent
+  pub each : (due : JoinedFileDue first second joined lent) → lent-after ≡ at-front (slice-file-bytes (concat (due .one) (due .other))) lent
 
 -- The kind that the empty prefix of a type begins with, by the type's kind.
 abbrev pub empty-kind : ℕ → ℕ
@@ -112,7 +112,7 @@ pub record EmptyDue (types : List ℕ) (at : ℕ) (lent : List ℕ) : Type 0 whe
 
 pub record EmptyWritten (types : List ℕ) (at : ℕ) (lent lent-after : List ℕ) (written : ℕ) : Type 0 where
   pub each : (due : EmptyDue types at lent)
-      → (written ≡ width (empty-prefix (due .type))) × (lent-after ≡ front (prefix-bytes (empty-prefix (due .type)) []) lent)
+      → (written ≡ width (empty-prefix (due .type))) × (lent-after ≡ at-front (prefix-bytes (empty-prefix (due .type)) []) lent)
 
 -- What the complete prefix at `at` leaves of a type is to be written on `lent`, which has room for it.
 pub record SpentDue (slice : List ℕ) (at : ℕ) (lent : List ℕ) : Type 0 where
@@ -125,4 +125,4 @@ pub record SpentDue (slice : List ℕ) (at : ℕ) (lent : List ℕ) : Type 0 whe
 pub record SpentWritten (slice : List ℕ) (at : ℕ) (lent lent-after : List ℕ) (written : ℕ) : Type 0 where
   pub each : (due : SpentDue slice at lent)
       → (written ≡ size (derivative (due .type) (due .prefix)))
-      × (lent-after ≡ front (type-bytes (derivative (due .type) (due .prefix)) []) lent)
+      × (lent-after ≡ at-front (type-bytes (derivative (due .type) (due .prefix)) []) lent)

@@ -11,7 +11,7 @@ ghost use lib.ListN.{length};
 ghost use mir.Val.{Fits};
 ghost use mir.Syntax.{w64};
 ghost use Rattle.stream.specs.Reading.{section-bytes};
-ghost use Rattle.stream.specs.Buffers.{front};
+ghost use Rattle.stream.specs.Buffers.{at-front};
 ghost use Rattle.writing.specs.Writing.{leaf-left, PrefixDue, PrefixWritten, DerivativeDue, DerivativeWritten, LeftFileDue, LeftFileWritten, LeafConcatDue, ConcatDue, ConcatWritten, JoinedFileDue, JoinedFileWritten, empty-kind, EmptyDue, EmptyWritten, SpentDue, SpentWritten};
 
 pub mod appending;
@@ -46,7 +46,7 @@ fn onward(moved: Moved, before: usize) -> Moved
 // Writes a section's count.
 fn put_count(count: usize, out: &mut [u8])
     requires { ⌜ (count ≤ 65535) × (2 ≤ length (now out)) ⌝ }
-    ensures { λ _. ⌜ now (out .exit) ≡ front (count / 256 ∷ count % 256 ∷ []) (now (out .entry)) ⌝ }
+    ensures { λ _. ⌜ now (out .exit) ≡ at-front (count / 256 ∷ count % 256 ∷ []) (now (out .entry)) ⌝ }
 {
     out[0] = (count / 256) as u8;
     out[1] = (count % 256) as u8;
@@ -55,7 +55,7 @@ fn put_count(count: usize, out: &mut [u8])
 // Copies all of `source`.
 pub fn copy(source: &[u8], out: &mut [u8])
     requires { ⌜ length (now source) ≤ length (now out) ⌝ }
-    ensures { λ _. ⌜ now (out .exit) ≡ front (now (source .entry)) (now (out .entry)) ⌝ }
+    ensures { λ _. ⌜ now (out .exit) ≡ at-front (now (source .entry)) (now (out .entry)) ⌝ }
 {
     let mut at = 0;
     while at < source.len() {
@@ -191,7 +191,7 @@ pub fn write_joined_file(first: &[u8], second: &[u8], joined: usize, out: &mut [
 // Writes the section whose body is all of `body`.
 pub fn write_section(body: &[u8], out: &mut [u8])
     requires { ⌜ (length (now body) ≤ 65535) × (2 + length (now body) ≤ length (now out)) ⌝ }
-    ensures { λ _. ⌜ now (out .exit) ≡ front (section-bytes (now (body .entry)) []) (now (out .entry)) ⌝ }
+    ensures { λ _. ⌜ now (out .exit) ≡ at-front (section-bytes (now (body .entry)) []) (now (out .entry)) ⌝ }
 {
     put_count(body.len(), out);
     copy(body, &mut out[2..]);

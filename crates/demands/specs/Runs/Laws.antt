@@ -19,10 +19,10 @@ use Rattle.stream.specs.SliceFiles.Laws.{slice-file-sound}
 use Rattle.node.specs.Nodes.{Node, Small, Allowed}
 use Rattle.node.specs.Feeding.{Feeds, sends, leaves}
 use Rattle.node.specs.Nodes.Laws.{output-small}
-use Rattle.node.specs.Feeding.Laws.{Fed as FedLaws, fed as fed-laws, feeds-only, leaves-allowed}
+use Rattle.node.specs.Feeding.Laws.{Preserved, preserved, feeds-only, leaves-allowed}
 use Rattle.node.specs.Feeding.Lists.{Pieces, no-more, piece, concat-all, derivative-all, sends-all, leaves-all, sends-pieces, concat-all-is-prefix, derivative-concat-all, sends-concat-all, leaves-concat-all, leaves-all-allowed}
 use Rattle.node.specs.PatchFiles.{patch-file-bytes, PatchFile}
-use Rattle.stream.specs.Buffers.{front}
+use Rattle.stream.specs.Buffers.{at-front}
 use Rattle.meaning.specs.declared.Fed.{Fed}
 use Rattle.meaning.specs.Answers.{check, left, FedFiles, feed}
 use Rattle.meaning.specs.Answers.Laws.{check-answers, patch-checked, left-answers, join-answers, fed-files, feed-of-patch, feed-answers, first-section-of-patch}
@@ -105,8 +105,8 @@ as-one-by {s} {t} {n} r (p ∷ ps) a (piece h k) e d o l =
           ∙ sym (ap check e ∙ check-answers (leaves-all-allowed (p ∷ ps) a (piece h k)));
     }
   where
-    x : FedLaws s n t p
-    x = fed-laws (a .types) h
+    x : Preserved s n t p
+    x = preserved (a .types) h
 
     small : Small t
     small = output-small (a .types) (a .fits)
@@ -236,7 +236,7 @@ runs-alike (c ∷ calls) (accepted-call {answer = a} {output = o} {left = l} h x
 
 -- Two runs of the same stream, however it is cut, leave the same patch and send the same joined output.
 
-same-front : (x y lent : List ℕ) → length x ≡ length y → front x lent ≡ front y lent → x ≡ y
+same-front : (x y lent : List ℕ) → length x ≡ length y → at-front x lent ≡ at-front y lent → x ≡ y
 same-front x y lent n e =
     sym (take-append-seam x (drop (length x) lent)) ∙ ap (take (length x)) e
     ∙ rw n (take-append-seam y (drop (length y) lent))

@@ -26,7 +26,7 @@ use Rattle.stream.specs.SliceFiles.Laws.{slice-file-complete, slice-file-sound,
 use Rattle.node.specs.Nodes.{Node, Small, Allowed}
 use Rattle.node.specs.Nodes.Laws.{output-small}
 use Rattle.node.specs.Feeding.{sends, leaves}
-use Rattle.node.specs.Feeding.Laws.{fed, leaves-allowed}
+use Rattle.node.specs.Feeding.Laws.{preserved, leaves-allowed}
 use Rattle.node.specs.PatchFiles.{Checked, node-bytes, patch-file, patch-file-bytes, PatchFile}
 use Rattle.node.specs.PatchFiles.Laws.{patch-file-complete, patch-file-sound, patch-file-accepted, patch-file-length, patch-file-is-bytes, patch-file-refusals}
 use Rattle.meaning.specs.Answers.{check, admit, left, join, FedFiles, feed, with-room, fits-both, patch-numbers, admit-numbers, feed-numbers, contains, Listed, first-section}
@@ -335,7 +335,7 @@ feed-sized slice f b = record { sized = λ w e. go w (f .input) (f .node) (f .ou
         let h = slice-file-sound s slice (x .0) b (x .1) .1 in
         let d : fed-files s n (x .0) ≡ w = let z = x .2 in cc in
         rw (← d)
-        (record { output = slice-sized ((fed (a .types) h) .sent) (output-small (a .types) (a .fits)); patch = patch-sized (leaves-allowed a h) })
+        (record { output = slice-sized ((preserved (a .types) h) .sent) (output-small (a .types) (a .fits)); patch = patch-sized (leaves-allowed a h) })
 
 -- An accepted feed was of a patch file.
 pub fed-patch : (patch slice : List ℕ) (w : FedFiles) → Bytes patch → feed patch slice ≡ accepted w → PatchFile patch

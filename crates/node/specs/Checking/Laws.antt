@@ -12,7 +12,7 @@ use Rattle.stream.specs.Levels.{level-limit}
 use Rattle.stream.specs.Reading.{Result, accepted, require, go-on}
 use Rattle.stream.specs.Reading.Refusals.{Refusals, go-on-refusals, require-refusals}
 use Rattle.stream.specs.Reading.Laws.{go-on-accepted, require-accepted}
-use Rattle.node.specs.Nodes.{Node, pass, silent, emit-cue, emit-level, both, left, right, first, second, then, chain, regroup-right, regroup-left, spread, front, Types, types-pass, types-silent, types-cue, types-level, types-both, types-left, types-right, types-first, types-second, types-then, types-chain, types-regroup-right, types-regroup-left, types-spread, types-front, output-type, Small, Fits}
+use Rattle.node.specs.Nodes.{Node, pass, silent, emit-cue, emit-level, both, left-side, right-side, first, second, then, chain, regroup-right, regroup-left, spread, front, Takes, takes-pass, takes-silent, takes-cue, takes-level, takes-both, takes-left, takes-right, takes-first, takes-second, takes-then, takes-chain, takes-regroup-right, takes-regroup-left, takes-spread, takes-front, output-type, Small, Fits}
 use Rattle.node.specs.Nodes.Laws.{output-type-is}
 use Rattle.node.specs.Checking.{gives, typing}
 
@@ -23,8 +23,8 @@ Carries (silent n) = Small n
 Carries emit-cue = Unit
 Carries (emit-level v) = v < level-limit
 Carries (both n m) = Carries n × Carries m
-Carries left = Unit
-Carries right = Unit
+Carries left-side = Unit
+Carries right-side = Unit
 Carries first = Unit
 Carries second = Unit
 Carries (then n m) = Carries n × Carries m
@@ -34,22 +34,22 @@ Carries regroup-left = Unit
 Carries spread = Unit
 Carries front = Unit
 
-pub types-carries : {s t : Ty} {n : Node} → Types s n t → Fits s n → Carries n
-types-carries types-pass f = tt
-types-carries (types-silent z) f = f
-types-carries types-cue f = tt
-types-carries (types-level v) f = v
-types-carries (types-both d e) f = (types-carries d f.0, types-carries e f.1)
-types-carries types-left f = tt
-types-carries types-right f = tt
-types-carries types-first f = tt
-types-carries types-second f = tt
-types-carries (types-then d e) f = (types-carries d f.0, types-carries e f.1)
-types-carries (types-chain d e) f = (types-carries d f.0, types-carries e (rw (output-type-is d) at f.1))
-types-carries types-regroup-right f = tt
-types-carries types-regroup-left f = tt
-types-carries types-spread f = tt
-types-carries types-front f = tt
+pub types-carries : {s t : Ty} {n : Node} → Takes s n t → Fits s n → Carries n
+types-carries takes-pass f = tt
+types-carries (takes-silent z) f = f
+types-carries takes-cue f = tt
+types-carries (takes-level v) f = v
+types-carries (takes-both d e) f = (types-carries d f.0, types-carries e f.1)
+types-carries takes-left f = tt
+types-carries takes-right f = tt
+types-carries takes-first f = tt
+types-carries takes-second f = tt
+types-carries (takes-then d e) f = (types-carries d f.0, types-carries e f.1)
+types-carries (takes-chain d e) f = (types-carries d f.0, types-carries e (rw (output-type-is d) at f.1))
+types-carries takes-regroup-right f = tt
+types-carries takes-regroup-left f = tt
+types-carries takes-spread f = tt
+types-carries takes-front f = tt
 
 -- The steps of the pass
 
@@ -66,43 +66,43 @@ gives-small {t} h = rw (le-leb (size t) type-limit h)
 
 -- What the pass accepts is typed and fits
 
-pub record Typed (s : Ty) (n : Node) (t : Ty) : Type 0 where
-  pub types : Types s n t
+pub record WellTyped (s : Ty) (n : Node) (t : Ty) : Type 0 where
+  pub types : Takes s n t
   pub fits : Fits s n
 
-given : {s u : Ty} {n : Node} (t : Ty) → gives u ≡ accepted t → ((h : u ≡ t) → Small u → Typed s n t) → Typed s n t
+given : {s u : Ty} {n : Node} (t : Ty) → gives u ≡ accepted t → ((h : u ≡ t) → Small u → WellTyped s n t) → WellTyped s n t
 given {u = u} t e k = let g = gives-accepted u t e in k (g .0) (rw (g .0) (g .1))
 
-then-types : {u v : Ty} {n m : Node} (s : Ty) → has-kind 3 s ≡ true → Types (first-part s) n u → Types (second-part s) m v → Types s (then n m) (seq u v)
-then-types s e d f = rw (made-of 3 s e) (types-then d f)
+then-types : {u v : Ty} {n m : Node} (s : Ty) → has-kind 3 s ≡ true → Takes (first-part s) n u → Takes (second-part s) m v → Takes s (then n m) (seq u v)
+then-types s e d f = rw (made-of 3 s e) (takes-then d f)
 
-pub typing-sound : (s : Ty) (n : Node) (t : Ty) → Carries n → typing s n ≡ accepted t → Typed s n t
+pub typing-sound : (s : Ty) (n : Node) (t : Ty) → Carries n → typing s n ≡ accepted t → WellTyped s n t
 unfolding typing output-type
-typing-sound s pass t v e = given t e (λ h k. rw (← h) (record { types = types-pass; fits = k }))
+typing-sound s pass t v e = given t e (λ h k. rw (← h) (record { types = takes-pass; fits = k }))
 typing-sound s (silent n) t v e =
     let r = require-accepted (nullable n) NotNullable (gives n) t e in
-    given t (r .1) (λ h k. rw (← h) (record { types = types-silent (nullable-sound n (r .0)); fits = k }))
-typing-sound s emit-cue t v e = given t e (λ h k. rw (← h) (record { types = types-cue; fits = k }))
-typing-sound s (emit-level x) t v e = given t e (λ h k. rw (← h) (record { types = types-level v; fits = k }))
+    given t (r .1) (λ h k. rw (← h) (record { types = takes-silent (nullable-sound n (r .0)); fits = k }))
+typing-sound s emit-cue t v e = given t e (λ h k. rw (← h) (record { types = takes-cue; fits = k }))
+typing-sound s (emit-level x) t v e = given t e (λ h k. rw (← h) (record { types = takes-level v; fits = k }))
 typing-sound s (both n m) t v e =
     let x = go-on-accepted (typing s n) (λ u. go-on (typing s m) (λ r. gives (par u r))) t e in
     let y = go-on-accepted (typing s m) (λ r. gives (par (x .0) r)) t (x .2) in
     let a = typing-sound s n (x .0) (v .0) (x .1) in
     let b = typing-sound s m (y .0) (v .1) (y .1) in
     given t (y .2) (λ h k. rw (← h)
-    (record { types = types-both a.types b.types; fits = (a.fits, b.fits, rw (output-type-is a.types, output-type-is b.types) k) }))
-typing-sound s left t v e =
+    (record { types = takes-both a.types b.types; fits = (a.fits, b.fits, rw (output-type-is a.types, output-type-is b.types) k) }))
+typing-sound s left-side t v e =
     let r = require-accepted (has-kind 4 s) WrongShape (gives (first-part s)) t e in
-    given t (r .1) (λ h k. rw (← h) (record { types = rw (made-of 4 s (r .0)) types-left; fits = k }))
-typing-sound s right t v e =
+    given t (r .1) (λ h k. rw (← h) (record { types = rw (made-of 4 s (r .0)) takes-left; fits = k }))
+typing-sound s right-side t v e =
     let r = require-accepted (has-kind 4 s) WrongShape (gives (second-part s)) t e in
-    given t (r .1) (λ h k. rw (← h) (record { types = rw (made-of 4 s (r .0)) types-right; fits = k }))
+    given t (r .1) (λ h k. rw (← h) (record { types = rw (made-of 4 s (r .0)) takes-right; fits = k }))
 typing-sound s first t v e =
     let r = require-accepted (has-kind 3 s) WrongShape (gives (first-part s)) t e in
-    given t (r .1) (λ h k. rw (← h) (record { types = rw (made-of 3 s (r .0)) types-first; fits = k }))
+    given t (r .1) (λ h k. rw (← h) (record { types = rw (made-of 3 s (r .0)) takes-first; fits = k }))
 typing-sound s second t v e =
     let r = require-accepted (has-kind 3 s) WrongShape (gives (second-part s)) t e in
-    given t (r .1) (λ h k. rw (← h) (record { types = rw (made-of 3 s (r .0)) types-second; fits = k }))
+    given t (r .1) (λ h k. rw (← h) (record { types = rw (made-of 3 s (r .0)) takes-second; fits = k }))
 typing-sound s (then n m) t v e =
     let r = require-accepted (has-kind 3 s) WrongShape
     (go-on (typing (first-part s) n) (λ u. go-on (typing (second-part s) m) (λ w. gives (seq u w)))) t e in
@@ -121,13 +121,13 @@ typing-sound s (chain n m) t v e =
     let a = typing-sound s n (x .0) (v .0) (x .1) in
     let b = typing-sound (x .0) m (y .0) (v .1) (y .1) in
     given t (y .2) (λ h k. rw (← h)
-    (record { types = types-chain a.types b.types; fits = rw (output-type-is a.types) (a.fits, b.fits, rw (output-type-is b.types) k) }))
+    (record { types = takes-chain a.types b.types; fits = rw (output-type-is a.types) (a.fits, b.fits, rw (output-type-is b.types) k) }))
 typing-sound s regroup-right t v e =
     let c = has-kind 3 s && has-kind 3 (first-part s) in
     let r = require-accepted c WrongShape (gives (seq (first-part (first-part s)) (seq (second-part (first-part s)) (second-part s)))) t e in
     given t (r .1) (λ h k. rw (← h)
     (record {
-      types = rw (made-of 3 s (and-left (has-kind 3 s) _ (r .0)), made-of 3 (first-part s) (and-right (has-kind 3 s) _ (r .0))) types-regroup-right;
+      types = rw (made-of 3 s (and-left (has-kind 3 s) _ (r .0)), made-of 3 (first-part s) (and-right (has-kind 3 s) _ (r .0))) takes-regroup-right;
       fits = k;
     }))
 typing-sound s regroup-left t v e =
@@ -135,7 +135,7 @@ typing-sound s regroup-left t v e =
     let r = require-accepted c WrongShape (gives (seq (seq (first-part s) (first-part (second-part s))) (second-part (second-part s)))) t e in
     given t (r .1) (λ h k. rw (← h)
     (record {
-      types = rw (made-of 3 s (and-left (has-kind 3 s) _ (r .0)), made-of 3 (second-part s) (and-right (has-kind 3 s) _ (r .0))) types-regroup-left;
+      types = rw (made-of 3 s (and-left (has-kind 3 s) _ (r .0)), made-of 3 (second-part s) (and-right (has-kind 3 s) _ (r .0))) takes-regroup-left;
       fits = k;
     }))
 typing-sound s spread t v e =
@@ -144,35 +144,35 @@ typing-sound s spread t v e =
     (gives (par (seq (first-part s) (first-part (second-part s))) (seq (first-part s) (second-part (second-part s))))) t e in
     given t (r .1) (λ h k. rw (← h)
     (record {
-      types = rw (made-of 3 s (and-left (has-kind 3 s) _ (r .0)), made-of 4 (second-part s) (and-right (has-kind 3 s) _ (r .0))) types-spread;
+      types = rw (made-of 3 s (and-left (has-kind 3 s) _ (r .0)), made-of 4 (second-part s) (and-right (has-kind 3 s) _ (r .0))) takes-spread;
       fits = k;
     }))
-typing-sound s front t v e = given t e (λ h k. rw (← h) (record { types = types-front; fits = k }))
+typing-sound s front t v e = given t e (λ h k. rw (← h) (record { types = takes-front; fits = k }))
 
 -- What is typed and fits is accepted
 
-pub typing-complete : {s t : Ty} {n : Node} → Types s n t → Fits s n → typing s n ≡ accepted t
+pub typing-complete : {s t : Ty} {n : Node} → Takes s n t → Fits s n → typing s n ≡ accepted t
 unfolding typing output-type
-typing-complete types-pass f = gives-small f
-typing-complete (types-silent z) f = rw (nullable-complete z) (gives-small f)
-typing-complete types-cue f = gives-small f
-typing-complete (types-level v) f = gives-small f
-typing-complete (types-both d e) f =
+typing-complete takes-pass f = gives-small f
+typing-complete (takes-silent z) f = rw (nullable-complete z) (gives-small f)
+typing-complete takes-cue f = gives-small f
+typing-complete (takes-level v) f = gives-small f
+typing-complete (takes-both d e) f =
     rw (typing-complete d f.0, typing-complete e f.1) (gives-small (rw (output-type-is d, output-type-is e) at f.2))
-typing-complete types-left f = gives-small f
-typing-complete types-right f = gives-small f
-typing-complete types-first f = gives-small f
-typing-complete types-second f = gives-small f
-typing-complete (types-then d e) f =
+typing-complete takes-left f = gives-small f
+typing-complete takes-right f = gives-small f
+typing-complete takes-first f = gives-small f
+typing-complete takes-second f = gives-small f
+typing-complete (takes-then d e) f =
     rw (typing-complete d f.0, typing-complete e f.1) (gives-small (rw (output-type-is d, output-type-is e) at f.2))
-typing-complete (types-chain d e) f =
+typing-complete (takes-chain d e) f =
     let g = rw (output-type-is d) at f.1 in
     let k = rw (output-type-is d, output-type-is e) at f.2 in
     rw (typing-complete d f.0, typing-complete e g) (gives-small k)
-typing-complete types-regroup-right f = gives-small f
-typing-complete types-regroup-left f = gives-small f
-typing-complete types-spread f = gives-small f
-typing-complete types-front f = gives-small f
+typing-complete takes-regroup-right f = gives-small f
+typing-complete takes-regroup-left f = gives-small f
+typing-complete takes-spread f = gives-small f
+typing-complete takes-front f = gives-small f
 
 -- The refusals of the pass are 4, 6 and 7.
 module _ (P : Fault → Type 0) (large : P TypeTooLarge) (null : P NotNullable) (shape : P WrongShape) where
@@ -192,8 +192,8 @@ module _ (P : Fault → Type 0) (large : P TypeTooLarge) (null : P NotNullable) 
   typing-refusals s (both n m) =
       go-on-refusals P (typing s n) _ (typing-refusals s n)
       (λ t. go-on-refusals P (typing s m) _ (typing-refusals s m) (λ r. gives-refusals (par t r)))
-  typing-refusals s left = shaped (has-kind 4 s) _ (gives-refusals (first-part s))
-  typing-refusals s right = shaped (has-kind 4 s) _ (gives-refusals (second-part s))
+  typing-refusals s left-side = shaped (has-kind 4 s) _ (gives-refusals (first-part s))
+  typing-refusals s right-side = shaped (has-kind 4 s) _ (gives-refusals (second-part s))
   typing-refusals s first = shaped (has-kind 3 s) _ (gives-refusals (first-part s))
   typing-refusals s second = shaped (has-kind 3 s) _ (gives-refusals (second-part s))
   typing-refusals s (then n m) =

@@ -3,7 +3,7 @@ use mathlib.Core.Path.{_≡_, refl}
 use mathlib.Core.List.{List, [], _∷_}
 use Rattle.stream.specs.Types.{Ty, empty, cue, level, seq, par}
 use Rattle.stream.specs.Prefixes.{Prefix, nothing, cue-awaited, cue-come, level-awaited, level-come, in-first, crossed, beside}
-use Rattle.node.specs.Nodes.{Node, pass, silent, emit-cue, emit-level, both, left, right, first, second, then, chain, regroup-right, regroup-left, spread, front}
+use Rattle.node.specs.Nodes.{Node, pass, silent, emit-cue, emit-level, both, left-side, right-side, first, second, then, chain, regroup-right, regroup-left, spread, front}
 use Rattle.node.specs.Feeding.{sends, leaves}
 use Rattle.node.specs.Computing.{node-definitions}
 
@@ -25,8 +25,8 @@ table =
     ∷ row cue emit-cue cue-awaited cue-come (silent empty)
     ∷ row cue (emit-level 7) cue-awaited (level-come 7) (silent empty)
     ∷ row cue (both emit-cue pass) cue-awaited (beside cue-come cue-awaited) (both (silent empty) pass)
-    ∷ row (par cue level) left (beside cue-come level-awaited) cue-come left
-    ∷ row (par cue level) right (beside cue-come level-awaited) level-awaited right
+    ∷ row (par cue level) left-side (beside cue-come level-awaited) cue-come left-side
+    ∷ row (par cue level) right-side (beside cue-come level-awaited) level-awaited right-side
     ∷ row (seq cue cue) first (in-first cue-come) cue-come first
     ∷ row (seq (par cue cue) cue) first (crossed (beside cue-come cue-come) cue-awaited) (beside cue-come cue-come) (silent (par empty empty))
     ∷ row (seq cue (seq level cue)) second (in-first cue-come) (in-first level-awaited) second

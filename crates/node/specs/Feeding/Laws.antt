@@ -6,100 +6,100 @@ use native.Mathlib.Nat.{le-trans}
 use Rattle.stream.specs.Types.{Ty, size, null-empty}
 use Rattle.stream.specs.Prefixes.{Prefix, in-first, crossed, beside, Complete, whole-nothing, whole-cue, whole-level, whole-crossed, whole-beside, IsPrefix, of-empty, of-cue-come, of-level-come, of-first, of-crossed, of-beside, derivative, concat}
 use Rattle.stream.specs.Prefixes.Laws.{crossed-second, beside-first, beside-second, empty-prefix-is-prefix, empty-prefix-complete, derivative-empty, complete→nullable, derivative-size, derivative-concat, concat-empty-left, concat-empty-right}
-use Rattle.node.specs.Nodes.{Node, silent, both, then, chain, Types, types-pass, types-silent, types-cue, types-level, types-both, types-left, types-right, types-first, types-second, types-then, types-chain, types-regroup-right, types-regroup-left, types-spread, types-front, output-type, count, Fits, Allowed}
+use Rattle.node.specs.Nodes.{Node, silent, both, then, chain, Takes, takes-pass, takes-silent, takes-cue, takes-level, takes-both, takes-left, takes-right, takes-first, takes-second, takes-then, takes-chain, takes-regroup-right, takes-regroup-left, takes-spread, takes-front, output-type, count, Fits, Allowed}
 use Rattle.node.specs.Nodes.Laws.{output-type-is}
 use Rattle.node.specs.Feeding.{Feeds, feeds-pass, feeds-silent, feeds-cue, feeds-level, feeds-both, feeds-left, feeds-right, feeds-first-coming, feeds-first-crossed, feeds-second-coming, feeds-second-crossed, feeds-then-coming, feeds-then-crossed, feeds-chain, feeds-regroup-right-in-first, feeds-regroup-right-in-second, feeds-regroup-right-in-third, feeds-regroup-left-in-first, feeds-regroup-left-in-second, feeds-regroup-left-in-third, feeds-spread-coming, feeds-spread-crossed, feeds-front, sends, leaves}
 
 -- A fed node: its output is a prefix of the output type, complete where the input is, and the node left takes what is left
 -- of the input type to what is left of the output type.
-pub record Fed (s : Ty) (n : Node) (t : Ty) (p : Prefix) : Type 0 where
+pub record Preserved (s : Ty) (n : Node) (t : Ty) (p : Prefix) : Type 0 where
   pub sent : IsPrefix t (sends s n p)
   pub whole : Complete p → Complete (sends s n p)
-  pub types : Types (derivative s p) (leaves s n p) (derivative t (sends s n p))
+  pub types : Takes (derivative s p) (leaves s n p) (derivative t (sends s n p))
 
-pub fed : {s t : Ty} {n : Node} {p : Prefix} → Types s n t → IsPrefix s p → Fed s n t p
+pub preserved : {s t : Ty} {n : Node} {p : Prefix} → Takes s n t → IsPrefix s p → Preserved s n t p
 unfolding sends leaves derivative output-type
-fed types-pass h = record { sent = h; whole = λ c. c; types = types-pass }
-fed (types-silent {n = t} z) h =
-    record { sent = empty-prefix-is-prefix t; whole = λ c. empty-prefix-complete z; types = rw (derivative-empty t) (types-silent z) }
-fed types-cue h = record { sent = of-cue-come; whole = λ c. whole-cue; types = types-silent null-empty }
-fed (types-level v) h = record { sent = of-level-come v; whole = λ c. whole-level; types = types-silent null-empty }
-fed (types-both d e) h =
-    let a = fed d h in
-    let b = fed e h in
-    record { sent = of-beside a.sent b.sent; whole = λ c. whole-beside (a.whole c) (b.whole c); types = types-both a.types b.types }
-fed types-left (of-beside h k) = record { sent = h; whole = λ c. beside-first c; types = types-left }
-fed types-right (of-beside h k) = record { sent = k; whole = λ c. beside-second c; types = types-right }
-fed types-first (of-first h) = record { sent = h; whole = λ c. elim c [ ]; types = types-first }
-fed types-first (of-crossed h b k) = record { sent = h; whole = λ c. b; types = types-silent (complete→nullable h b) }
-fed (types-second {t = t}) (of-first h) =
-    record { sent = empty-prefix-is-prefix t; whole = λ c. elim c [ ]; types = rw (derivative-empty t) types-second }
-fed types-second (of-crossed h b k) = record { sent = k; whole = λ c. crossed-second c; types = types-pass }
-fed (types-then d e) (of-first h) =
-    let a = fed d h in
-    record { sent = of-first a.sent; whole = λ c. elim c [ ]; types = types-then a.types e }
-fed (types-then d e) (of-crossed h b k) =
-    let x = fed d h in
-    let y = fed e k in
+preserved takes-pass h = record { sent = h; whole = λ c. c; types = takes-pass }
+preserved (takes-silent {n = t} z) h =
+    record { sent = empty-prefix-is-prefix t; whole = λ c. empty-prefix-complete z; types = rw (derivative-empty t) (takes-silent z) }
+preserved takes-cue h = record { sent = of-cue-come; whole = λ c. whole-cue; types = takes-silent null-empty }
+preserved (takes-level v) h = record { sent = of-level-come v; whole = λ c. whole-level; types = takes-silent null-empty }
+preserved (takes-both d e) h =
+    let a = preserved d h in
+    let b = preserved e h in
+    record { sent = of-beside a.sent b.sent; whole = λ c. whole-beside (a.whole c) (b.whole c); types = takes-both a.types b.types }
+preserved takes-left (of-beside h k) = record { sent = h; whole = λ c. beside-first c; types = takes-left }
+preserved takes-right (of-beside h k) = record { sent = k; whole = λ c. beside-second c; types = takes-right }
+preserved takes-first (of-first h) = record { sent = h; whole = λ c. elim c [ ]; types = takes-first }
+preserved takes-first (of-crossed h b k) = record { sent = h; whole = λ c. b; types = takes-silent (complete→nullable h b) }
+preserved (takes-second {t = t}) (of-first h) =
+    record { sent = empty-prefix-is-prefix t; whole = λ c. elim c [ ]; types = rw (derivative-empty t) takes-second }
+preserved takes-second (of-crossed h b k) = record { sent = k; whole = λ c. crossed-second c; types = takes-pass }
+preserved (takes-then d e) (of-first h) =
+    let a = preserved d h in
+    record { sent = of-first a.sent; whole = λ c. elim c [ ]; types = takes-then a.types e }
+preserved (takes-then d e) (of-crossed h b k) =
+    let x = preserved d h in
+    let y = preserved e k in
     record { sent = of-crossed x.sent (x.whole b) y.sent; whole = λ c. whole-crossed (y.whole (crossed-second c)); types = y.types }
-fed (types-chain d e) h =
-    let a = fed d h in
-    let b = fed e a.sent in
+preserved (takes-chain d e) h =
+    let a = preserved d h in
+    let b = preserved e a.sent in
     record {
       sent = rw (output-type-is d) b.sent;
       whole = λ c. rw (output-type-is d) (b.whole (a.whole c));
-      types = rw (output-type-is d) (types-chain a.types b.types);
+      types = rw (output-type-is d) (takes-chain a.types b.types);
     }
-fed types-regroup-right (of-first (of-first h)) = record { sent = of-first h; whole = λ c. elim c [ ]; types = types-regroup-right }
-fed types-regroup-right (of-first (of-crossed h b k)) =
-    record { sent = of-crossed h b (of-first k); whole = λ c. elim c [ ]; types = types-pass }
-fed types-regroup-right (of-crossed (of-crossed h b k) (whole-crossed d) l) =
-    record { sent = of-crossed h b (of-crossed k d l); whole = λ c. whole-crossed (whole-crossed (crossed-second c)); types = types-pass }
-fed types-regroup-left (of-first h) = record { sent = of-first (of-first h); whole = λ c. elim c [ ]; types = types-regroup-left }
-fed types-regroup-left (of-crossed h b (of-first k)) =
-    record { sent = of-first (of-crossed h b k); whole = λ c. elim (crossed-second c) [ ]; types = types-pass }
-fed types-regroup-left (of-crossed h b (of-crossed k d l)) =
+preserved takes-regroup-right (of-first (of-first h)) = record { sent = of-first h; whole = λ c. elim c [ ]; types = takes-regroup-right }
+preserved takes-regroup-right (of-first (of-crossed h b k)) =
+    record { sent = of-crossed h b (of-first k); whole = λ c. elim c [ ]; types = takes-pass }
+preserved takes-regroup-right (of-crossed (of-crossed h b k) (whole-crossed d) l) =
+    record { sent = of-crossed h b (of-crossed k d l); whole = λ c. whole-crossed (whole-crossed (crossed-second c)); types = takes-pass }
+preserved takes-regroup-left (of-first h) = record { sent = of-first (of-first h); whole = λ c. elim c [ ]; types = takes-regroup-left }
+preserved takes-regroup-left (of-crossed h b (of-first k)) =
+    record { sent = of-first (of-crossed h b k); whole = λ c. elim (crossed-second c) [ ]; types = takes-pass }
+preserved takes-regroup-left (of-crossed h b (of-crossed k d l)) =
     record {
       sent = of-crossed (of-crossed h b k) (whole-crossed d) l;
       whole = λ c. whole-crossed (crossed-second (crossed-second c));
-      types = types-pass;
+      types = takes-pass;
     }
-fed types-spread (of-first h) = record { sent = of-beside (of-first h) (of-first h); whole = λ c. elim c [ ]; types = types-spread }
-fed types-spread (of-crossed h b (of-beside k l)) =
+preserved takes-spread (of-first h) = record { sent = of-beside (of-first h) (of-first h); whole = λ c. elim c [ ]; types = takes-spread }
+preserved takes-spread (of-crossed h b (of-beside k l)) =
     record {
       sent = of-beside (of-crossed h b k) (of-crossed h b l);
       whole = λ c. whole-beside (whole-crossed (beside-first (crossed-second c))) (whole-crossed (beside-second (crossed-second c)));
-      types = types-pass;
+      types = takes-pass;
     }
-fed types-front h = record { sent = of-crossed of-empty whole-nothing h; whole = λ c. whole-crossed c; types = types-pass }
+preserved takes-front h = record { sent = of-crossed of-empty whole-nothing h; whole = λ c. whole-crossed c; types = takes-pass }
 
 -- The functions are the rules: they give an outcome of the rules, and the rules have no other.
 
-pub feeds : {s t : Ty} {n : Node} {p : Prefix} → Types s n t → IsPrefix s p → Feeds s n p (sends s n p) (leaves s n p)
+pub feeds : {s t : Ty} {n : Node} {p : Prefix} → Takes s n t → IsPrefix s p → Feeds s n p (sends s n p) (leaves s n p)
 unfolding sends leaves
-feeds types-pass h = feeds-pass
-feeds (types-silent z) h = feeds-silent
-feeds types-cue h = feeds-cue
-feeds (types-level v) h = feeds-level
-feeds (types-both d e) h = feeds-both (feeds d h) (feeds e h)
-feeds types-left (of-beside h k) = feeds-left
-feeds types-right (of-beside h k) = feeds-right
-feeds types-first (of-first h) = feeds-first-coming
-feeds types-first (of-crossed h c k) = feeds-first-crossed
-feeds types-second (of-first h) = feeds-second-coming
-feeds types-second (of-crossed h c k) = feeds-second-crossed
-feeds (types-then d e) (of-first h) = feeds-then-coming (feeds d h)
-feeds (types-then d e) (of-crossed h c k) = feeds-then-crossed (feeds d h) (feeds e k)
-feeds (types-chain d e) h = rw (output-type-is d) (feeds-chain d (feeds d h) (feeds e ((fed d h) .sent)))
-feeds types-regroup-right (of-first (of-first h)) = feeds-regroup-right-in-first
-feeds types-regroup-right (of-first (of-crossed h c k)) = feeds-regroup-right-in-second
-feeds types-regroup-right (of-crossed (of-crossed h c k) d l) = feeds-regroup-right-in-third
-feeds types-regroup-left (of-first h) = feeds-regroup-left-in-first
-feeds types-regroup-left (of-crossed h c (of-first k)) = feeds-regroup-left-in-second
-feeds types-regroup-left (of-crossed h c (of-crossed k d l)) = feeds-regroup-left-in-third
-feeds types-spread (of-first h) = feeds-spread-coming
-feeds types-spread (of-crossed h c (of-beside k l)) = feeds-spread-crossed
-feeds types-front h = feeds-front
+feeds takes-pass h = feeds-pass
+feeds (takes-silent z) h = feeds-silent
+feeds takes-cue h = feeds-cue
+feeds (takes-level v) h = feeds-level
+feeds (takes-both d e) h = feeds-both (feeds d h) (feeds e h)
+feeds takes-left (of-beside h k) = feeds-left
+feeds takes-right (of-beside h k) = feeds-right
+feeds takes-first (of-first h) = feeds-first-coming
+feeds takes-first (of-crossed h c k) = feeds-first-crossed
+feeds takes-second (of-first h) = feeds-second-coming
+feeds takes-second (of-crossed h c k) = feeds-second-crossed
+feeds (takes-then d e) (of-first h) = feeds-then-coming (feeds d h)
+feeds (takes-then d e) (of-crossed h c k) = feeds-then-crossed (feeds d h) (feeds e k)
+feeds (takes-chain d e) h = rw (output-type-is d) (feeds-chain d (feeds d h) (feeds e ((preserved d h) .sent)))
+feeds takes-regroup-right (of-first (of-first h)) = feeds-regroup-right-in-first
+feeds takes-regroup-right (of-first (of-crossed h c k)) = feeds-regroup-right-in-second
+feeds takes-regroup-right (of-crossed (of-crossed h c k) d l) = feeds-regroup-right-in-third
+feeds takes-regroup-left (of-first h) = feeds-regroup-left-in-first
+feeds takes-regroup-left (of-crossed h c (of-first k)) = feeds-regroup-left-in-second
+feeds takes-regroup-left (of-crossed h c (of-crossed k d l)) = feeds-regroup-left-in-third
+feeds takes-spread (of-first h) = feeds-spread-coming
+feeds takes-spread (of-crossed h c (of-beside k l)) = feeds-spread-crossed
+feeds takes-front h = feeds-front
 
 -- Two outcomes of a feed that are the same.
 pub record Same (o u : Prefix) (n m : Node) : Type 0 where
@@ -147,127 +147,127 @@ feeds-only feeds-spread-crossed = same
 feeds-only feeds-front = same
 
 -- Feeding a joined prefix is feeding its two parts.
-pub feed-concat : {s t : Ty} {n : Node} {p : Prefix} (q : Prefix) → Types s n t → IsPrefix s p → IsPrefix (derivative s p) q
+pub feed-concat : {s t : Ty} {n : Node} {p : Prefix} (q : Prefix) → Takes s n t → IsPrefix s p → IsPrefix (derivative s p) q
     → Same (sends s n (concat p q)) (concat (sends s n p) (sends (derivative s p) (leaves s n p) q))
     (leaves s n (concat p q)) (leaves (derivative s p) (leaves s n p) q)
 unfolding sends leaves derivative concat output-type
-feed-concat q types-pass h k = same
-feed-concat q (types-silent {n = t} z) h k = record { sent = sym (concat-empty-left (empty-prefix-is-prefix t)); node = refl }
-feed-concat q types-cue h k = same
-feed-concat q (types-level v) h k = same
-feed-concat q (types-both d e) h k =
+feed-concat q takes-pass h k = same
+feed-concat q (takes-silent {n = t} z) h k = record { sent = sym (concat-empty-left (empty-prefix-is-prefix t)); node = refl }
+feed-concat q takes-cue h k = same
+feed-concat q (takes-level v) h k = same
+feed-concat q (takes-both d e) h k =
     let a = feed-concat q d h k in
     let b = feed-concat q e h k in
     record { sent = ap₂ beside a.sent b.sent; node = ap₂ both a.node b.node }
-feed-concat q types-left (of-beside h i) (of-beside k l) = same
-feed-concat q types-right (of-beside h i) (of-beside k l) = same
-feed-concat q types-first (of-first h) (of-first k) = same
-feed-concat q types-first (of-first h) (of-crossed i c k) = record { sent = refl; node = ap silent (derivative-concat _ h i) }
-feed-concat q types-first (of-crossed h c i) k = record { sent = sym (concat-empty-right h); node = refl }
-feed-concat q (types-second {t = t}) (of-first h) (of-first k) =
+feed-concat q takes-left (of-beside h i) (of-beside k l) = same
+feed-concat q takes-right (of-beside h i) (of-beside k l) = same
+feed-concat q takes-first (of-first h) (of-first k) = same
+feed-concat q takes-first (of-first h) (of-crossed i c k) = record { sent = refl; node = ap silent (derivative-concat _ h i) }
+feed-concat q takes-first (of-crossed h c i) k = record { sent = sym (concat-empty-right h); node = refl }
+feed-concat q (takes-second {t = t}) (of-first h) (of-first k) =
     record { sent = sym (concat-empty-left (empty-prefix-is-prefix t)); node = refl }
-feed-concat q types-second (of-first h) (of-crossed i c k) = record { sent = sym (concat-empty-left k); node = refl }
-feed-concat q types-second (of-crossed h c i) k = same
-feed-concat q (types-then d e) (of-first h) (of-first k) =
+feed-concat q takes-second (of-first h) (of-crossed i c k) = record { sent = sym (concat-empty-left k); node = refl }
+feed-concat q takes-second (of-crossed h c i) k = same
+feed-concat q (takes-then d e) (of-first h) (of-first k) =
     let a = feed-concat _ d h k in
     record { sent = ap in-first a.sent; node = ap₂ then a.node refl }
-feed-concat q (types-then d e) (of-first h) (of-crossed i c k) =
+feed-concat q (takes-then d e) (of-first h) (of-crossed i c k) =
     record { sent = ap₂ crossed ((feed-concat _ d h i) .sent) refl; node = refl }
-feed-concat q (types-then d e) (of-crossed h c i) k =
+feed-concat q (takes-then d e) (of-crossed h c i) k =
     let a = feed-concat q e i k in
     record { sent = ap₂ crossed refl a.sent; node = a.node }
-feed-concat q (types-chain d e) h k =
+feed-concat q (takes-chain d e) h k =
     let a = feed-concat q d h k in
-    let x = fed d h in
-    let b = feed-concat _ e x.sent ((fed x.types k) .sent) in
+    let x = preserved d h in
+    let b = feed-concat _ e x.sent ((preserved x.types k) .sent) in
     rw (a.sent, output-type-is d, output-type-is x.types) (record { sent = b.sent; node = ap₂ chain a.node b.node })
-feed-concat q types-regroup-right (of-first (of-first h)) (of-first (of-first k)) = same
-feed-concat q types-regroup-right (of-first (of-first h)) (of-first (of-crossed i c k)) = same
-feed-concat q types-regroup-right (of-first (of-first h)) (of-crossed (of-crossed i c k) d l) = same
-feed-concat q types-regroup-right (of-first (of-crossed h c i)) (of-first k) = same
-feed-concat q types-regroup-right (of-first (of-crossed h c i)) (of-crossed j d k) = same
-feed-concat q types-regroup-right (of-crossed (of-crossed h c i) d j) k = same
-feed-concat q types-regroup-left (of-first h) (of-first k) = same
-feed-concat q types-regroup-left (of-first h) (of-crossed i c (of-first k)) = same
-feed-concat q types-regroup-left (of-first h) (of-crossed i c (of-crossed k d l)) = same
-feed-concat q types-regroup-left (of-crossed h c (of-first i)) (of-first k) = same
-feed-concat q types-regroup-left (of-crossed h c (of-first i)) (of-crossed j d k) = same
-feed-concat q types-regroup-left (of-crossed h c (of-crossed i d j)) k = same
-feed-concat q types-spread (of-first h) (of-first k) = same
-feed-concat q types-spread (of-first h) (of-crossed i c (of-beside k l)) = same
-feed-concat q types-spread (of-crossed h c (of-beside i j)) (of-beside k l) = same
-feed-concat q types-front h k = same
+feed-concat q takes-regroup-right (of-first (of-first h)) (of-first (of-first k)) = same
+feed-concat q takes-regroup-right (of-first (of-first h)) (of-first (of-crossed i c k)) = same
+feed-concat q takes-regroup-right (of-first (of-first h)) (of-crossed (of-crossed i c k) d l) = same
+feed-concat q takes-regroup-right (of-first (of-crossed h c i)) (of-first k) = same
+feed-concat q takes-regroup-right (of-first (of-crossed h c i)) (of-crossed j d k) = same
+feed-concat q takes-regroup-right (of-crossed (of-crossed h c i) d j) k = same
+feed-concat q takes-regroup-left (of-first h) (of-first k) = same
+feed-concat q takes-regroup-left (of-first h) (of-crossed i c (of-first k)) = same
+feed-concat q takes-regroup-left (of-first h) (of-crossed i c (of-crossed k d l)) = same
+feed-concat q takes-regroup-left (of-crossed h c (of-first i)) (of-first k) = same
+feed-concat q takes-regroup-left (of-crossed h c (of-first i)) (of-crossed j d k) = same
+feed-concat q takes-regroup-left (of-crossed h c (of-crossed i d j)) k = same
+feed-concat q takes-spread (of-first h) (of-first k) = same
+feed-concat q takes-spread (of-first h) (of-crossed i c (of-beside k l)) = same
+feed-concat q takes-spread (of-crossed h c (of-beside i j)) (of-beside k l) = same
+feed-concat q takes-front h k = same
 
 -- Neither the number of nodes nor a type carried or given grows.
 
-pub leaves-count : {s t : Ty} {n : Node} {p : Prefix} → Types s n t → IsPrefix s p → count (leaves s n p) ≤ count n
+pub leaves-count : {s t : Ty} {n : Node} {p : Prefix} → Takes s n t → IsPrefix s p → count (leaves s n p) ≤ count n
 unfolding leaves count
-leaves-count types-pass h = omega arith
-leaves-count (types-silent z) h = omega arith
-leaves-count types-cue h = omega arith
-leaves-count (types-level v) h = omega arith
-leaves-count (types-both d e) h = omega (arith, leaves-count d h, leaves-count e h)
-leaves-count types-left h = omega arith
-leaves-count types-right h = omega arith
-leaves-count types-first (of-first h) = omega arith
-leaves-count types-first (of-crossed h c k) = omega arith
-leaves-count types-second (of-first h) = omega arith
-leaves-count types-second (of-crossed h c k) = omega arith
-leaves-count (types-then d e) (of-first h) = omega (arith, leaves-count d h)
-leaves-count (types-then d e) (of-crossed h c k) = omega (arith, leaves-count e k)
-leaves-count (types-chain d e) h = rw (output-type-is d) (omega (arith, leaves-count d h, leaves-count e ((fed d h) .sent)))
-leaves-count types-regroup-right (of-first (of-first h)) = omega arith
-leaves-count types-regroup-right (of-first (of-crossed h c k)) = omega arith
-leaves-count types-regroup-right (of-crossed h c k) = omega arith
-leaves-count types-regroup-left (of-first h) = omega arith
-leaves-count types-regroup-left (of-crossed h c k) = omega arith
-leaves-count types-spread (of-first h) = omega arith
-leaves-count types-spread (of-crossed h c k) = omega arith
-leaves-count types-front h = omega arith
+leaves-count takes-pass h = omega arith
+leaves-count (takes-silent z) h = omega arith
+leaves-count takes-cue h = omega arith
+leaves-count (takes-level v) h = omega arith
+leaves-count (takes-both d e) h = omega (arith, leaves-count d h, leaves-count e h)
+leaves-count takes-left h = omega arith
+leaves-count takes-right h = omega arith
+leaves-count takes-first (of-first h) = omega arith
+leaves-count takes-first (of-crossed h c k) = omega arith
+leaves-count takes-second (of-first h) = omega arith
+leaves-count takes-second (of-crossed h c k) = omega arith
+leaves-count (takes-then d e) (of-first h) = omega (arith, leaves-count d h)
+leaves-count (takes-then d e) (of-crossed h c k) = omega (arith, leaves-count e k)
+leaves-count (takes-chain d e) h = rw (output-type-is d) (omega (arith, leaves-count d h, leaves-count e ((preserved d h) .sent)))
+leaves-count takes-regroup-right (of-first (of-first h)) = omega arith
+leaves-count takes-regroup-right (of-first (of-crossed h c k)) = omega arith
+leaves-count takes-regroup-right (of-crossed h c k) = omega arith
+leaves-count takes-regroup-left (of-first h) = omega arith
+leaves-count takes-regroup-left (of-crossed h c k) = omega arith
+leaves-count takes-spread (of-first h) = omega arith
+leaves-count takes-spread (of-crossed h c k) = omega arith
+leaves-count takes-front h = omega arith
 
 -- The output type left is no larger.
-pub output-type-size : {s t : Ty} {n : Node} {p : Prefix} → Types s n t → IsPrefix s p
+pub output-type-size : {s t : Ty} {n : Node} {p : Prefix} → Takes s n t → IsPrefix s p
     → size (output-type (derivative s p) (leaves s n p)) ≤ size (output-type s n)
-output-type-size d h = rw (output-type-is d, output-type-is ((fed d h) .types)) (derivative-size ((fed d h) .sent))
+output-type-size d h = rw (output-type-is d, output-type-is ((preserved d h) .types)) (derivative-size ((preserved d h) .sent))
 
-pub leaves-fits : {s t : Ty} {n : Node} {p : Prefix} → Types s n t → IsPrefix s p → Fits s n → Fits (derivative s p) (leaves s n p)
+pub leaves-fits : {s t : Ty} {n : Node} {p : Prefix} → Takes s n t → IsPrefix s p → Fits s n → Fits (derivative s p) (leaves s n p)
 unfolding leaves derivative output-type size
-leaves-fits types-pass h f = omega (arith, derivative-size h)
-leaves-fits (types-silent z) h f = f
-leaves-fits types-cue h f = f
-leaves-fits (types-level v) h f = f
-leaves-fits (types-both d e) h f =
-    (leaves-fits d h f.0, leaves-fits e h f.1, le-trans (output-type-size (types-both d e) h) f.2)
-leaves-fits types-left (of-beside h k) f = omega (arith, derivative-size h)
-leaves-fits types-right (of-beside h k) f = omega (arith, derivative-size k)
-leaves-fits types-first (of-first h) f = omega (arith, derivative-size h)
-leaves-fits types-first (of-crossed h c k) f = omega (arith, derivative-size h)
-leaves-fits types-second (of-first h) f = f
-leaves-fits types-second (of-crossed h c k) f = omega (arith, derivative-size k)
-leaves-fits (types-then d e) (of-first h) f =
-    (leaves-fits d h f.0, f.1, le-trans (output-type-size (types-then d e) (of-first h)) f.2)
-leaves-fits (types-then d e) (of-crossed h c k) f = leaves-fits e k f.1
-leaves-fits (types-chain d e) h f =
-    let x = fed d h in (
+leaves-fits takes-pass h f = omega (arith, derivative-size h)
+leaves-fits (takes-silent z) h f = f
+leaves-fits takes-cue h f = f
+leaves-fits (takes-level v) h f = f
+leaves-fits (takes-both d e) h f =
+    (leaves-fits d h f.0, leaves-fits e h f.1, le-trans (output-type-size (takes-both d e) h) f.2)
+leaves-fits takes-left (of-beside h k) f = omega (arith, derivative-size h)
+leaves-fits takes-right (of-beside h k) f = omega (arith, derivative-size k)
+leaves-fits takes-first (of-first h) f = omega (arith, derivative-size h)
+leaves-fits takes-first (of-crossed h c k) f = omega (arith, derivative-size h)
+leaves-fits takes-second (of-first h) f = f
+leaves-fits takes-second (of-crossed h c k) f = omega (arith, derivative-size k)
+leaves-fits (takes-then d e) (of-first h) f =
+    (leaves-fits d h f.0, f.1, le-trans (output-type-size (takes-then d e) (of-first h)) f.2)
+leaves-fits (takes-then d e) (of-crossed h c k) f = leaves-fits e k f.1
+leaves-fits (takes-chain d e) h f =
+    let x = preserved d h in (
       leaves-fits d h f.0,
       rw (output-type-is x.types) (rw (output-type-is d) (leaves-fits e x.sent (rw (output-type-is d) at f.1))),
-      le-trans (output-type-size (types-chain d e) h) f.2,
+      le-trans (output-type-size (takes-chain d e) h) f.2,
     )
-leaves-fits types-regroup-right (of-first (of-first h)) f = omega (arith, derivative-size h)
-leaves-fits types-regroup-right (of-first (of-crossed h c k)) f = omega (arith, derivative-size k)
-leaves-fits types-regroup-right (of-crossed h c k) f = omega (arith, derivative-size k)
-leaves-fits types-regroup-left (of-first h) f = omega (arith, derivative-size h)
-leaves-fits types-regroup-left (of-crossed h c k) f = omega (arith, derivative-size k)
-leaves-fits types-spread (of-first h) f = omega (arith, derivative-size h)
-leaves-fits types-spread (of-crossed h c k) f = omega (arith, derivative-size k)
-leaves-fits types-front h f = omega (arith, derivative-size h)
+leaves-fits takes-regroup-right (of-first (of-first h)) f = omega (arith, derivative-size h)
+leaves-fits takes-regroup-right (of-first (of-crossed h c k)) f = omega (arith, derivative-size k)
+leaves-fits takes-regroup-right (of-crossed h c k) f = omega (arith, derivative-size k)
+leaves-fits takes-regroup-left (of-first h) f = omega (arith, derivative-size h)
+leaves-fits takes-regroup-left (of-crossed h c k) f = omega (arith, derivative-size k)
+leaves-fits takes-spread (of-first h) f = omega (arith, derivative-size h)
+leaves-fits takes-spread (of-crossed h c k) f = omega (arith, derivative-size k)
+leaves-fits takes-front h f = omega (arith, derivative-size h)
 
 -- The patch left is allowed again, from what is left of the input type to what is left of the output type.
 pub leaves-allowed : {s t : Ty} {n : Node} {p : Prefix} → Allowed s n t → IsPrefix s p
     → Allowed (derivative s p) (leaves s n p) (derivative t (sends s n p))
 leaves-allowed a h =
     record {
-      types = (fed (a .types) h) .types;
+      types = (preserved (a .types) h) .types;
       input-small = le-trans (derivative-size h) (a .input-small);
       few = le-trans (leaves-count (a .types) h) (a .few);
       fits = leaves-fits (a .types) h (a .fits);

@@ -4,9 +4,9 @@ use mathlib.Core.List.{List, [], _∷_}
 use Rattle.stream.specs.Types.{Ty}
 use Rattle.stream.specs.Prefixes.{Prefix, IsPrefix, derivative, concat}
 use Rattle.stream.specs.Prefixes.Laws.{concat-is-prefix, derivative-concat}
-use Rattle.node.specs.Nodes.{Node, Types, Allowed}
+use Rattle.node.specs.Nodes.{Node, Takes, Allowed}
 use Rattle.node.specs.Feeding.{sends, leaves}
-use Rattle.node.specs.Feeding.Laws.{fed, feed-concat, leaves-allowed}
+use Rattle.node.specs.Feeding.Laws.{preserved, feed-concat, leaves-allowed}
 
 -- Each is a prefix of what the earlier ones leave.
 pub data Pieces : Ty → List Prefix → Type 0 where
@@ -31,10 +31,10 @@ leaves-all s n [] = n
 leaves-all s n (p ∷ ps) = leaves-all (derivative s p) (leaves s n p) ps
 
 -- The outputs are pieces of the output type.
-pub sends-pieces : {s t : Ty} {n : Node} (ps : List Prefix) → Types s n t → Pieces s ps → Pieces t (sends-all s n ps)
+pub sends-pieces : {s t : Ty} {n : Node} (ps : List Prefix) → Takes s n t → Pieces s ps → Pieces t (sends-all s n ps)
 unfolding sends-all
 sends-pieces [] d r = no-more
-sends-pieces (p ∷ ps) d (piece h r) = let f = fed d h in piece f.sent (sends-pieces ps f.types r)
+sends-pieces (p ∷ ps) d (piece h r) = let f = preserved d h in piece f.sent (sends-pieces ps f.types r)
 
 pub concat-all-is-prefix : {s : Ty} {p : Prefix} (ps : List Prefix) → IsPrefix s p → Pieces (derivative s p) ps → IsPrefix s (concat-all p ps)
 unfolding concat-all
@@ -49,7 +49,7 @@ derivative-concat-all (q ∷ ps) h (piece k r) =
     derivative-concat-all ps (concat-is-prefix q h k) (rw (derivative-concat q h k) r)
     ∙ ap (λ u. derivative-all u ps) (derivative-concat q h k)
 
-pub sends-concat-all : {s t : Ty} {n : Node} {p : Prefix} (ps : List Prefix) → Types s n t → IsPrefix s p → Pieces (derivative s p) ps
+pub sends-concat-all : {s t : Ty} {n : Node} {p : Prefix} (ps : List Prefix) → Takes s n t → IsPrefix s p → Pieces (derivative s p) ps
     → sends s n (concat-all p ps) ≡ concat-all (sends s n p) (sends-all (derivative s p) (leaves s n p) ps)
 unfolding concat-all sends-all
 sends-concat-all [] d h r = refl
@@ -59,7 +59,7 @@ sends-concat-all (q ∷ ps) d h (piece k r) =
     sends-concat-all ps d (concat-is-prefix q h k) (rw (derivative-concat q h k) r)
     ∙ (λ i. concat-all (e.sent i) (sends-all (g i) (e.node i) ps))
 
-pub leaves-concat-all : {s t : Ty} {n : Node} {p : Prefix} (ps : List Prefix) → Types s n t → IsPrefix s p → Pieces (derivative s p) ps
+pub leaves-concat-all : {s t : Ty} {n : Node} {p : Prefix} (ps : List Prefix) → Takes s n t → IsPrefix s p → Pieces (derivative s p) ps
     → leaves s n (concat-all p ps) ≡ leaves-all (derivative s p) (leaves s n p) ps
 unfolding concat-all leaves-all
 leaves-concat-all [] d h r = refl

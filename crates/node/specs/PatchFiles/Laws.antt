@@ -15,7 +15,7 @@ use Rattle.stream.specs.Reading.Laws.{Reads, reads-leaf, reads-two, tree-reads,
 use Rattle.stream.specs.Reading.Refusals.{Faults, Refusals, read-on-faults, go-on-refusals, section-faults, tree-faults, whole-refusals}
 use Rattle.stream.specs.TypeFiles.{type-bytes, read-type, type-section}
 use Rattle.stream.specs.TypeFiles.Laws.{type-length, type-is-bytes, type-section-is-bytes, read-type-reads, read-type-sound, type-section-reads, type-section-sound, read-type-faults, type-section-faults}
-use Rattle.node.specs.Nodes.{Node, pass, silent, emit-cue, emit-level, both, left, right, first, second, then, chain, regroup-right, regroup-left, spread, front, count, node-limit, Small, Allowed}
+use Rattle.node.specs.Nodes.{Node, pass, silent, emit-cue, emit-level, both, left-side, right-side, first, second, then, chain, regroup-right, regroup-left, spread, front, count, node-limit, Small, Allowed}
 use Rattle.node.specs.Checking.{typing}
 use Rattle.node.specs.Checking.Laws.{Carries, types-carries, typing-sound, typing-complete, typing-refusals}
 use Rattle.node.specs.PatchFiles.{node-bytes, patch-file-bytes, PatchFile, node-kinds, node-root, read-node, node-section, Patch, Checked, patch-sections, first-pass, second-pass, patch-file}
@@ -30,8 +30,8 @@ node-length (silent n) r f = omega (arith, type-length n r)
 node-length emit-cue r f = omega arith
 node-length (emit-level v) r f = omega (arith, value-length v r)
 node-length (both n m) r f = omega (arith, node-length n (node-bytes m r) f.0, node-length m r f.1)
-node-length left r f = omega arith
-node-length right r f = omega arith
+node-length left-side r f = omega arith
+node-length right-side r f = omega arith
 node-length first r f = omega arith
 node-length second r f = omega arith
 node-length (then n m) r f = omega (arith, node-length n (node-bytes m r) f.0, node-length m r f.1)
@@ -61,8 +61,8 @@ node-is-bytes (silent n) r f b = bytes-cons 1 (type-bytes n r) (omega arith) (ty
 node-is-bytes emit-cue r f b = bytes-cons 2 r (omega arith) b
 node-is-bytes (emit-level v) r f b = bytes-cons 3 (value-bytes v r) (omega arith) (value-is-bytes v r f b)
 node-is-bytes (both n m) r f b = bytes-cons 4 (node-bytes n (node-bytes m r)) (omega arith) (node-is-bytes n (node-bytes m r) f.0 (node-is-bytes m r f.1 b))
-node-is-bytes left r f b = bytes-cons 5 r (omega arith) b
-node-is-bytes right r f b = bytes-cons 6 r (omega arith) b
+node-is-bytes left-side r f b = bytes-cons 5 r (omega arith) b
+node-is-bytes right-side r f b = bytes-cons 6 r (omega arith) b
 node-is-bytes first r f b = bytes-cons 7 r (omega arith) b
 node-is-bytes second r f b = bytes-cons 8 r (omega arith) b
 node-is-bytes (then n m) r f b = bytes-cons 9 (node-bytes n (node-bytes m r)) (omega arith) (node-is-bytes n (node-bytes m r) f.0 (node-is-bytes m r f.1 b))
@@ -88,8 +88,8 @@ reads (silent n) f = reads-leaf TooManyNodes node-root _ (λ s. rw (read-type-re
 reads emit-cue f = reads-leaf TooManyNodes node-root _ (λ s. refl)
 reads (emit-level v) f = reads-leaf TooManyNodes node-root _ (λ s. rw (value-reads CutShort v s))
 reads (both n m) f = reads-two TooManyNodes node-root both _ (λ s. refl) (reads n f.0) (reads m f.1)
-reads left f = reads-leaf TooManyNodes node-root _ (λ s. refl)
-reads right f = reads-leaf TooManyNodes node-root _ (λ s. refl)
+reads left-side f = reads-leaf TooManyNodes node-root _ (λ s. refl)
+reads right-side f = reads-leaf TooManyNodes node-root _ (λ s. refl)
 reads first f = reads-leaf TooManyNodes node-root _ (λ s. refl)
 reads second f = reads-leaf TooManyNodes node-root _ (λ s. refl)
 reads (then n m) f = reads-two TooManyNodes node-root then _ (λ s. refl) (reads n f.0) (reads m f.1)
@@ -154,8 +154,8 @@ kinds-sound w s b =
     & plain emit-cue tt refl refl
     & value-is w s b
     & forked both 4 (λ n m i j. (i, j)) (λ n m. refl) (λ n m x. refl)
-    & plain left tt refl refl
-    & plain right tt refl refl
+    & plain left-side tt refl refl
+    & plain right-side tt refl refl
     & plain first tt refl refl
     & plain second tt refl refl
     & forked then 9 (λ n m i j. (i, j)) (λ n m. refl) (λ n m x. refl)

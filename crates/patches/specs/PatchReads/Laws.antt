@@ -12,7 +12,7 @@ use Rattle.stream.specs.Reading.Laws.{_&_, past, every}
 use Rattle.stream.specs.TypeFiles.{type-bytes}
 use Rattle.files.specs.TypeReads.{TypeAt}
 use Rattle.files.specs.TypeReads.Laws.{type-before, type-width}
-use Rattle.node.specs.Nodes.{Node, pass, silent, emit-cue, emit-level, both, left, right, first, second, then, chain, regroup-right, regroup-left, spread, front, count}
+use Rattle.node.specs.Nodes.{Node, pass, silent, emit-cue, emit-level, both, left-side, right-side, first, second, then, chain, regroup-right, regroup-left, spread, front, count}
 use Rattle.node.specs.Checking.Laws.{Carries}
 use Rattle.node.specs.PatchFiles.{node-bytes}
 use Rattle.patches.specs.PatchReads.{node-arity, width, NodeAt}
@@ -24,8 +24,8 @@ node-kind (silent n) = 1
 node-kind emit-cue = 2
 node-kind (emit-level v) = 3
 node-kind (both n m) = 4
-node-kind left = 5
-node-kind right = 6
+node-kind left-side = 5
+node-kind right-side = 6
 node-kind first = 7
 node-kind second = 8
 node-kind (then n m) = 9
@@ -42,8 +42,8 @@ root-first (silent n) r = (refl, omega arith)
 root-first emit-cue r = (refl, omega arith)
 root-first (emit-level v) r = (refl, omega arith)
 root-first (both n m) r = (refl, omega arith)
-root-first left r = (refl, omega arith)
-root-first right r = (refl, omega arith)
+root-first left-side r = (refl, omega arith)
+root-first right-side r = (refl, omega arith)
 root-first first r = (refl, omega arith)
 root-first second r = (refl, omega arith)
 root-first (then n m) r = (refl, omega arith)
@@ -62,8 +62,8 @@ node-append (silent n) r s = rw (type-before n (r ++ s), type-before n r, append
 node-append emit-cue r s = refl
 node-append (emit-level v) r s = refl
 node-append (both n m) r s = ap (λ l. 4 ∷ l) (ap (node-bytes n) (node-append m r s) ∙ node-append n (node-bytes m r) s)
-node-append left r s = refl
-node-append right r s = refl
+node-append left-side r s = refl
+node-append right-side r s = refl
 node-append first r s = refl
 node-append second r s = refl
 node-append (then n m) r s = ap (λ l. 9 ∷ l) (ap (node-bytes n) (node-append m r s) ∙ node-append n (node-bytes m r) s)
@@ -90,8 +90,8 @@ count-within (silent n) = omega arith
 count-within emit-cue = omega arith
 count-within (emit-level v) = omega arith
 count-within (both n m) = omega (arith, count-within n, count-within m, node-width n (node-bytes m []))
-count-within left = omega arith
-count-within right = omega arith
+count-within left-side = omega arith
+count-within right-side = omega arith
 count-within first = omega arith
 count-within second = omega arith
 count-within (then n m) = omega (arith, count-within n, count-within m, node-width n (node-bytes m []))
@@ -134,8 +134,8 @@ Case P k =
     ∷ P emit-cue
     ∷ ((v : ℕ) → P (emit-level v))
     ∷ ((n m : Node) → P (both n m))
-    ∷ P left
-    ∷ P right
+    ∷ P left-side
+    ∷ P right-side
     ∷ P first
     ∷ P second
     ∷ ((n m : Node) → P (then n m))
@@ -154,8 +154,8 @@ by-kind P (silent n) c = c n
 by-kind P emit-cue c = c
 by-kind P (emit-level v) c = c v
 by-kind P (both n m) c = c n m
-by-kind P left c = c
-by-kind P right c = c
+by-kind P left-side c = c
+by-kind P right-side c = c
 by-kind P first c = c
 by-kind P second c = c
 by-kind P (then n m) c = c n m

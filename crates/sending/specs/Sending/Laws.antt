@@ -4,7 +4,7 @@ use mathlib.Core.List.{List, [], _∷_}
 use Prim.Native.Nat.{ℕ, _≤_, _<_}
 use native.Mathlib.Omega.{arith}
 use lib.ListN.{length}
-use Rattle.stream.specs.Buffers.{front}
+use Rattle.stream.specs.Buffers.{at-front}
 use Rattle.stream.specs.Prefixes.{Prefix}
 use Rattle.stream.specs.SliceFiles.{prefix-bytes}
 use Rattle.files.specs.SliceReads.{width as prefix-width, PrefixAt}
@@ -18,7 +18,7 @@ use Rattle.sending.specs.declared.Sent.{Sent}
 use Rattle.sending.specs.Sending.{Leaves, LeavesKind, Delivers, LeafDue}
 
 pub delivers : {o : Prefix} {n : Node} {many : ℕ} {out remainder out-after remainder-after : List ℕ} {fed : Sent} → many ≡ prefix-width o
-    → out-after ≡ front (prefix-bytes o []) out → Leaves n many remainder remainder-after fed
+    → out-after ≡ at-front (prefix-bytes o []) out → Leaves n many remainder remainder-after fed
     → Delivers o n out remainder out-after remainder-after fed
 delivers wide written left =
     record { leaves = record { sent = left .sent ∙ wide; left = left .left; buffer = left .buffer }; output = written }
@@ -29,7 +29,7 @@ pub delivers-written : {o : Prefix} {n : Node} {many : ℕ} {pieces out remainde
     → Leaves n many remainder remainder-after fed → Delivers o n out remainder out-after remainder-after fed
 delivers-written {o} {out = out} so-far all room left =
     delivers (omega (arith, so-far .long, ap length all, prefix-length o []))
-    (so-far .holds .in-front (omega (arith, ap length all, prefix-length o [])) ∙ ap (λ l. front l out) all) left
+    (so-far .holds .in-front (omega (arith, ap length all, prefix-length o [])) ∙ ap (λ l. at-front l out) all) left
 
 module _ {n : Node} {slice : List ℕ} {place : ℕ} {out remainder : List ℕ} (due : LeafDue n slice place out remainder) where
   -- The prefix's first byte can be read.

@@ -7,7 +7,7 @@ use lib.ListN.{length, take, drop, set, length-append}
 use lib.Seq.{take-at}
 use Rattle.stream.specs.Types.{Ty}
 use Rattle.stream.specs.Prefixes.{Prefix}
-use Rattle.stream.specs.Buffers.{front}
+use Rattle.stream.specs.Buffers.{at-front}
 use Rattle.stream.specs.TypeFiles.{type-bytes}
 use Rattle.stream.specs.SliceFiles.{prefix-bytes}
 use Rattle.files.specs.TypeReads.{TypeAt}
@@ -19,12 +19,12 @@ use Rattle.writing.specs.Appending.Laws.{part-length, back-length}
 use Rattle.node.specs.Nodes.{Node, Small, count}
 use Rattle.node.specs.Checking.Laws.{types-carries}
 use Rattle.node.specs.Feeding.{leaves}
-use Rattle.node.specs.Feeding.Laws.{fed, leaves-count, leaves-fits}
+use Rattle.node.specs.Feeding.Laws.{preserved, leaves-count, leaves-fits}
 use Rattle.node.specs.PatchFiles.Laws.{node-length}
 use Rattle.patches.specs.PatchReads.{width}
 use Rattle.step.specs.Steps.{Leads, Feedable}
 
-pub front-leads : (bytes lent : List ℕ) {now : List ℕ} → now ≡ front bytes lent → length bytes ≤ length lent → Leads bytes lent now
+pub front-leads : (bytes lent : List ℕ) {now : List ℕ} → now ≡ at-front bytes lent → length bytes ≤ length lent → Leads bytes lent now
 front-leads bytes lent e room = record { rest = drop (length bytes) lent; begins = e; long = ap length e ∙ front-length bytes lent room }
 
 -- Nothing, and one byte, in front. Where nothing leads, all may be lent on.
@@ -73,5 +73,5 @@ prefix-stands {p} leads = record { rest = leads .rest; here = leads .begins ∙ 
 -- How many bytes the node left takes.
 pub left-width : {s : Ty} {n : Node} {p : Prefix} → Feedable s n p → 2 * width (leaves s n p) ≤ 257 * count n + 255
 left-width {s} {n} {p} f =
-    let carries = types-carries (fed (f .types) (f .is-prefix) .types) (leaves-fits (f .types) (f .is-prefix) (f .fits)) in
+    let carries = types-carries (preserved (f .types) (f .is-prefix) .types) (leaves-fits (f .types) (f .is-prefix) (f .fits)) in
     omega (arith, node-length (leaves s n p) [] carries, leaves-count (f .types) (f .is-prefix))

@@ -10,7 +10,7 @@ use lib.ListN.{length, getD, take, drop, length-append, take-append-drop}
 use lib.Seq.{getD-drop, length-take-le, take-append-seam, drop-append-seam}
 use borrow.Author.Tests.{le-leb, leb-true}
 use Rattle.stream.specs.declared.Fault.{Fault}
-use Rattle.stream.specs.Reading.{Bytes, Reading, read, fault, Result, accepted, refused, read-on, go-on, require, whole, before, section-bytes, counted, section, Root, forest, only, tree, leaf, one-part, two-parts, on-one, on-two}
+use Rattle.stream.specs.Reading.{Bytes, Reading, read, fault, Result, accepted, refused, read-on, go-on, require, whole, followed-by, section-bytes, counted, section, Root, forest, only, tree, leaf, one-part, two-parts, on-one, on-two}
 
 -- A table of proofs is written `a & b & past c`.
 infixr 5 _&_
@@ -251,7 +251,7 @@ module _ {A : Type 0} (cut-short left-over : Fault) (contents : List ℕ → Rea
     pub body-bytes : Bytes body
     pub rest : Bytes r
 
-  whole-read : (g : Reading A) (a : A) (x r : List ℕ) → before x (whole left-over g) ≡ read a r → (g ≡ read a []) × (x ≡ r)
+  whole-read : (g : Reading A) (a : A) (x r : List ℕ) → followed-by x (whole left-over g) ≡ read a r → (g ≡ read a []) × (x ≡ r)
   whole-read (read b []) a x r e = ((cc), (cc))
   whole-read (read b (c ∷ y)) a x r e = let z : _≡_ {A = ℕ} 0 1 = cc in absurd (omega arith)
   whole-read (fault f) a x r e = let z : _≡_ {A = ℕ} 0 1 = cc in absurd (omega arith)
@@ -263,7 +263,7 @@ module _ {A : Type 0} (cut-short left-over : Fault) (contents : List ℕ → Rea
     where
       go : (t : Bool) → leb n (length s) ≡ t
           → elim t as (λ u. Reading A)
-          [ true ↦ before (drop n s) (whole left-over (contents (take n s))) | false ↦ fault cut-short ] ≡ read a r
+          [ true ↦ followed-by (drop n s) (whole left-over (contents (take n s))) | false ↦ fault cut-short ] ≡ read a r
           → (n ≤ length s) × (contents (take n s) ≡ read a []) × (drop n s ≡ r)
       go false d e = let z : _≡_ {A = ℕ} 0 1 = cc in absurd (omega arith)
       go true d e =

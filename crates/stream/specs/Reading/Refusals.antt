@@ -5,7 +5,7 @@ use Prim.Native.Nat.{ℕ, zero, suc}
 use lib.Dec.{leb}
 use lib.ListN.{length, take, drop}
 use Rattle.stream.specs.declared.Fault.{Fault}
-use Rattle.stream.specs.Reading.{Reading, read, fault, Result, accepted, refused, read-on, go-on, require, whole, before, counted, section, Root, forest, only, tree}
+use Rattle.stream.specs.Reading.{Reading, read, fault, Result, accepted, refused, read-on, go-on, require, whole, followed-by, counted, section, Root, forest, only, tree}
 
 -- Every fault has the property P.
 module _ (P : Fault → Type 0) where
@@ -34,9 +34,9 @@ module _ (P : Fault → Type 0) where
   whole-refusals o (read a (b ∷ r)) h k = h
   whole-refusals o (fault e) h k = k
 
-  before-faults : {A : Type 0} (r : List ℕ) (g : Result A) → Refusals g → Faults (before r g)
-  before-faults r (accepted a) h = tt
-  before-faults r (refused e) h = h
+  followed-by-faults : {A : Type 0} (r : List ℕ) (g : Result A) → Refusals g → Faults (followed-by r g)
+  followed-by-faults r (accepted a) h = tt
+  followed-by-faults r (refused e) h = h
 
   module _ {A : Type 0} (cut-short left-over : Fault) (contents : List ℕ → Reading A) where
     counted-faults : P cut-short → P left-over → ((s : List ℕ) → Faults (contents s)) → (n : ℕ) (s : List ℕ)
@@ -46,8 +46,8 @@ module _ (P : Fault → Type 0) where
       where
         go : (t : Bool)
             → Faults {A = A} (elim t as (λ u. Reading A)
-            [ true ↦ before (drop n s) (whole left-over (contents (take n s))) | false ↦ fault cut-short ])
-        go true = before-faults (drop n s) (whole left-over (contents (take n s))) (whole-refusals left-over (contents (take n s)) o (k (take n s)))
+            [ true ↦ followed-by (drop n s) (whole left-over (contents (take n s))) | false ↦ fault cut-short ])
+        go true = followed-by-faults (drop n s) (whole left-over (contents (take n s))) (whole-refusals left-over (contents (take n s)) o (k (take n s)))
         go false = c
 
     pub section-faults : P cut-short → P left-over → ((s : List ℕ) → Faults (contents s)) → (s : List ℕ)

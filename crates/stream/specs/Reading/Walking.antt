@@ -6,7 +6,7 @@ use native.Mathlib.Omega.{arith}
 use lib.ListN.{length, getD, take, drop, replicate, length-append, replicate-append-replicate}
 use borrow.Author.Tests.{le-leb, lt-leb}
 use Rattle.stream.specs.declared.Fault.{Fault}
-use Rattle.stream.specs.Reading.{Reading, read, fault, read-on, whole, before, counted, section, Root, forest, only, tree, leaf, one-part, two-parts, on-one, on-two}
+use Rattle.stream.specs.Reading.{Reading, read, fault, read-on, whole, followed-by, counted, section, Root, forest, only, tree, leaf, one-part, two-parts, on-one, on-two}
 use Rattle.stream.specs.Reading.Laws.{none-owed}
 
 -- The bytes after what was read, or the fault: all that a loop knows of trees that it does not build.
@@ -155,7 +155,7 @@ module _ {A : Type 0} (cut-short left-over : Fault) (contents : List ℕ → Rea
   body-short (a ∷ b ∷ s) h = let e : length s < a * 256 + b = omega arith in rw (counted, lt-leb _ _ e)
 
   pub body-whole : (s : List ℕ) → 2 ≤ length s → count s ≤ length s - 2
-      → section cut-short left-over contents s ≡ before (drop (2 + count s) s) (whole left-over (contents (body s)))
+      → section cut-short left-over contents s ≡ followed-by (drop (2 + count s) s) (whole left-over (contents (body s)))
   unfolding section counted
   body-whole [] two h = absurd (omega arith)
   body-whole (a ∷ []) two h = absurd (omega arith)

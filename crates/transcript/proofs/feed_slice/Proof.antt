@@ -9,7 +9,7 @@ use lib.ListN.{length, take, drop}
 use lib.Seq.{length-take-le, take-at}
 use Rattle.stream.specs.Reading.{Bytes}
 use Rattle.stream.specs.Reading.Laws.{bytes-take}
-use Rattle.stream.specs.Buffers.{front}
+use Rattle.stream.specs.Buffers.{at-front}
 use Rattle.meaning.specs.declared.Fed.{Fed}
 use Rattle.meaning.specs.Answers.{feed, number-of, fed}
 use Rattle.transcript.specs.Playing.{Inside}
@@ -122,7 +122,7 @@ type-field c = body-stands _ _ _ _ (sent c .left-stands) {n = 2 + c .count-of .r
 patch-field : (c : tie.After-count-of) → take (call c .feed .result .patch) (left-of (call c)) ≡ sent c .written .patch
 patch-field c =
     let s = sent c in
-    ap (take (call c .feed .result .patch)) (s .left-stands ∙ ap (λ l. front l (start (call c) .args .left .now)) (sym (s .sections .patch-is)))
+    ap (take (call c .feed .result .patch)) (s .left-stands ∙ ap (λ l. at-front l (start (call c) .args .left .now)) (sym (s .sections .patch-is)))
     ∙ take-at (s .written .patch) _ (call c .feed .result .patch) (sym (s .kept))
 
 sub-put-fed : tie.Need-sub-put-fed
@@ -186,7 +186,7 @@ returns-2 c =
     let s = sent n in
     rw (c .new2 .ensures)
     (slice-fed _ _ _ _ (s .written) (s .sections) (s .is-fed) (start (call n) .pre .0 .patch-room) (s .kept)
-    (c .before .before .before .copy .ensures ∙ ap (λ l. front l (start (call n) .args .patch .now)) (patch-field n))
+    (c .before .before .before .copy .ensures ∙ ap (λ l. at-front l (start (call n) .args .patch .now)) (patch-field n))
     (rw (output-field n, type-field n) at (c .before .before .before .before .before .before .before .before .put-fed .ensures)))
 
 pub feed-slice-spec : {M : Type 1} → statement M

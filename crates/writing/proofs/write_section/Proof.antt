@@ -5,12 +5,12 @@ use mathlib.Core.Path.{_≡_, refl}
 use mathlib.Core.List.{List}
 use Prim.Native.Nat.{ℕ, _+_, _≤_}
 use lib.ListN.{length}
-use Rattle.stream.specs.Buffers.{front}
+use Rattle.stream.specs.Buffers.{at-front}
 use Rattle.writing.specs.Writing.Laws.{part, count-bytes, room-behind-count, section-written}
 use Rattle.writing.proofs.write_section.Statement.{statement}
 use Rattle.writing.proofs.write_section.Tie as tie
 
-room-for-body : (body lent : List ℕ) {now : List ℕ} → now ≡ front (count-bytes (length body)) lent → 2 + length body ≤ length lent
+room-for-body : (body lent : List ℕ) {now : List ℕ} → now ≡ at-front (count-bytes (length body)) lent → 2 + length body ≤ length lent
     → length body ≤ length (part 2 now)
 room-for-body body lent {now} counted room = rw (room-behind-count (length body) lent now counted) (omega arith)
 

@@ -5,7 +5,7 @@ use Prim.Native.Nat.{ℕ, _+_, _-_, _≤_}
 use native.Mathlib.Omega.{arith}
 use lib.ListN.{length, take, drop, length-append, length-drop}
 use lib.Seq.{length-take-le}
-use Rattle.stream.specs.Buffers.{front}
+use Rattle.stream.specs.Buffers.{at-front}
 use Rattle.writing.specs.Appending.{Holds, Appends, Within}
 use Rattle.writing.specs.Writing.Laws.{part, back, part-is, onward}
 
@@ -35,7 +35,7 @@ pub holds-part : {bytes more lent now y : List ℕ} {start : ℕ} → Holds byte
 holds-part {bytes} {more} {lent} {now} {y} {start} holds within rest =
     record { long = back-length start now y (within .inside) (rest .long) ∙ holds .long; in-front = all }
   where
-    all : length (bytes ++ more) ≤ length lent → back start now y ≡ front (bytes ++ more) lent
+    all : length (bytes ++ more) ≤ length lent → back start now y ≡ at-front (bytes ++ more) lent
     all room =
         let both = length-append bytes more in
         let starts : start ≡ length bytes = within .behind (omega (arith, holds .long)) in

@@ -6,7 +6,7 @@ use native.Mathlib.Omega.{arith}
 use lib.ListN.{length, getD, drop, take, set, length-drop, length-append, drop-of-length-le}
 use lib.Seq.{drop-cons, append-snoc, drop-drop, take-all, take-at, drop-at, set-at, set-split}
 use Rattle.stream.specs.Reading.{section-bytes}
-use Rattle.stream.specs.Buffers.{front}
+use Rattle.stream.specs.Buffers.{at-front}
 
 -- The part of x from a on, as it is lent; and x after the part has come back as y.
 abbrev pub part : ℕ → List ℕ → List ℕ
@@ -22,29 +22,29 @@ back-is : (a : ℕ) (x y : List ℕ) → back a x y ≡ take a x ++ y
 back-is a x y = rw (drop-of-length-le (drop a x) {i = length x - a} (omega (arith, length-drop a x)), append-nil)
 
 -- One byte, and two, at the front.
-pub byte : (x : List ℕ) (k : ℕ) → 0 < length x → set x 0 k ≡ front (k ∷ []) x
+pub byte : (x : List ℕ) (k : ℕ) → 0 < length x → set x 0 k ≡ at-front (k ∷ []) x
 byte x k h = set-split x 0 k h
 
-pub two-bytes : (x : List ℕ) (j k : ℕ) → 2 ≤ length x → set (set x 0 j) 1 k ≡ front (j ∷ k ∷ []) x
+pub two-bytes : (x : List ℕ) (j k : ℕ) → 2 ≤ length x → set (set x 0 j) 1 k ≡ at-front (j ∷ k ∷ []) x
 two-bytes [] j k h = absurd (omega arith)
 two-bytes (a ∷ []) j k h = absurd (omega arith)
 two-bytes (a ∷ b ∷ x) j k h = refl
 
 -- The list keeps its length.
-pub front-length : (e x : List ℕ) → length e ≤ length x → length (front e x) ≡ length x
+pub front-length : (e x : List ℕ) → length e ≤ length x → length (at-front e x) ≡ length x
 front-length e x h = omega (arith, length-append e (drop (length e) x), length-drop (length e) x)
 
-module _ (e x y : List ℕ) (a : ℕ) (long : length e ≡ a) (written : y ≡ front e x) where
+module _ (e x y : List ℕ) (a : ℕ) (long : length e ≡ a) (written : y ≡ at-front e x) where
   -- Behind what is written nothing has changed.
   pub beyond : part a y ≡ drop a x
   beyond = part-is a y ∙ rw (written, ← long) (drop-at e (drop (length e) x) (length e) refl)
 
   -- More is written on the part behind it.
-  pub onward : (f z : List ℕ) → z ≡ front f (part a y) → back a y z ≡ front (e ++ f) x
+  pub onward : (f z : List ℕ) → z ≡ at-front f (part a y) → back a y z ≡ at-front (e ++ f) x
   onward f z v =
       back-is a y z
       ∙ ap (λ l. l ++ z) (ap (take a) written ∙ take-at e (drop (length e) x) a long)
-      ∙ ap (λ l. e ++ l) (v ∙ ap (front f) beyond ∙ ap (λ l. f ++ l) (drop-drop (length f) a x))
+      ∙ ap (λ l. e ++ l) (v ∙ ap (at-front f) beyond ∙ ap (λ l. f ++ l) (drop-drop (length f) a x))
       ∙ sym (append-assoc e f (drop (a + length f) x))
       ∙ ap (λ n. e ++ f ++ drop n x) sum
     where
@@ -54,13 +54,13 @@ module _ (e x y : List ℕ) (a : ℕ) (long : length e ≡ a) (written : y ≡ f
 -- The first `written` bytes of what was lent, which is `now` by now.
 pub record Begun (bytes lent now : List ℕ) (written : ℕ) : Type 0 where
   pub long : written ≡ length bytes
-  pub buffer : now ≡ front bytes lent
+  pub buffer : now ≡ at-front bytes lent
 
 pub begins : {lent : List ℕ} (k : ℕ) → 0 < length lent → Begun (k ∷ []) lent (set lent 0 k) 1
 begins {lent} k h = record { long = refl; buffer = byte lent k h }
 
 module _ {e lent now : List ℕ} {a : ℕ} (begun : Begun e lent now a) where
-  pub goes-on : (f : List ℕ) {z : List ℕ} {n : ℕ} → z ≡ front f (part a now) → n ≡ length f → Begun (e ++ f) lent (back a now z) (a + n)
+  pub goes-on : (f : List ℕ) {z : List ℕ} {n : ℕ} → z ≡ at-front f (part a now) → n ≡ length f → Begun (e ++ f) lent (back a now z) (a + n)
   goes-on f {z} h long =
       record {
         long = omega (arith, begun .long, length-append e f);
@@ -92,14 +92,14 @@ module _ {e lent now : List ℕ} {a : ℕ} (begun : Begun e lent now a) where
 abbrev pub count-bytes : ℕ → List ℕ
 count-bytes count = count / 256 ∷ count % 256 ∷ []
 
-module _ (count : ℕ) (lent y : List ℕ) (counted : y ≡ front (count-bytes count) lent) where
+module _ (count : ℕ) (lent y : List ℕ) (counted : y ≡ at-front (count-bytes count) lent) where
   pub room-behind-count : length (part 2 y) ≡ length lent - 2
   room-behind-count =
       let begun : Begun (count-bytes count) lent y 2 = record { long = refl; buffer = counted } in
       room-left begun
 
-  pub section-written : (body z : List ℕ) → count ≡ length body → z ≡ front body (part 2 y) → back 2 y z ≡ front (section-bytes body []) lent
+  pub section-written : (body z : List ℕ) → count ≡ length body → z ≡ at-front body (part 2 y) → back 2 y z ≡ at-front (section-bytes body []) lent
   unfolding section-bytes
   section-written body z long h =
       let all : count-bytes count ++ body ≡ section-bytes body [] = rw (long, append-nil body) in
-      onward (count-bytes count) lent y 2 refl counted body z h ∙ ap (λ l. front l lent) all
+      onward (count-bytes count) lent y 2 refl counted body z h ∙ ap (λ l. at-front l lent) all

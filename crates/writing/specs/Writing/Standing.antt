@@ -24,7 +24,7 @@ use Rattle.files.specs.TypeReads.{type-read, TypeAt}
 use Rattle.files.specs.TypeReads.Laws.{type-before}
 use Rattle.files.specs.SliceReads.{width, overlap as overlap-of, known, slice-read, ReadsSlice, PrefixAt}
 use Rattle.files.specs.SliceReads.Laws.{prefix-width, overlap-within, concat-width}
-use Rattle.stream.specs.Buffers.{front}
+use Rattle.stream.specs.Buffers.{at-front}
 use Rattle.writing.specs.Writing.{Stands, DerivativeDue, LeftFileDue, JoinedFileDue}
 
 -- Behind the two bytes of the count stands the tree.
@@ -120,7 +120,7 @@ module _ {types : List ℕ} {at : ℕ} {file : List ℕ} {answer : SliceRead} (t
       go (refused x) w = let z : x ≡ e = cc in ap refused z
 
 -- A type written at the front of some bytes stands there.
-pub written-stands : (t : Ty) (lent : List ℕ) {bytes : List ℕ} → bytes ≡ front (type-bytes t []) lent → size t ≤ type-limit → TypeAt bytes 0 t
+pub written-stands : (t : Ty) (lent : List ℕ) {bytes : List ℕ} → bytes ≡ at-front (type-bytes t []) lent → size t ≤ type-limit → TypeAt bytes 0 t
 written-stands t lent e small = record { rest = drop (length (type-bytes t [])) lent; here = e ∙ sym (type-before t _); small = small }
 
 -- An accepted slice file has at most 513 bytes.
