@@ -18,9 +18,9 @@ abbrev pub Wrote : (file lent : List ℕ) → Written → List ℕ → Type 0
 Wrote file lent answer lent-after = (answer ≡ record { number = 0; written = length file }) × (lent-after ≡ at-front file lent)
 
 abbrev pub Sent : (sent patch output left : List ℕ) → Fed → List ℕ → List ℕ → Type 0
-Sent sent patch output left answer output-after left-after =
+Sent sent patch output left answer output-after patch-after =
     (answer ≡ record { number = 0; output = length sent; patch = length patch })
-    × (output-after ≡ at-front sent output) × (left-after ≡ at-front patch left)
+    × (output-after ≡ at-front sent output) × (patch-after ≡ at-front patch left)
 
 -- What demand 1 asks of a call, whose outcome is known with 20 taken in: "accepted or .. refused with the number that
 -- document 01 gives for its first fault .. and a refused one alters no byte of a lent buffer". `listed` are the numbers that

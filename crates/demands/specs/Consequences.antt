@@ -93,7 +93,7 @@ module _ (type first second : List ℕ) {lent lent-after : List ℕ} {answer : W
 
 -- A call of Feed
 
-module _ {patch slice output left output-after left-after : List ℕ} {answer : Fed} (call : FeedPromise patch slice output left answer output-after left-after) where
+module _ {patch slice output left output-after patch-after : List ℕ} {answer : Fed} (call : FeedPromise patch slice output left answer output-after patch-after) where
   pub twenty-feed : answer .number ≡ 20 ↔ TooShort (fits-both (length output) (length left)) (feed patch slice)
   twenty-feed = feeds-twenty call (feed-refuses patch slice)
 
@@ -103,17 +103,17 @@ module _ {patch slice output left output-after left-after : List ℕ} {answer : 
   pub never-twenty-feed : Bytes patch → Bytes slice → 513 ≤ length output → 8482 ≤ length left → answer .number ≡ 20 → ⊥
   never-twenty-feed b c h k = feeds-never-twenty call (feed-refuses patch slice) (feed-sized-of-bytes patch slice b c) h k
 
-  pub bytes-feed : Bytes patch → Bytes slice → Bytes output → Bytes left → Bytes output-after × Bytes left-after
+  pub bytes-feed : Bytes patch → Bytes slice → Bytes output → Bytes left → Bytes output-after × Bytes patch-after
   bytes-feed b c d e = feeds-bytes call (feed-sized-of-bytes patch slice b c) d e
 
   pub one-answer-feed : {also : Fed} {output-also left-also : List ℕ} → FeedPromise patch slice output left also output-also left-also
-      → (answer ≡ also) × (output-after ≡ output-also) × (left-after ≡ left-also)
+      → (answer ≡ also) × (output-after ≡ output-also) × (patch-after ≡ left-also)
   one-answer-feed other = feeds-alike call other
 
 -- A call on the patch that a run has come to: it takes the prefixes of that patch's input type, and is fed as the rules say.
 
 module _ {start : List ℕ} {calls : List Call} {r : Run} (ran : Ran start calls r) (patch : PatchFile start) (b : ByteSlices calls)
-    {slice output left output-after left-after : List ℕ} {answer : Fed} (call : FeedPromise (r .patch) slice output left answer output-after left-after) where
+    {slice output left output-after patch-after : List ℕ} {answer : Fed} (call : FeedPromise (r .patch) slice output left answer output-after patch-after) where
   pub run-slice : Bytes slice → 513 ≤ length output → 8482 ≤ length left → answer .number ≡ 0 ↔ SliceFile (demand-2-run ran patch b .input) slice
   run-slice c h k = demand-2-slice call (demand-2-run ran patch b) c h k
 
@@ -121,7 +121,7 @@ module _ {start : List ℕ} {calls : List Call} {r : Run} (ran : Ran start calls
       → (let p = demand-2-run ran patch b in
       (taken : SliceFile (p .input) slice) → Feeds (p .input) (p .node) (taken .prefix) o n′
       → length (slice-file-bytes o) ≤ length output → length (patch-file-bytes (derivative (p .input) (taken .prefix)) n′) ≤ length left
-      → Sent (slice-file-bytes o) (patch-file-bytes (derivative (p .input) (taken .prefix)) n′) output left answer output-after left-after)
+      → Sent (slice-file-bytes o) (patch-file-bytes (derivative (p .input) (taken .prefix)) n′) output left answer output-after patch-after)
   run-sends taken rule h k = demand-2-sends call (demand-2-run ran patch b) taken rule h k
 
 -- The rules define one output and one node left.

@@ -47,9 +47,9 @@ pub demand-1-join : (type first second : List ℕ) {lent lent-after : List ℕ} 
     → Decided (into-one lent (join type first second)) (20 ∷ admit-numbers) (answer .number) (lent ∷ []) (lent-after ∷ [])
 demand-1-join type first second call = writes-decided call (join-refuses type first second)
 
-pub demand-1-feed : {patch slice output left output-after left-after : List ℕ} {answer : Fed}
-    → FeedPromise patch slice output left answer output-after left-after
-    → Decided (into-both output left (feed patch slice)) (20 ∷ feed-numbers) (answer .number) (output ∷ left ∷ []) (output-after ∷ left-after ∷ [])
+pub demand-1-feed : {patch slice output left output-after patch-after : List ℕ} {answer : Fed}
+    → FeedPromise patch slice output left answer output-after patch-after
+    → Decided (into-both output left (feed patch slice)) (20 ∷ feed-numbers) (answer .number) (output ∷ left ∷ []) (output-after ∷ patch-after ∷ [])
 demand-1-feed {patch} {slice} call = feeds-decided call (feed-refuses patch slice)
 
 -- Nothing is left for the caller to test first. (The exports have no `requires`; and a promise asks nothing of what is handed
@@ -61,7 +61,7 @@ pub promises-can-be-kept :
     × ((type slice lent : List ℕ) → (answer : Written) × (lent-after : List ℕ) × LeftPromise type slice lent answer lent-after)
     × ((type first second lent : List ℕ) → (answer : Written) × (lent-after : List ℕ) × JoinPromise type first second lent answer lent-after)
     × ((patch slice output left : List ℕ)
-    → (answer : Fed) × (output-after : List ℕ) × (left-after : List ℕ) × FeedPromise patch slice output left answer output-after left-after)
+    → (answer : Fed) × (output-after : List ℕ) × (patch-after : List ℕ) × FeedPromise patch slice output left answer output-after patch-after)
 promises-can-be-kept = (check-kept, admit-kept, left-kept, join-kept, feed-kept)
 
 -- Every call ends, (Rattle proves of each function that it ends; one without that proof is not built)
@@ -74,20 +74,20 @@ pub demand-2-patch : (patch : List ℕ) {lent lent-after : List ℕ} {answer : W
     → Bytes patch → 257 ≤ length lent → answer .number ≡ 0 ↔ PatchFile patch
 demand-2-patch patch call b h = Iff·trans (writes-zero call (check-sized patch b) h) (check-accepted patch b)
 
-pub demand-2-patch-fed : {patch slice lent lent-after output left output-after left-after : List ℕ} {checked : Written} {answer : Fed}
-    → CheckPromise patch lent checked lent-after → FeedPromise patch slice output left answer output-after left-after
+pub demand-2-patch-fed : {patch slice lent lent-after output left output-after patch-after : List ℕ} {checked : Written} {answer : Fed}
+    → CheckPromise patch lent checked lent-after → FeedPromise patch slice output left answer output-after patch-after
     → (checked .number ≡ 0 → ⊥) → (checked .number ≡ 20 → ⊥) → answer ≡ record { number = checked .number; output = 0; patch = 0 }
 demand-2-patch-fed check-call feed-call not-0 not-20 = feeds-as-check check-call feed-call not-0 not-20
 
 -- a slice, exactly when it is a prefix of the type in force.
 
-pub demand-2-slice : {file slice output left output-after left-after : List ℕ} {answer : Fed}
-    → FeedPromise file slice output left answer output-after left-after → (patch : PatchFile file) → Bytes slice
+pub demand-2-slice : {file slice output left output-after patch-after : List ℕ} {answer : Fed}
+    → FeedPromise file slice output left answer output-after patch-after → (patch : PatchFile file) → Bytes slice
     → 513 ≤ length output → 8482 ≤ length left → answer .number ≡ 0 ↔ SliceFile (patch .input) slice
 demand-2-slice {slice = slice} call patch b h k = Iff·trans (feeds-zero call (feed-sized slice patch b) h k) (feed-accepted slice patch b)
 
-pub demand-2-feed : {file slice output left output-after left-after : List ℕ} {answer : Fed}
-    → FeedPromise file slice output left answer output-after left-after → Bytes file → Bytes slice
+pub demand-2-feed : {file slice output left output-after patch-after : List ℕ} {answer : Fed}
+    → FeedPromise file slice output left answer output-after patch-after → Bytes file → Bytes slice
     → 513 ≤ length output → 8482 ≤ length left → answer .number ≡ 0 ↔ ((patch : PatchFile file) × SliceFile (patch .input) slice)
 demand-2-feed call b c h k = Iff·trans (feeds-zero call (feed-sized-of-bytes _ _ b c) h k) (feed-accepted-of-bytes _ _ b c)
 
@@ -106,12 +106,12 @@ demand-2-join type first second call b c d h = Iff·trans (writes-zero call (joi
 
 -- Given long enough buffers, a feed sends the output and leaves the patch that those rules define."
 
-pub demand-2-sends : {n′ : Node} {o : Prefix} {file slice output left output-after left-after : List ℕ} {answer : Fed}
-    → FeedPromise file slice output left answer output-after left-after → (patch : PatchFile file) (taken : SliceFile (patch .input) slice)
+pub demand-2-sends : {n′ : Node} {o : Prefix} {file slice output left output-after patch-after : List ℕ} {answer : Fed}
+    → FeedPromise file slice output left answer output-after patch-after → (patch : PatchFile file) (taken : SliceFile (patch .input) slice)
     → Feeds (patch .input) (patch .node) (taken .prefix) o n′
     → (let patch-left = patch-file-bytes (derivative (patch .input) (taken .prefix)) n′ in
     length (slice-file-bytes o) ≤ length output → length patch-left ≤ length left
-    → Sent (slice-file-bytes o) patch-left output left answer output-after left-after)
+    → Sent (slice-file-bytes o) patch-left output left answer output-after patch-after)
 demand-2-sends call patch taken rule h k = feed-by-rules call patch taken rule h k
 
 -- Of the other four: Check writes the output type, Admit says whether the slice is complete, Left writes what it leaves, and

@@ -59,10 +59,10 @@ pub record AsOne (start : List ℕ) (r : Run) : Type 0 where
   pub checked : check start ≡ accepted output-type
   pub slices-joined : Joins (first-section start) (r .slices) slice
   pub outputs-joined : Joins output-type (r .outputs) output
-  pub fed-as-one : {output-lent left-lent output-after left-after : List ℕ} {answer : Fed}
-      → FeedPromise start slice output-lent left-lent answer output-after left-after
-      → length output ≤ length output-lent → length (r .patch) ≤ length left-lent
-      → Sent output (r .patch) output-lent left-lent answer output-after left-after
+  pub fed-as-one : {output-lent patch-lent output-after patch-after : List ℕ} {answer : Fed}
+      → FeedPromise start slice output-lent patch-lent answer output-after patch-after
+      → length output ≤ length output-lent → length (r .patch) ≤ length patch-lent
+      → Sent output (r .patch) output-lent patch-lent answer output-after patch-after
   pub input-left : left (first-section start) slice ≡ accepted (first-section (r .patch))
   pub output-left : left output-type output ≡ check (r .patch)
 

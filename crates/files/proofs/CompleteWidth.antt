@@ -14,7 +14,7 @@ use Rattle.stream.specs.Types.{Ty, empty, cue, level, seq, par, size, type-limi
 use Rattle.stream.specs.Prefixes.{Prefix, Complete, whole-crossed, whole-beside, IsPrefix, of-empty, of-cue-come, of-level-come, of-crossed, of-beside}
 use Rattle.stream.specs.Levels.Laws.{value-width}
 use Rattle.stream.specs.TypeFiles.{type-bytes}
-use Rattle.files.specs.SliceReads.{width, TypeSpans, CompleteWide}
+use Rattle.files.specs.SliceReads.{prefix-width, TypeSpans, CompleteWide}
 
 -- How many levels a type has.
 abbrev levels : Ty → ℕ
@@ -34,8 +34,8 @@ levels-few (seq s t) = omega (arith, levels-few s, levels-few t)
 levels-few (par s t) = omega (arith, levels-few s, levels-few t)
 
 -- A complete prefix has a byte for each node of its type and a value for each level.
-complete-width : {t : Ty} {p : Prefix} → IsPrefix t p → Complete p → width p ≡ size t + value-width * levels t
-unfolding width size
+complete-width : {t : Ty} {p : Prefix} → IsPrefix t p → Complete p → prefix-width p ≡ size t + value-width * levels t
+unfolding prefix-width size
 complete-width of-empty d = omega arith
 complete-width of-cue-come d = omega arith
 complete-width (of-level-come v) d = omega arith

@@ -6,15 +6,15 @@ use native.Mathlib.Omega.{arith}
 use lib.ListN.{getD}
 use Rattle.stream.specs.Prefixes.{Prefix, nothing, cue-awaited, cue-come, level-awaited, level-come, in-first, crossed, beside}
 use Rattle.stream.specs.Reading.Laws.{_&_, past, every}
-use Rattle.files.specs.SliceReads.{width, leaf-width, PrefixAt}
+use Rattle.files.specs.SliceReads.{prefix-width, leaf-width, PrefixAt}
 use Rattle.files.specs.SliceReads.Laws.{width-positive, prefix-kind, kind-at, in-first-at, crossed-first-at, crossed-second-at, beside-first-at, beside-second-at}
 
 -- `owed` prefixes stand one after the other from `at` up to `end`.
 pub data Run (slice : List ℕ) (end : ℕ) : (owed at : ℕ) → Type 0 where
   none : Run slice end 0 end
-  more : {owed at : ℕ} (p : Prefix) → PrefixAt slice at p → Run slice end owed (at + width p) → Run slice end (suc owed) at
+  more : {owed at : ℕ} (p : Prefix) → PrefixAt slice at p → Run slice end owed (at + prefix-width p) → Run slice end (suc owed) at
 
-pub starts : {slice : List ℕ} {at : ℕ} (p : Prefix) → PrefixAt slice at p → Run slice (at + width p) 1 at
+pub starts : {slice : List ℕ} {at : ℕ} (p : Prefix) → PrefixAt slice at p → Run slice (at + prefix-width p) 1 at
 starts p s = more p s none
 
 -- A leaf takes one byte, unless it is a level's value.
@@ -43,11 +43,11 @@ module _ {slice : List ℕ} {end : ℕ} where
   pub turned : {owed at : ℕ} (next place : ℕ) → Run slice end owed at → 0 < owed → (getD slice at 0 < 5 → next + 1 ≡ owed)
       → (getD slice at 0 ≡ 5 → next ≡ owed) → (5 < getD slice at 0 → next ≡ owed + 1) → place ≡ at + leaf-width (getD slice at 0)
       → Run slice end next place
-  unfolding width
+  unfolding prefix-width
   turned next place none h leaf one fork behind = absurd (omega arith)
   turned next place (more {owed} {at} p s r) h leaf one fork behind = rw behind (go (getD slice at 0) p (kind-at s) s r leaf one fork)
     where
-      go : (k : ℕ) (p : Prefix) → k ≡ prefix-kind p → PrefixAt slice at p → Run slice end owed (at + width p) → (k < 5 → next + 1 ≡ suc owed)
+      go : (k : ℕ) (p : Prefix) → k ≡ prefix-kind p → PrefixAt slice at p → Run slice end owed (at + prefix-width p) → (k < 5 → next + 1 ≡ suc owed)
           → (k ≡ 5 → next ≡ suc owed) → (5 < k → next ≡ suc owed + 1) → Run slice end next (at + leaf-width k)
       go k nothing e s r leaf one fork = rw e (moved r (omega (arith, leaf (omega arith))) (omega arith))
       go k cue-awaited e s r leaf one fork = rw e (moved r (omega (arith, leaf (omega arith))) (omega arith))

@@ -11,7 +11,7 @@ use lib.Seq.{drop-cons, drop-drop}
 use borrow.Author.Tests.{le-leb, lt-leb, eqb-true, eqb-false}
 use Rattle.stream.specs.declared.Fault.{Fault}
 use Rattle.stream.specs.declared.Fault.the-variants.{SliceCutShort, SliceUnlisted, SliceMisplaced}
-use Rattle.files.specs.declared.prefixes.Prefix.{Prefix as Known}
+use Rattle.files.specs.declared.prefixes.Known.{Known}
 use Rattle.files.specs.declared.prefixes.Walk.{Walk}
 use Rattle.files.specs.declared.prefixes.Walk.the-variants.{Past, Failed}
 use Rattle.stream.specs.Types.{Ty, size, type-limit, kind, first-part, second-part}
@@ -24,8 +24,8 @@ use Rattle.stream.specs.Reading.Laws.{bytes-drop}
 use Rattle.files.specs.TypeReads.{TypeAt, TypeEnds}
 use Rattle.files.specs.TypeReads.Laws.{kind-at, fork-size, leaf-size, first-at, second-at, same-type}
 use Rattle.stream.specs.SliceFiles.{owed, belongs, prefix-root, prefix-bytes}
-use Rattle.files.specs.SliceReads.{overlap, width, known, type-kind-of, is-unfinished, belongs-at, leaf-width, first-complete, leaf-walked, first-known, both-known, beside-walked, SumsFit, read-owed, walked, Walks}
-use Rattle.files.specs.SliceReads.Laws.{prefix-width, behind-prefix}
+use Rattle.files.specs.SliceReads.{overlap, prefix-width, known, type-kind-of, is-unfinished, belongs-at, leaf-width, first-complete, leaf-walked, first-known, both-known, beside-walked, SumsFit, read-owed, walked, Walks}
+use Rattle.files.specs.SliceReads.Laws.{prefix-bytes-length, behind-prefix}
 use Rattle.files.specs.SliceReads.Descent.{kind-root, type-kind-halved, root-tested, root-unlisted, reads-fault, reads-leaf, reads-one, reads-two, read-owed-sound, overlap-size}
 
 -- Leaves
@@ -98,7 +98,7 @@ pub record Came (t : Ty) (at : ℕ) (slice : List ℕ) (from : ℕ) (c : Bool) (
   pub inside : prefix-end ≤ length slice
   pub behind : drop prefix-end slice ≡ rest
   pub knows : knowledge ≡ known t prefix
-  pub left-within : knowledge .left ≤ size t
+  pub remains-within : knowledge .remains ≤ size t
   pub overlap-within : knowledge .overlap ≤ size t
 
 module _ {types : List ℕ} {at : ℕ} {t : Ty} (stands : TypeAt types at t) (slice : List ℕ) (from : ℕ) (c : Bool) where
@@ -126,10 +126,10 @@ module _ {types : List ℕ} {at : ℕ} {t : Ty} (stands : TypeAt types at t) (sl
       go (read p r) e h =
           let f = read-owed-sound (owed t c) (drop from slice) p r (bytes-drop from slice bytes) e in
           let n : length (prefix-bytes p r) ≡ length (drop from slice) = ap length (f .bytes) in
-          let m = prefix-width p r in
+          let m = prefix-bytes-length p r in
           let l = length-drop from slice in
           let x : prefix-end ≡ length slice - length r = cc in
-          let y : from + width p ≡ prefix-end = omega arith in
+          let y : from + prefix-width p ≡ prefix-end = omega arith in
           let k : knowledge ≡ known t p = cc in
           record {
             prefix = p;
@@ -138,9 +138,9 @@ module _ {types : List ℕ} {at : ℕ} {t : Ty} (stands : TypeAt types at t) (sl
             type-ends = cc;
             prefix-ends = x;
             inside = omega arith;
-            behind = rw (← y, ← drop-drop (width p) from slice, ← f .bytes) (behind-prefix p r);
+            behind = rw (← y, ← drop-drop (prefix-width p) from slice, ← f .bytes) (behind-prefix p r);
             knows = k;
-            left-within = rw k (derivative-size (f .is .is));
+            remains-within = rw k (derivative-size (f .is .is));
             overlap-within = rw k (overlap-size (f .is .is));
           }
 
@@ -279,15 +279,15 @@ module _ {types : List ℕ} {at : ℕ} {t : Ty} {slice : List ℕ} {from : ℕ} 
   pub further : at < type-end
   further = omega (arith, first-came .type-ends)
 
-  pub first-sums : (end : ℕ) → TypeEnds types type-end end → (first .left + (end - type-end) < type-limit) × (first .overlap < type-limit)
+  pub first-sums : (end : ℕ) → TypeEnds types type-end end → (first .remains + (end - type-end) < type-limit) × (first .overlap < type-limit)
   first-sums end ends =
       let z = ends .each (second-part t) second-stands in
-      omega (arith, first-came .left-within, first-came .overlap-within, whole-size, stands .small)
+      omega (arith, first-came .remains-within, first-came .overlap-within, whole-size, stands .small)
 
   pub both-sums : (answer : Walk) → Walks types type-end slice prefix-end c answer → SumsFit first answer
   both-sums (Past second-end after second) w =
       let s = came second-stands slice prefix-end c (halfway .forks .begins .bytes) (first-came .inside) w in
-      omega (arith, first-came .left-within, first-came .overlap-within, s .left-within, s .overlap-within, whole-size, stands .small)
+      omega (arith, first-came .remains-within, first-came .overlap-within, s .remains-within, s .overlap-within, whole-size, stands .small)
   both-sums (Failed e) w = tt
 
   pub still-first : getD slice from 0 ≡ 5 → (end : ℕ) → TypeEnds types type-end end

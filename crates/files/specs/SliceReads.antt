@@ -6,7 +6,7 @@ use Prim.Native.Nat.{ℕ, suc, _+_, _-_, _<_}
 use lib.Dec.{eqb, leb}
 use lib.ListN.{length, getD, drop}
 use Rattle.stream.specs.declared.Fault.the-variants.{SliceCutShort}
-use Rattle.files.specs.declared.prefixes.Prefix.{Prefix as Known}
+use Rattle.files.specs.declared.prefixes.Known.{Known}
 use Rattle.files.specs.declared.prefixes.Walk.{Walk}
 use Rattle.files.specs.declared.prefixes.Walk.the-variants.{Past, Failed}
 use Rattle.files.specs.declared.prefixes.SliceRead.{SliceRead}
@@ -21,15 +21,15 @@ pub mod Laws
 pub mod Descent
 
 -- How many bytes a prefix takes.
-unfoldable pub width : Prefix → ℕ
-width nothing = 1
-width cue-awaited = 1
-width cue-come = 1
-width level-awaited = 1
-width (level-come v) = suc value-width
-width (in-first p) = suc (width p)
-width (crossed b q) = suc (width b + width q)
-width (beside p q) = suc (width p + width q)
+unfoldable pub prefix-width : Prefix → ℕ
+prefix-width nothing = 1
+prefix-width cue-awaited = 1
+prefix-width cue-come = 1
+prefix-width level-awaited = 1
+prefix-width (level-come v) = suc value-width
+prefix-width (in-first p) = suc (prefix-width p)
+prefix-width (crossed b q) = suc (prefix-width b + prefix-width q)
+prefix-width (beside p q) = suc (prefix-width p + prefix-width q)
 
 -- How many bytes a join with a later prefix is shorter than the two: each node that is not in a crossed first part, and is
 -- not itself a crossing, meets one of the later prefix, and one of the two is written.
@@ -45,7 +45,7 @@ overlap (beside p q) = suc (overlap p + overlap q)
 
 -- What is known of a prefix of t.
 unfoldable pub known : Ty → Prefix → Known
-known t p = record { complete = complete p; left = size (derivative t p); overlap = overlap p }
+known t p = record { complete = complete p; remains = size (derivative t p); overlap = overlap p }
 
 unfoldable pub slice-read : Ty → Result Prefix → SliceRead
 slice-read t (accepted p) = Whole (known t p)
@@ -66,7 +66,7 @@ pub record SomePrefixAt (bytes : List ℕ) (at : ℕ) : Type 0 where
 
 -- `end` is where the prefix at `at` ends, whichever it is.
 pub record PrefixEnds (bytes : List ℕ) (at end : ℕ) : Type 0 where
-  pub each : (p : Prefix) → PrefixAt bytes at p → end ≡ at + width p
+  pub each : (p : Prefix) → PrefixAt bytes at p → end ≡ at + prefix-width p
 
 -- A type stands from `at` to `end`; `wide` is how many bytes each of its complete prefixes has.
 pub record TypeSpans (types : List ℕ) (at end : ℕ) : Type 0 where
@@ -75,7 +75,7 @@ pub record TypeSpans (types : List ℕ) (at end : ℕ) : Type 0 where
   pub ends : end ≡ at + size type
 
 pub record CompleteWide (types : List ℕ) (at end wide : ℕ) : Type 0 where
-  pub each : (span : TypeSpans types at end) (p : Prefix) → IsPrefix (span .type) p → Complete p → wide ≡ width p
+  pub each : (span : TypeSpans types at end) (p : Prefix) → IsPrefix (span .type) p → Complete p → wide ≡ prefix-width p
 
 -- The kind of type that each kind of slice belongs to, by its number; the kinds that keep a slice from being complete.
 abbrev pub type-kind-of : ℕ → ℕ
@@ -99,20 +99,20 @@ first-complete k c = getD (c ∷ c ∷ c ∷ c ∷ c ∷ false ∷ true ∷ []) 
 unfoldable pub leaf-walked : (type-end n from k : ℕ) → Walk
 leaf-walked type-end n from k =
     cond (leb (leaf-width k) (n - from))
-    (Past type-end (from + leaf-width k) (record { complete = not (is-unfinished k); left = 1; overlap = 1 }))
+    (Past type-end (from + leaf-width k) (record { complete = not (is-unfinished k); remains = 1; overlap = 1 }))
     (Failed SliceCutShort)
 
 -- What is known of a sequence's prefix from its first part's.
 abbrev pub first-known : Known → (second-size : ℕ) → Known
 first-known first second-size =
-    record { complete = false; left = 1 + first .left + second-size; overlap = 1 + first .overlap }
+    record { complete = false; remains = 1 + first .remains + second-size; overlap = 1 + first .overlap }
 
 -- Of two prefixes side by side; how the walk through both ends, from how it ends through the second.
 abbrev pub both-known : Known → Known → Known
 both-known first second =
     record {
       complete = first .complete && second .complete;
-      left = 1 + first .left + second .left;
+      remains = 1 + first .remains + second .remains;
       overlap = 1 + first .overlap + second .overlap;
     }
 
@@ -121,7 +121,7 @@ beside-walked first (Past type-end prefix-end second) = Past type-end prefix-end
 beside-walked first (Failed e) = Failed e
 
 abbrev pub SumsFit : Known → Walk → Type 0
-SumsFit first (Past type-end prefix-end second) = (first .left + second .left < type-limit) × (first .overlap + second .overlap < type-limit)
+SumsFit first (Past type-end prefix-end second) = (first .remains + second .remains < type-limit) × (first .overlap + second .overlap < type-limit)
 SumsFit first (Failed e) = Unit
 
 -- A prefix of what is owed, at the front of some bytes.

@@ -4,7 +4,7 @@ use mathlib.Core.Bool.{Bool}
 use mathlib.Core.List.{List, [], _∷_}
 use Prim.Native.Nat.{ℕ, _+_, _≤_}
 use lib.ListN.{getD, drop}
-use Rattle.files.specs.declared.types.Ty.{Ty as Place}
+use Rattle.files.specs.declared.types.TypePlace.{TypePlace}
 use Rattle.files.specs.declared.types.TypeRead.{TypeRead}
 use Rattle.files.specs.declared.types.TypeRead.the-variants.{Whole, Refused}
 use Rattle.stream.specs.Types.{Ty, nullable, size, type-limit}
@@ -17,7 +17,7 @@ abbrev pub type-arity : ℕ → ℕ
 type-arity k = getD (0 ∷ 0 ∷ 0 ∷ []) k 2
 
 -- The type of a file stands behind the two bytes of its section's count.
-abbrev pub in-file : Ty → Place
+abbrev pub in-file : Ty → TypePlace
 in-file t = record { start = 2; end = 2 + size t }
 
 unfoldable pub type-read : Result Ty → TypeRead

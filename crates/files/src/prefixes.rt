@@ -12,8 +12,8 @@ ghost use Rattle.files.specs.SliceReads.{type-kind-of, is-unfinished, be
 // What is known of a prefix that was read against its type: whether it is complete, how many nodes the type has that it
 // leaves, and by how many bytes its join with a later prefix is shorter than the two. The lengths stand apart: side by side
 // they would be loaded as one just after they were stored one by one, which costs a tenth of a small call.
-pub struct Prefix {
-    pub left: usize,
+pub struct Known {
+    pub remains: usize,
     pub complete: bool,
     pub overlap: usize,
 }
@@ -21,13 +21,13 @@ pub struct Prefix {
 // A type and a prefix of it, walked through: where the type ends, where the prefix ends, and what is known of the prefix; or
 // the first fault.
 pub enum Walk {
-    Past(usize, usize, Prefix),
+    Past(usize, usize, Known),
     Failed(Fault),
 }
 
 // What became of a slice file: what is known of its prefix, or why it is refused.
 pub enum SliceRead {
-    Whole(Prefix),
+    Whole(Known),
     Refused(Fault),
 }
 
@@ -133,29 +133,29 @@ fn walk_leaf(end: usize, slice: &[u8], from: usize) -> Walk
     Walk::Past(
         end,
         from + width,
-        Prefix {
+        Known {
             complete: !is_unfinished(kind),
-            left: 1,
+            remains: 1,
             overlap: 1,
         },
     )
 }
 
 // Of a sequence whose first part is still coming, from that part and from the size `second` of the second part's type.
-fn in_first(first: Prefix, second: usize) -> Prefix
-    requires { ⌜ first .left + second < type-limit ⌝ }
+fn in_first(first: Known, second: usize) -> Known
+    requires { ⌜ first .remains + second < type-limit ⌝ }
     requires { ⌜ first .overlap < type-limit ⌝ }
     ensures { λ r. ⌜ r ≡ first-known first second ⌝ }
 {
-    Prefix {
+    Known {
         complete: false,
-        left: 1 + first.left + second,
+        remains: 1 + first.remains + second,
         overlap: 1 + first.overlap,
     }
 }
 
 // Of two prefixes side by side, from the first and from how the walk through the second ended.
-fn beside(first: Prefix, second: Walk) -> Walk
+fn beside(first: Known, second: Walk) -> Walk
     requires { ⌜ SumsFit first second ⌝ }
     ensures { λ r. ⌜ r ≡ beside-walked first second ⌝ }
 {
@@ -164,9 +164,9 @@ fn beside(first: Prefix, second: Walk) -> Walk
         Walk::Past(type_end, prefix_end, prefix) => Walk::Past(
             type_end,
             prefix_end,
-            Prefix {
+            Known {
                 complete: first.complete && prefix.complete,
-                left: 1 + first.left + prefix.left,
+                remains: 1 + first.remains + prefix.remains,
                 overlap: 1 + first.overlap + prefix.overlap,
             },
         ),

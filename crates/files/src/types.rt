@@ -10,20 +10,20 @@ ghost use Rattle.files.specs.Sections.{end-of};
 ghost use Rattle.files.specs.TypeReads.{type-arity, type-read, SomeTypeAt, TypeEnds, NullableIs};
 
 // Where a type stands in some bytes: from `start` up to, not including, `end`.
-pub struct Ty {
+pub struct TypePlace {
     pub start: usize,
     pub end: usize,
 }
 
-impl Ty {
+impl TypePlace {
     // "At most 255 nodes in a type".
     pub const MAX_NODES: usize = 255;
 
     // Only the place: that a type stands there is for whoever made it to know.
-    pub fn new(start: usize, end: usize) -> Ty
+    pub fn new(start: usize, end: usize) -> TypePlace
         ensures { λ r. ⌜ r ≡ record { start = start; end = end } ⌝ }
     {
-        Ty { start, end }
+        TypePlace { start, end }
     }
 }
 
@@ -45,7 +45,7 @@ pub fn type_end(bytes: &[u8]) -> TreeEnd
     let mut at: usize = 0;
     while 0 < owed {
         // The limit is tried before the end of the bytes.
-        if at == Ty::MAX_NODES {
+        if at == TypePlace::MAX_NODES {
             return TreeEnd::Failed(Fault::TypeTooLarge);
         }
         if at == bytes.len() {
@@ -73,7 +73,7 @@ pub fn type_section_end(bytes: &[u8]) -> TreeEnd
 
 // What became of a type file: where its type stands in it, or why it is refused.
 pub enum TypeRead {
-    Whole(Ty),
+    Whole(TypePlace),
     Refused(Fault),
 }
 
@@ -87,7 +87,7 @@ pub fn read_type_file(file: &[u8]) -> TypeRead
             if end < file.len() {
                 TypeRead::Refused(Fault::LeftOver)
             } else {
-                TypeRead::Whole(Ty::new(2, end))
+                TypeRead::Whole(TypePlace::new(2, end))
             }
         }
     }

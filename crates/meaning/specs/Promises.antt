@@ -30,7 +30,7 @@ LeftPromise type slice lent answer lent-after = Writes (left type slice) lent an
 abbrev pub JoinPromise : (type first second lent : List ℕ) → Written → List ℕ → Type 0
 JoinPromise type first second lent answer lent-after = Writes (join type first second) lent answer lent-after
 
-pub record FeedPromise (patch slice output left : List ℕ) (answer : Fed) (output-after left-after : List ℕ) : Type 0 where
-  pub answers : answer ≡ fed (into-both output left (feed patch slice))
-  pub output-buffer : output-after ≡ after (λ w. w .output) (into-both output left (feed patch slice)) output
-  pub left-buffer : left-after ≡ after (λ w. w .patch) (into-both output left (feed patch slice)) left
+pub record FeedPromise (patch slice output-lent patch-lent : List ℕ) (answer : Fed) (output-after patch-after : List ℕ) : Type 0 where
+  pub answers : answer ≡ fed (into-both output-lent patch-lent (feed patch slice))
+  pub output-buffer : output-after ≡ after (λ w. w .output) (into-both output-lent patch-lent (feed patch slice)) output-lent
+  pub patch-buffer : patch-after ≡ after (λ w. w .patch) (into-both output-lent patch-lent (feed patch slice)) patch-lent

@@ -9,7 +9,7 @@ use Rattle.stream.specs.Reading.{Result, accepted, refused}
 use Rattle.node.specs.Nodes.{Node}
 use Rattle.node.specs.Checking.Laws.{Carries}
 use Rattle.node.specs.PatchFiles.{Patch, node-bytes}
-use Rattle.patches.specs.declared.Patch.{Patch as Place}
+use Rattle.patches.specs.declared.PatchPlace.{PatchPlace}
 use Rattle.patches.specs.declared.PatchRead.{PatchRead}
 use Rattle.patches.specs.declared.PatchRead.the-variants.{Whole, Refused}
 pub mod Laws
@@ -20,7 +20,7 @@ abbrev pub node-arity : ℕ → ℕ
 node-arity k = getD (0 ∷ 0 ∷ 0 ∷ 0 ∷ 2 ∷ 0 ∷ 0 ∷ 0 ∷ 0 ∷ 2 ∷ 2 ∷ []) k 0
 
 -- The input type of a patch file stands behind the two bytes of its section's count, and the nodes behind those of theirs.
-abbrev pub in-patch-file : Patch → Place
+abbrev pub in-patch-file : Patch → PatchPlace
 in-patch-file p = record { input = in-file (p .input); nodes = 2 + size (p .input) + 2 }
 
 unfoldable pub patch-read : Result Patch → PatchRead
@@ -28,8 +28,8 @@ patch-read (accepted p) = Whole (in-patch-file p)
 patch-read (refused e) = Refused e
 
 -- The number of a node's bytes.
-abbrev pub width : Node → ℕ
-width n = length (node-bytes n [])
+abbrev pub node-width : Node → ℕ
+node-width n = length (node-bytes n [])
 
 -- A node stands at a place of some bytes, and what it carries is within the limits; what stands behind it is free.
 pub record NodeAt (bytes : List ℕ) (at : ℕ) (n : Node) : Type 0 where

@@ -2,7 +2,7 @@
 use files::sections::TreeEnd;
 use files::sections::fill;
 use files::sections::section_end;
-use files::types::Ty;
+use files::types::TypePlace;
 use files::types::type_end;
 use files::types::type_section_end;
 use stream::Fault;
@@ -14,12 +14,12 @@ ghost use Rattle.node.specs.PatchFiles.{node-root, read-node, node-section, fir
 ghost use Rattle.patches.specs.PatchReads.{node-arity, patch-read};
 
 // Where a patch stands in its file: its input type, and from `nodes` to the end its nodes.
-pub struct Patch {
-    pub input: Ty,
+pub struct PatchPlace {
+    pub input: TypePlace,
     pub nodes: usize,
 }
 
-impl Patch {
+impl PatchPlace {
     // "At most 63 nodes in a patch."
     pub const MAX_NODES: usize = 63;
 
@@ -27,10 +27,10 @@ impl Patch {
     pub const MAX_NODE_BYTES: usize = 8223;
 
     // Only the place: that a patch stands there is for whoever made it to know.
-    pub fn new(input: Ty, nodes: usize) -> Patch
+    pub fn new(input: TypePlace, nodes: usize) -> PatchPlace
         ensures { λ r. ⌜ r ≡ record { input = input; nodes = nodes } ⌝ }
     {
-        Patch { input, nodes }
+        PatchPlace { input, nodes }
     }
 }
 
@@ -82,7 +82,7 @@ pub fn node_end(bytes: &[u8]) -> TreeEnd
     let mut at: usize = 0;
     while 0 < owed {
         // The limit is tried before the end of the bytes. A type that silent carries does not count.
-        if count == Patch::MAX_NODES {
+        if count == PatchPlace::MAX_NODES {
             return TreeEnd::Failed(Fault::TooManyNodes);
         }
         match root_end(bytes, at) {
@@ -111,7 +111,7 @@ fn node_section_end(bytes: &[u8]) -> TreeEnd
 
 // What became of a patch file: where its patch stands in it, or why it is refused.
 pub enum PatchRead {
-    Whole(Patch),
+    Whole(PatchPlace),
     Refused(Fault),
 }
 
@@ -127,7 +127,7 @@ pub fn read_patch_file(file: &[u8]) -> PatchRead
                 if type_end + read < file.len() {
                     PatchRead::Refused(Fault::LeftOver)
                 } else {
-                    PatchRead::Whole(Patch::new(Ty::new(2, type_end), type_end + 2))
+                    PatchRead::Whole(PatchPlace::new(TypePlace::new(2, type_end), type_end + 2))
                 }
             }
         },

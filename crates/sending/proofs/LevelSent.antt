@@ -10,7 +10,7 @@ use Rattle.stream.specs.Levels.{value-bytes}
 use Rattle.stream.specs.Levels.Laws.{value-length}
 use Rattle.stream.specs.Prefixes.{level-come}
 use Rattle.stream.specs.SliceFiles.{prefix-bytes}
-use Rattle.files.specs.SliceReads.{width}
+use Rattle.files.specs.SliceReads.{prefix-width}
 use Rattle.node.specs.PatchFiles.{node-bytes}
 use Rattle.patches.specs.PatchReads.Laws.{ends-inside}
 use Rattle.writing.specs.Writing.Laws.{part, back, Begun, begins, goes-on, room-left}
@@ -24,7 +24,7 @@ module _ {nodes : List ℕ} {from : ℕ} {out remainder : List ℕ} (due : Level
   value-inside = omega (arith, ends-inside (due .node-at))
 
   pub level-room : 3 ≤ length out
-  unfolding width
+  unfolding prefix-width
   level-room = due .output-room
 
   -- The bytes that are copied are those of the value.

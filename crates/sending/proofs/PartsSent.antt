@@ -6,7 +6,7 @@ use native.Mathlib.Omega.{arith}
 use lib.ListN.{getD}
 use Rattle.stream.specs.Types.{Ty, size, first-part, second-part}
 use Rattle.stream.specs.Prefixes.{Prefix, Complete, IsPrefix, of-first, of-crossed, of-beside, empty-prefix, derivative}
-use Rattle.files.specs.SliceReads.{width, PrefixAt, SomePrefixAt, PrefixEnds}
+use Rattle.files.specs.SliceReads.{prefix-width, PrefixAt, SomePrefixAt, PrefixEnds}
 use Rattle.files.specs.SliceReads.Laws.{kind-at, in-first-at, crossed-first-at, crossed-second-at, beside-first-at, beside-second-at}
 use Rattle.node.specs.Nodes.{silent, left-side, right-side, first, second, Takes, takes-left, takes-right, takes-first, takes-second}
 use Rattle.node.specs.Feeding.{sends, leaves}
@@ -70,7 +70,7 @@ module _ {slice : List ℕ} {place : ℕ} where
   second-coming takes-second (of-crossed h c k) stands five = absurd (omega (arith, kind-at stands))
 
   pub second-part-at : {type output : Ty} {p : Prefix} (wide : ℕ) → Takes type second output → IsPrefix type p → PrefixAt slice place p
-      → (getD slice place 0 ≡ 5 → ⊥) → ((b : Prefix) → IsPrefix (first-part type) b → Complete b → wide ≡ width b)
+      → (getD slice place 0 ≡ 5 → ⊥) → ((b : Prefix) → IsPrefix (first-part type) b → Complete b → wide ≡ prefix-width b)
       → PrefixAt slice (place + 1 + wide) (sends type second p) × (node-bytes (leaves type second p) [] ≡ 0 ∷ [])
   unfolding sends leaves node-bytes
   second-part-at wide takes-second (of-first h) stands other is-wide = absurd (other (kind-at stands))

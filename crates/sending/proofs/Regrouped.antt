@@ -11,12 +11,12 @@ use Rattle.stream.specs.Types.Laws.{limit-is}
 use Rattle.stream.specs.Prefixes.{Prefix, IsPrefix, of-first, of-crossed, of-beside}
 use Rattle.stream.specs.SliceFiles.{prefix-bytes}
 use Rattle.stream.specs.SliceFiles.Laws.{prefix-length}
-use Rattle.files.specs.SliceReads.{width, PrefixAt, SomePrefixAt, PrefixEnds}
-use Rattle.files.specs.SliceReads.Laws.{prefix-width, width-positive, prefix-before, prefix-inside, kind-at, in-first-at, crossed-first-at, crossed-second-at, beside-first-at, beside-second-at}
+use Rattle.files.specs.SliceReads.{prefix-width, PrefixAt, SomePrefixAt, PrefixEnds}
+use Rattle.files.specs.SliceReads.Laws.{prefix-bytes-length, width-positive, prefix-before, prefix-inside, kind-at, in-first-at, crossed-first-at, crossed-second-at, beside-first-at, beside-second-at}
 use Rattle.node.specs.Nodes.{Node, regroup-right, regroup-left, spread, Takes, takes-regroup-right, takes-regroup-left, takes-spread}
 use Rattle.node.specs.Feeding.{sends, leaves}
 use Rattle.node.specs.PatchFiles.{node-bytes}
-use Rattle.writing.specs.Appending.Laws.{Written}
+use Rattle.writing.specs.Appending.Laws.{WrittenSoFar}
 use Rattle.sending.specs.declared.Sent.{Sent}
 use Rattle.sending.specs.Sending.{LeavesKind, Delivers, LeafDue}
 use Rattle.sending.specs.Sending.Laws.{delivers-written}
@@ -44,8 +44,8 @@ pub record Piece (slice : List ℕ) (from to : ℕ) (bytes : List ℕ) : Type 0 
 
 module _ {n : Node} {slice : List ℕ} {place : ℕ} {out remainder : List ℕ} (due : LeafDue n slice place out remainder) where
   -- It is a prefix of a small type.
-  few : width (due .prefix) ≤ 511
-  few = omega (arith, prefix-length [] (due .is-prefix), prefix-width (due .prefix) [], due .small, limit-is)
+  few : prefix-width (due .prefix) ≤ 511
+  few = omega (arith, prefix-length [] (due .is-prefix), prefix-bytes-length (due .prefix) [], due .small, limit-is)
 
   -- A piece of the bytes of the prefix stands behind those before it.
   piece : (before bytes after : List ℕ) {from to : ℕ} → prefix-bytes (due .prefix) [] ≡ before ++ (bytes ++ after)
@@ -58,11 +58,11 @@ module _ {n : Node} {slice : List ℕ} {place : ℕ} {out remainder : List ℕ} 
         taken = taken;
       }
     where
-      wide : width (due .prefix) ≡ length before + (length bytes + length after)
+      wide : prefix-width (due .prefix) ≡ length before + (length bytes + length after)
       wide =
           omega (
             arith,
-            prefix-width (due .prefix) [],
+            prefix-bytes-length (due .prefix) [],
             ap length parts,
             length-append before (bytes ++ after),
             length-append bytes after,
@@ -84,7 +84,7 @@ module _ {n : Node} {slice : List ℕ} {place : ℕ} {out remainder : List ℕ} 
   pub whole-piece : {stop : ℕ} → PrefixEnds slice place stop → Piece slice place stop (prefix-bytes (due .prefix) [])
   whole-piece ends =
       piece [] (prefix-bytes (due .prefix) []) [] (sym (append-nil (prefix-bytes (due .prefix) []))) (omega arith)
-      (omega (arith, ends .each (due .prefix) (due .prefix-at), prefix-width (due .prefix) []))
+      (omega (arith, ends .each (due .prefix) (due .prefix-at), prefix-bytes-length (due .prefix) []))
 
 -- A prefix of a sequence
 
@@ -98,12 +98,12 @@ first-stands (of-crossed h c k) stands = some (crossed-first-at stands)
 record Rest (slice : List ℕ) (place : ℕ) (p : Prefix) (second : ℕ) : Type 0 where
   rest : Prefix
   stands : PrefixAt slice second rest
-  wide : place + width p ≡ second + width rest
+  wide : place + prefix-width p ≡ second + prefix-width rest
 
 -- It is crossed unless a 5 stands there.
 rest-stands : {slice : List ℕ} {place : ℕ} {s t : Ty} {p : Prefix} {second : ℕ} → IsPrefix (seq s t) p → PrefixAt slice place p
     → (getD slice place 0 ≡ 5 → ⊥) → PrefixEnds slice (place + 1) second → Rest slice place p second
-unfolding width
+unfolding prefix-width
 rest-stands (of-first h) stands other skipped = absurd (other (kind-at stands))
 rest-stands (of-crossed {b = b} {q = q} h c k) stands other skipped =
     let end = skipped .each b (crossed-first-at stands) in
@@ -116,7 +116,7 @@ pub record Sends (t : Ty) (n : Node) (p : Prefix) (bytes : List ℕ) (k : ℕ) :
 
 -- If it is written in pieces, that makes the delivery.
 pub delivered : {n : Node} {slice : List ℕ} {place k many : ℕ} {pieces bytes out remainder out-after remainder-after : List ℕ} {fed : Sent}
-    → (due : LeafDue n slice place out remainder) → Sends (due .type) n (due .prefix) bytes k → Written pieces out out-after many
+    → (due : LeafDue n slice place out remainder) → Sends (due .type) n (due .prefix) bytes k → WrittenSoFar pieces out out-after many
     → pieces ≡ bytes → LeavesKind k many remainder remainder-after fed
     → Delivers (sends (due .type) n (due .prefix)) (leaves (due .type) n (due .prefix)) out remainder out-after remainder-after fed
 delivered due is so-far all leaves-kind =
@@ -220,7 +220,7 @@ module _ {slice : List ℕ} {place : ℕ} {out remainder : List ℕ} (due : Leaf
 
     -- It ends where the code says.
     right-part-ends : second ≡ place + 1 + length (crossing right-part)
-    right-part-ends = omega (arith, ends .skipped .each right-part (right-found (ends .other) .stands), prefix-width right-part [])
+    right-part-ends = omega (arith, ends .skipped .each right-part (right-found (ends .other) .stands), prefix-bytes-length right-part [])
 
     -- The two pieces, and what is sent, made of them.
 
@@ -235,7 +235,7 @@ module _ {slice : List ℕ} {place : ℕ} {out remainder : List ℕ} (due : Leaf
           arith,
           right-part-ends,
           ends .ended .each (due .prefix) (due .prefix-at),
-          prefix-width (due .prefix) [],
+          prefix-bytes-length (due .prefix) [],
           ap length (right-found (ends .other) .flat-is),
           length-append (prefix-bytes right-part []) right-last,
         ))
@@ -314,7 +314,7 @@ module _ {slice : List ℕ} {place : ℕ} {out remainder : List ℕ} (due : Leaf
 
     -- It ends where the code says.
     left-part-ends : second ≡ place + length (crossing left-part)
-    left-part-ends = omega (arith, ends .skipped .each left-part (left-found .stands), prefix-width left-part [])
+    left-part-ends = omega (arith, ends .skipped .each left-part (left-found .stands), prefix-bytes-length left-part [])
 
     -- The two pieces, and what is sent, made of them.
 
@@ -330,7 +330,7 @@ module _ {slice : List ℕ} {place : ℕ} {out remainder : List ℕ} (due : Leaf
           left-part-ends,
           ends .ended .each (left-rest (ends .other) (ends .skipped) .rest) (left-rest (ends .other) (ends .skipped) .stands),
           left-rest (ends .other) (ends .skipped) .wide,
-          prefix-width (due .prefix) [],
+          prefix-bytes-length (due .prefix) [],
           ap length (left-found .nested-is),
           length-append (prefix-bytes left-part []) (getD slice second 0 ∷ left-last),
         ))
@@ -365,7 +365,7 @@ pub record Forked (slice : List ℕ) (place rest : ℕ) (t : Ty) (p : Prefix) : 
   pub other : Prefix
   pub stands : PrefixAt slice (place + 1) part
   pub one-stands : PrefixAt slice (rest + 1) one
-  pub other-stands : PrefixAt slice (rest + 1 + width one) other
+  pub other-stands : PrefixAt slice (rest + 1 + prefix-width one) other
   pub bytes-are : prefix-bytes p [] ≡ (crossing part ++ (7 ∷ [])) ++ (prefix-bytes one [] ++ prefix-bytes other [])
   pub sent-are : prefix-bytes (sends t spread p) [] ≡ 7 ∷ (((crossing part ++ prefix-bytes one []) ++ crossing part) ++ prefix-bytes other [])
   pub left-is : node-bytes (leaves t spread p) [] ≡ 0 ∷ []
@@ -438,16 +438,16 @@ module _ {slice : List ℕ} {place : ℕ} {out remainder : List ℕ} (due : Leaf
     -- b, q and r start and end where the code says.
 
     part-ends : rest ≡ place + length (crossing (places .part))
-    part-ends = omega (arith, ends .skipped .each (places .part) (places .stands), prefix-width (places .part) [])
+    part-ends = omega (arith, ends .skipped .each (places .part) (places .stands), prefix-bytes-length (places .part) [])
 
     one-starts : rest + 1 ≡ place + length before-one
     one-starts = omega (arith, part-ends, length-append (prefix-bytes (places .part) []) (7 ∷ []))
 
     one-ends : third ≡ rest + 1 + length one-bytes
-    one-ends = omega (arith, ends .parted .each (places .one) (places .one-stands), prefix-width (places .one) [])
+    one-ends = omega (arith, ends .parted .each (places .one) (places .one-stands), prefix-bytes-length (places .one) [])
 
     other-ends : stop ≡ third + length other-bytes
-    other-ends = omega (arith, ends .ended .each (places .other) (third-stands places (ends .parted)), prefix-width (places .other) [])
+    other-ends = omega (arith, ends .ended .each (places .other) (third-stands places (ends .parted)), prefix-bytes-length (places .other) [])
 
     -- The three pieces, and what is sent, made of them.
 

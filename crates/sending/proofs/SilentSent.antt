@@ -8,10 +8,10 @@ use Rattle.stream.specs.Types.{Ty, Nullable, null-empty, null-par, size}
 use Rattle.stream.specs.Buffers.{at-front}
 use Rattle.stream.specs.Prefixes.{empty-prefix}
 use Rattle.files.specs.TypeReads.{TypeAt}
-use Rattle.files.specs.SliceReads.{width as prefix-width}
+use Rattle.files.specs.SliceReads.{prefix-width}
 use Rattle.node.specs.Nodes.{silent}
 use Rattle.node.specs.PatchFiles.{node-bytes}
-use Rattle.patches.specs.PatchReads.{width}
+use Rattle.patches.specs.PatchReads.{node-width}
 use Rattle.patches.specs.PatchReads.Laws.{ends-inside, kind-at, bytes-at, Silent, silent-at}
 use Rattle.writing.specs.Writing.{EmptyDue, EmptyWritten}
 use Rattle.sending.specs.Sending.{Delivers, SilentDue}
@@ -32,7 +32,7 @@ module _ {nodes : List ℕ} {from : ℕ} {out remainder : List ℕ} (due : Silen
   same : carried .type ≡ due .type
   same = cc (carried .made)
 
-  wide : width (silent (due .type)) ≡ 1 + size (due .type)
+  wide : node-width (silent (due .type)) ≡ 1 + size (due .type)
   wide = rw same at (carried .wide)
 
   pub carried-at : TypeAt nodes (from + 1) (due .type)
@@ -44,7 +44,7 @@ module _ {nodes : List ℕ} {from : ℕ} {out remainder : List ℕ} (due : Silen
 
   module _ {out-after : List ℕ} {many : ℕ} (written : EmptyWritten nodes (from + 1) out out-after many) where
     -- .. and is `many` bytes long: the node has one byte more than what it sends.
-    pub silent-width : 1 + many ≡ width (silent (due .type))
+    pub silent-width : 1 + many ≡ node-width (silent (due .type))
     silent-width = omega (arith, written .each empty-due .0, empty-width (due .null), wide)
 
     -- Its bytes can be copied, and there is room for them.
@@ -54,7 +54,7 @@ module _ {nodes : List ℕ} {from : ℕ} {out remainder : List ℕ} (due : Silen
 
     pub silent-taken : take (from + (1 + many) - from) (drop from nodes) ≡ node-bytes (silent (due .type)) []
     silent-taken =
-        let long : from + (1 + many) - from ≡ width (silent (due .type)) = omega (arith, silent-width) in
+        let long : from + (1 + many) - from ≡ node-width (silent (due .type)) = omega (arith, silent-width) in
         rw long (bytes-at (due .node-at))
 
     pub silent-room : length (take (from + (1 + many) - from) (drop from nodes)) ≤ length remainder

@@ -8,18 +8,18 @@ use Rattle.stream.specs.Buffers.{at-front}
 use Rattle.stream.specs.Prefixes.{Prefix, cue-come, level-come, IsPrefix, empty-prefix}
 use Rattle.stream.specs.SliceFiles.{prefix-bytes}
 use Rattle.files.specs.TypeReads.{TypeAt}
-use Rattle.files.specs.SliceReads.{PrefixAt, width as prefix-width}
+use Rattle.files.specs.SliceReads.{PrefixAt, prefix-width}
 use Rattle.node.specs.Nodes.{Node, silent, emit-level, second, Takes, Small}
 use Rattle.node.specs.Feeding.{sends, leaves}
 use Rattle.node.specs.PatchFiles.{node-bytes}
-use Rattle.patches.specs.PatchReads.{width, NodeAt}
+use Rattle.patches.specs.PatchReads.{node-width, NodeAt}
 use Rattle.sending.specs.declared.Sent.{Sent}
 pub mod Laws
 
 -- The node n is left, and `many` bytes were sent.
 pub record Leaves (n : Node) (many : ℕ) (remainder remainder-after : List ℕ) (fed : Sent) : Type 0 where
   pub sent : fed .sent ≡ many
-  pub left : fed .left ≡ width n
+  pub left : fed .left ≡ node-width n
   pub buffer : remainder-after ≡ at-front (node-bytes n []) remainder
 
 -- The same for the nodes of one byte, by that byte.

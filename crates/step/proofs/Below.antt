@@ -10,7 +10,7 @@ use Rattle.stream.specs.Reading.{Reading, read, fault}
 use Rattle.node.specs.Nodes.{Node, pass, silent, emit-cue, emit-level, both, left-side, right-side, first, second, then, chain, regroup-right, regroup-left, spread, front, count, node-limit}
 use Rattle.node.specs.PatchFiles.{read-node}
 use Rattle.node.specs.PatchFiles.Laws.{read-node-reads}
-use Rattle.patches.specs.PatchReads.{width, NodeAt}
+use Rattle.patches.specs.PatchReads.{node-width, NodeAt}
 use Rattle.patches.specs.PatchReads.Laws.{node-drop, Forks, Parts, parts-at}
 use Rattle.step.specs.Steps.{nodes-below}
 
@@ -51,11 +51,11 @@ unfolding nodes-below
 below-one {nodes} {from} {n} stands few = below-read 0 (drop from nodes) (stands-read stands few) ∙ add-zero (count n)
 
 -- Of two nodes one behind the other, as many as both have.
-pub below-two : {nodes : List ℕ} {from : ℕ} {n m : Node} → NodeAt nodes from n → NodeAt nodes (from + width n) m
+pub below-two : {nodes : List ℕ} {from : ℕ} {n m : Node} → NodeAt nodes from n → NodeAt nodes (from + node-width n) m
     → count n ≤ node-limit → count m ≤ node-limit → nodes-below 2 (drop from nodes) ≡ count n + count m
 below-two {nodes} {from} {n} {m} stands behind few few-behind =
-    let follows : stands .rest ≡ drop (from + width n) nodes
-    = rw (← drop-drop (width n) from nodes, stands .here, node-drop n (stands .rest)) in
+    let follows : stands .rest ≡ drop (from + node-width n) nodes
+    = rw (← drop-drop (node-width n) from nodes, stands .here, node-drop n (stands .rest)) in
     below-read 1 (drop from nodes) (stands-read stands few)
     ∙ ap (λ k. count n + k) (ap (nodes-below 1) follows ∙ below-one behind few-behind)
 

@@ -12,7 +12,7 @@ use Rattle.node.specs.Nodes.{second, Takes, takes-second, output-type, count, n
 use Rattle.node.specs.Feeding.{sends, leaves}
 use Rattle.node.specs.Checking.{gives}
 use Rattle.node.specs.Checking.Laws.{gives-small}
-use Rattle.patches.specs.PatchReads.{width}
+use Rattle.patches.specs.PatchReads.{node-width}
 use Rattle.sending.specs.declared.Sent.{Sent}
 use Rattle.sending.specs.Sending.{SecondDue, SecondFed}
 use Rattle.typing.specs.declared.Typed.{Typed}
@@ -41,7 +41,7 @@ module _ {types : List ℕ} {at : ℕ} {slice : List ℕ} {place : ℕ} {out rem
   first-type = record { type = first-part (due .leaf .type); stands = first-stands }
 
   -- There is room for the node left, which is second or pass.
-  left-room : width (leaves (due .leaf .type) second (due .leaf .prefix)) ≤ length remainder
+  left-room : node-width (leaves (due .leaf .type) second (due .leaf .prefix)) ≤ length remainder
   unfolding count node-limit output-type type-limit
   left-room =
       omega (

@@ -7,12 +7,12 @@ use native.Mathlib.Omega.{arith}
 use lib.ListN.{getD}
 use Rattle.stream.specs.Types.{Ty, size}
 use Rattle.stream.specs.Prefixes.{Prefix}
-use Rattle.files.specs.SliceReads.{width as prefix-width}
+use Rattle.files.specs.SliceReads.{prefix-width}
 use Rattle.node.specs.Nodes.{Node, both, Takes, takes-both, output-type, count}
 use Rattle.node.specs.Feeding.{sends, leaves}
 use Rattle.patches.specs.PatchReads.Laws.{both-forks, Parts, parts-at}
 use Rattle.step.specs.declared.Step.{Step}
-use Rattle.step.specs.Steps.{Feedable, Room, FeedDue, FeedsNode, PartsDue, FeedsParts}
+use Rattle.step.specs.Steps.{Feedable, Room, FeedDue, FeedsNode, FeedPartsDue, FeedsParts}
 
 -- The types of both parts.
 both-types : {s o : Ty} {n m : Node} → Takes s (both n m) o → ((t : Ty) × Takes s n t) × ((r : Ty) × Takes s m r)
@@ -58,7 +58,7 @@ module _ {types : List ℕ} {at : ℕ} {nodes : List ℕ} {from : ℕ} {slice : 
   parts due = parts-at both-forks kind (due .stand .node-at)
 
   pub both-due : FeedDue types at nodes from slice place out remainder given
-      → PartsDue 7 types at at nodes (from + 1) slice place place out remainder given
+      → FeedPartsDue 7 types at at nodes (from + 1) slice place place out remainder given
   both-due due =
       let feedable = both-feedable (rw (parts due .made) at (due .feedable)) in
       record {

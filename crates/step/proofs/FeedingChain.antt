@@ -8,15 +8,15 @@ use lib.ListN.{length, getD, drop, set, length-append}
 use Rattle.stream.specs.Types.{Ty, size, type-limit}
 use Rattle.stream.specs.Prefixes.{Prefix, IsPrefix}
 use Rattle.stream.specs.SliceFiles.Laws.{prefix-length}
-use Rattle.files.specs.SliceReads.{width as prefix-width}
-use Rattle.files.specs.SliceReads.Laws.{prefix-width as prefix-bytes-long}
+use Rattle.files.specs.SliceReads.{prefix-width}
+use Rattle.files.specs.SliceReads.Laws.{prefix-bytes-length}
 use Rattle.writing.specs.Writing.Laws.{part, back}
 use Rattle.node.specs.Nodes.{Node, chain, Takes, takes-chain, output-type, count, Small}
 use Rattle.node.specs.Nodes.Laws.{output-type-is, output-small}
 use Rattle.node.specs.Feeding.{sends, leaves}
 use Rattle.node.specs.Feeding.Laws.{preserved}
 use Rattle.node.specs.PatchFiles.{node-bytes}
-use Rattle.patches.specs.PatchReads.{width, NodeAt}
+use Rattle.patches.specs.PatchReads.{node-width, NodeAt}
 use Rattle.patches.specs.PatchReads.Laws.{chain-forks, Parts, parts-at, node-before}
 use Rattle.step.specs.declared.Step.{Step}
 use Rattle.step.specs.Steps.{nodes-below, Leads, Feedable, FeedDue, Steps, FeedsNode}
@@ -116,7 +116,7 @@ module _ {types : List ℕ} {at : ℕ} {nodes : List ℕ} {from : ℕ} {slice : 
 
   sent-short : prefix-width sent ≤ 513
   unfolding type-limit
-  sent-short = omega (arith, prefix-length [] is-sent, prefix-bytes-long sent [], middle-small)
+  sent-short = omega (arith, prefix-length [] is-sent, prefix-bytes-length sent [], middle-small)
 
   -- The kind byte leads.
 
@@ -156,7 +156,7 @@ module _ {types : List ℕ} {at : ℕ} {nodes : List ℕ} {from : ℕ} {slice : 
       abbrev remainder-now : List ℕ
       remainder-now = back 1 (set remainder 0 10) z
 
-      steps : Steps (from + 1 + width (parts .first)) sent left middle-type between (part 1 (set remainder 0 10)) middle y z w step
+      steps : Steps (from + 1 + node-width (parts .first)) sent left middle-type between (part 1 (set remainder 0 10)) middle y z w step
       unfolding first-due
       steps = feeds .each first-due
 
@@ -221,7 +221,7 @@ module _ {types : List ℕ} {at : ℕ} {nodes : List ℕ} {from : ℕ} {slice : 
         abbrev second-left : Node
         second-left = leaves middle-type (parts .second) sent
 
-        second-steps : Steps (step .end + width (parts .second)) (sends middle-type (parts .second) sent) second-left
+        second-steps : Steps (step .end + node-width (parts .second)) (sends middle-type (parts .second) sent) second-left
             (output-type middle-type (parts .second)) out (part (1 + step .left) remainder-now) given out-after x given-after rest
         unfolding second-due
         second-steps = second-feeds .each second-due
@@ -235,7 +235,7 @@ module _ {types : List ℕ} {at : ℕ} {nodes : List ℕ} {from : ℕ} {slice : 
         unfolding node-bytes
         chain-bytes = ap (λ l. 10 ∷ l) (node-before left (node-bytes second-left []))
 
-        chain-width : width (chain left second-left) ≡ 1 + width left + width second-left
+        chain-width : node-width (chain left second-left) ≡ 1 + node-width left + node-width second-left
         chain-width = omega (arith, ap length chain-bytes, length-append (node-bytes left []) (node-bytes second-left []))
 
         pub both-fed : BothFed remainder remainder-after step rest
@@ -250,7 +250,7 @@ module _ {types : List ℕ} {at : ℕ} {nodes : List ℕ} {from : ℕ} {slice : 
         abbrev after : Step
         after = record { end = rest .end; sent = rest .sent; left = 1 + step .left + rest .left; size = rest .size }
 
-        both-steps : Steps (from + width (due .node)) (sends middle-type (parts .second) sent) (chain left second-left)
+        both-steps : Steps (from + node-width (due .node)) (sends middle-type (parts .second) sent) (chain left second-left)
             (output-type middle-type (parts .second)) out remainder given out-after remainder-after given-after after
         both-steps =
             record {
@@ -264,6 +264,6 @@ module _ {types : List ℕ} {at : ℕ} {nodes : List ℕ} {from : ℕ} {slice : 
             }
 
         pub chain-fed : {result : Step} → result ≡ after
-            → Steps (from + width (due .node)) (sends (due .type) (due .node) (due .prefix)) (leaves (due .type) (due .node) (due .prefix))
+            → Steps (from + node-width (due .node)) (sends (due .type) (due .node) (due .prefix)) (leaves (due .type) (due .node) (due .prefix))
             (output-type (due .type) (due .node)) out remainder given out-after remainder-after given-after result
         chain-fed told = rw (sends-second, leaves-chain, gives-second, told) both-steps

@@ -7,7 +7,7 @@ use native.Mathlib.Omega.{arith}
 use lib.ListN.{length, getD}
 use Rattle.stream.specs.Types.{Ty, Nullable, type-limit}
 use Rattle.stream.specs.Prefixes.{cue-come}
-use Rattle.files.specs.SliceReads.{width as prefix-width}
+use Rattle.files.specs.SliceReads.{prefix-width}
 use Rattle.node.specs.Nodes.{Node, silent, emit-cue, emit-level, second, Takes, takes-silent}
 use Rattle.node.specs.Feeding.{sends, leaves}
 use Rattle.node.specs.PatchFiles.{node-bytes}

@@ -10,16 +10,16 @@ use Rattle.stream.specs.Prefixes.{Prefix}
 use Rattle.stream.specs.TypeFiles.{type-bytes}
 use Rattle.stream.specs.SliceFiles.{prefix-bytes}
 use Rattle.files.specs.TypeReads.Laws.{type-before, type-width}
-use Rattle.files.specs.SliceReads.{type-kind-of, width as prefix-width}
-use Rattle.files.specs.SliceReads.Laws.{prefix-before, prefix-width as prefix-length}
+use Rattle.files.specs.SliceReads.{type-kind-of, prefix-width}
+use Rattle.files.specs.SliceReads.Laws.{prefix-before, prefix-bytes-length}
 use Rattle.writing.specs.Writing.Laws.{part, back}
 use Rattle.node.specs.Nodes.{Node, output-type, count}
 use Rattle.node.specs.Feeding.{sends, leaves}
 use Rattle.node.specs.PatchFiles.{node-bytes}
-use Rattle.patches.specs.PatchReads.{width}
+use Rattle.patches.specs.PatchReads.{node-width}
 use Rattle.patches.specs.PatchReads.Laws.{node-before}
 use Rattle.step.specs.declared.Step.{Step}
-use Rattle.step.specs.Steps.{nodes-below, Leads, Stand, Room, FeedDue, Steps, FeedsNode, PartsDue, parts-sent, parts-left, parts-given}
+use Rattle.step.specs.Steps.{nodes-below, Leads, Stand, Room, FeedDue, Steps, FeedsNode, FeedPartsDue, parts-sent, parts-left, parts-given}
 use Rattle.step.specs.Steps.Laws.{nothing-leads, byte-leads, leads-inside, leads-room, leads-on, left-width}
 use Rattle.step.proofs.Below.{count-positive, below-one, below-two}
 
@@ -53,24 +53,24 @@ pub starts-behind : {kind many left : ℕ} → (kind ≡ 6 → ⊥) → left ≡
 starts-behind other e = record { over = λ six. absurd (other six); behind = λ _. e }
 
 -- Bytes and more behind them lead, `written` many in all.
-record Written (bytes lent now : List ℕ) (written : ℕ) : Type 0 where
+record LeadsBy (bytes lent now : List ℕ) (written : ℕ) : Type 0 where
   long : written ≡ length bytes
   leads : Leads bytes lent now
 
 written-on : {e f whole lent now y : List ℕ} {a n : ℕ} → Leads e lent now → a ≡ length e → Leads f (part a now) y → n ≡ length f
-    → e ++ f ≡ whole → Written whole lent (back a now y) (a + n)
+    → e ++ f ≡ whole → LeadsBy whole lent (back a now y) (a + n)
 written-on {e} {f} leads first more second all =
     record { long = omega (arith, first, second, length-append e f, ap length all); leads = rw (← all) (leads-on leads first more) }
 
 -- What stays of the remainder in front of the second node's.
 record Stays (kind : ℕ) (n : Node) (left : ℕ) (remainder now : List ℕ) : Type 0 where
   bytes : List ℕ
-  written : Written bytes remainder now left
-  short : left ≤ 1 + width n
+  written : LeadsBy bytes remainder now left
+  short : left ≤ 1 + node-width n
   whole : (m : Node) → bytes ++ node-bytes m [] ≡ node-bytes (parts-left kind n m) []
 
 stays : {kind many left : ℕ} {n : Node} {remainder now : List ℕ} → (kind ≡ 6) ⊎ (kind ≡ 7) → Restarts kind many left
-    → Written (4 ∷ node-bytes n []) remainder now (1 + many) → Stays kind n left remainder now
+    → LeadsBy (4 ∷ node-bytes n []) remainder now (1 + many) → Stays kind n left remainder now
 unfolding node-bytes
 stays {kind} {many} {left} {n} {remainder} {now} kinds restarts first = ⊎-elim over behind kinds
   where
@@ -96,10 +96,10 @@ stays {kind} {many} {left} {n} {remainder} {now} kinds restarts first = ⊎-elim
 
 -- How many bytes a prefix takes, by their list.
 width-is : (o : Prefix) → prefix-width o ≡ length (prefix-bytes o [])
-width-is o = omega (arith, prefix-length o [])
+width-is o = omega (arith, prefix-bytes-length o [])
 
 module _ {kind : ℕ} {types : List ℕ} {first second : ℕ} {nodes : List ℕ} {from : ℕ} {slice : List ℕ} {one other : ℕ}
-    {out remainder given : List ℕ} (due : PartsDue kind types first second nodes from slice one other out remainder given) where
+    {out remainder given : List ℕ} (due : FeedPartsDue kind types first second nodes from slice one other out remainder given) where
   -- What each sends, leaves and gives.
 
   abbrev first-sent : Prefix
@@ -206,10 +206,10 @@ module _ {kind : ℕ} {types : List ℕ} {first second : ℕ} {nodes : List ℕ}
 
       -- What stands in the work bytes once the first node is fed.
       record First : Type 0 where
-        ends : step .end ≡ from + width (due .first-node)
-        output : Written (kind ∷ prefix-bytes first-sent []) out out-then (1 + step .sent)
-        node-left : Written (4 ∷ node-bytes first-left []) remainder remainder-then (1 + step .left)
-        type-given : Written (type-kind-of kind ∷ type-bytes first-given []) given given-then (1 + step .size)
+        ends : step .end ≡ from + node-width (due .first-node)
+        output : LeadsBy (kind ∷ prefix-bytes first-sent []) out out-then (1 + step .sent)
+        node-left : LeadsBy (4 ∷ node-bytes first-left []) remainder remainder-then (1 + step .left)
+        type-given : LeadsBy (type-kind-of kind ∷ type-bytes first-given []) given given-then (1 + step .size)
 
       first-fed : First
       first-fed =
@@ -283,7 +283,7 @@ module _ {kind : ℕ} {types : List ℕ} {first second : ℕ} {nodes : List ℕ}
             (feeds-rest : FeedsNode types second nodes (step .end) slice other (part (1 + step .sent) out-then) (part left remainder-then)
             (part (1 + step .size) given-then) out-rest remainder-rest given-rest rest) where
           -- What stands in the work bytes once both are fed.
-          pub both-fed : Steps (from + width (due .first-node) + width (due .second-node)) (parts-sent kind first-sent second-sent)
+          pub both-fed : Steps (from + node-width (due .first-node) + node-width (due .second-node)) (parts-sent kind first-sent second-sent)
               (parts-left kind first-left second-left) (parts-given kind first-given second-given) out remainder given
               (back (1 + step .sent) out-then out-rest) (back left remainder-then remainder-rest) (back (1 + step .size) given-then given-rest)
               (record { end = rest .end; sent = 1 + step .sent + rest .sent; left = left + rest .left; size = 1 + step .size + rest .size })
@@ -291,13 +291,13 @@ module _ {kind : ℕ} {types : List ℕ} {first second : ℕ} {nodes : List ℕ}
               let s = feeds-rest .each second-due in
               let one = first-fed in
               let whole = pairs (due .kinds) in
-              let sent : Written (prefix-bytes (parts-sent kind first-sent second-sent) []) out (back (1 + step .sent) out-then out-rest)
+              let sent : LeadsBy (prefix-bytes (parts-sent kind first-sent second-sent) []) out (back (1 + step .sent) out-then out-rest)
               (1 + step .sent + rest .sent)
               = written-on (one .output .leads) (one .output .long) (s .output) (s .sent ∙ width-is second-sent) (whole .sent first-sent second-sent) in
-              let node : Written (node-bytes (parts-left kind first-left second-left) []) remainder (back left remainder-then remainder-rest)
+              let node : LeadsBy (node-bytes (parts-left kind first-left second-left) []) remainder (back left remainder-then remainder-rest)
               (left + rest .left)
               = written-on (kept .written .leads) (kept .written .long) (s .node-left) (s .left) (kept .whole second-left) in
-              let type : Written (type-bytes (parts-given kind first-given second-given) []) given (back (1 + step .size) given-then given-rest)
+              let type : LeadsBy (type-bytes (parts-given kind first-given second-given) []) given (back (1 + step .size) given-then given-rest)
               (1 + step .size + rest .size)
               = written-on (one .type-given .leads) (one .type-given .long) (s .type-given) (s .sized ∙ sym (type-width second-given))
               (whole .given first-given second-given) in

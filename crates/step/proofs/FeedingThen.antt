@@ -15,20 +15,20 @@ use Rattle.stream.specs.TypeFiles.{type-bytes}
 use Rattle.stream.specs.SliceFiles.{prefix-bytes}
 use Rattle.files.specs.TypeReads.{SomeTypeAt, TypeEnds}
 use Rattle.files.specs.TypeReads.Laws.{first-at, second-behind, type-before, type-width}
-use Rattle.files.specs.SliceReads.{PrefixAt, TypeSpans, CompleteWide, width as prefix-width}
-use Rattle.files.specs.SliceReads.Laws.{prefix-width as prefix-bytes-long, width-positive, prefix-kind, prefix-inside, kind-at, in-first-at, crossed-first-at, crossed-second-at}
+use Rattle.files.specs.SliceReads.{PrefixAt, TypeSpans, CompleteWide, prefix-width}
+use Rattle.files.specs.SliceReads.Laws.{prefix-bytes-length, width-positive, prefix-kind, prefix-inside, kind-at, in-first-at, crossed-first-at, crossed-second-at}
 use Rattle.writing.specs.Writing.Laws.{part, back}
 use Rattle.node.specs.Nodes.{Node, then, Takes, takes-then, output-type, count}
 use Rattle.node.specs.Feeding.{sends, leaves}
 use Rattle.node.specs.PatchFiles.{node-bytes}
 use Rattle.node.specs.PatchFiles.Laws.{node-length}
-use Rattle.patches.specs.PatchReads.{width, NodeAt}
+use Rattle.patches.specs.PatchReads.{node-width, NodeAt}
 use Rattle.patches.specs.PatchReads.Laws.{then-forks, Parts, parts-at, node-before, bytes-at, ends-inside}
 use Rattle.typing.specs.declared.Typed.{Typed}
 use Rattle.typing.specs.declared.Typed.the-variants.{Gives, Failed}
 use Rattle.typing.specs.Typing.{TypingDue, TypesNode, Answers}
 use Rattle.step.specs.declared.Step.{Step}
-use Rattle.step.specs.Steps.{Leads, Feedable, Room, FeedDue, Steps, FeedsNode, GivesType, PartsDue, FeedsParts, nodes-below}
+use Rattle.step.specs.Steps.{Leads, Feedable, Room, FeedDue, Steps, FeedsNode, GivesType, FeedPartsDue, FeedsParts, nodes-below}
 use Rattle.step.proofs.Below.{below-one, then-count, parts-count, parts-fewer}
 use Rattle.step.proofs.Giving.{no-fault, gives-type, node-answered}
 use Rattle.step.specs.Steps.Laws.{front-leads, byte-leads, leads-inside, leads-room, leads-on, left-width}
@@ -233,7 +233,7 @@ module _ {types : List ℕ} {at : ℕ} {nodes : List ℕ} {from : ℕ} {slice : 
       pub rest-inside : place + 1 + wide ≤ length slice
       rest-inside = omega (arith, prefix-inside behind)
 
-      pub both-due : PartsDue 6 types (at + 1) second nodes (from + 1) slice (place + 1) (place + 1 + wide) out remainder given
+      pub both-due : FeedPartsDue 6 types (at + 1) second nodes (from + 1) slice (place + 1) (place + 1 + wide) out remainder given
       both-due =
           record {
             kinds = inl refl;
@@ -263,11 +263,11 @@ module _ {types : List ℕ} {at : ℕ} {nodes : List ℕ} {from : ℕ} {slice : 
       pub both-fed : {out-after remainder-after given-after : List ℕ} {step : Step}
           → FeedsParts 6 types (at + 1) second nodes (from + 1) slice (place + 1) (place + 1 + wide) out remainder given out-after remainder-after
           given-after step
-          → Steps (from + width (due .node)) (sends (due .type) (due .node) (due .prefix)) (leaves (due .type) (due .node) (due .prefix))
+          → Steps (from + node-width (due .node)) (sends (due .type) (due .node) (due .prefix)) (leaves (due .type) (due .node) (due .prefix))
           (output-type (due .type) (due .node)) out remainder given out-after remainder-after given-after step
       unfolding both-due
       both-fed feeds =
-          let ends : from + width (due .node) ≡ from + 1 + width (parts .first) + width (parts .second) = omega (arith, parts .wide) in
+          let ends : from + node-width (due .node) ≡ from + 1 + node-width (parts .first) + node-width (parts .second) = omega (arith, parts .wide) in
           rw (ends, both-sent, second-left, gives-sequence) (feeds .each both-due)
 
   -- While the first part is coming.
@@ -365,7 +365,7 @@ module _ {types : List ℕ} {at : ℕ} {nodes : List ℕ} {from : ℕ} {slice : 
       abbrev given-now : List ℕ
       given-now = back 1 (set given 0 3) w
 
-      steps : Steps (from + 1 + width (parts .first)) sent left first-given out-part remainder-part given-part y z w step
+      steps : Steps (from + 1 + node-width (parts .first)) sent left first-given out-part remainder-part given-part y z w step
       unfolding coming-due
       steps = feeds .each coming-due
 
@@ -386,7 +386,7 @@ module _ {types : List ℕ} {at : ℕ} {nodes : List ℕ} {from : ℕ} {slice : 
             out-kept = out-leads .long;
             remainder-kept = remainder-leads .long;
             given-kept = given-leads .long;
-            sent-inside = omega (arith, leads-inside out-leads, steps .sent, prefix-bytes-long sent []);
+            sent-inside = omega (arith, leads-inside out-leads, steps .sent, prefix-bytes-length sent []);
             left-inside = omega (arith, leads-inside remainder-leads, steps .left);
             size-inside = omega (arith, leads-inside given-leads, steps .sized, type-width first-given);
           }
@@ -407,7 +407,7 @@ module _ {types : List ℕ} {at : ℕ} {nodes : List ℕ} {from : ℕ} {slice : 
 
         -- The type of the second node is asked for.
         module _ {v : List ℕ} {answer : Typed} (typed : TypesNode types second nodes (step .end) (part (1 + step .size) given-now) v answer) where
-          answered : Answers (step .end + width (parts .second)) (accepted second-given) (part (1 + step .size) given-now) v answer
+          answered : Answers (step .end + node-width (parts .second)) (accepted second-given) (part (1 + step .size) given-now) v answer
           unfolding second-due
           answered = node-answered typed second-due (typings .second-types) (feedable .fits .1)
 
@@ -417,13 +417,13 @@ module _ {types : List ℕ} {at : ℕ} {nodes : List ℕ} {from : ℕ} {slice : 
 
           module _ {end other : ℕ} (gives : answer ≡ Gives end other) where
             -- Its type is written behind the first's, for there is room.
-            second-gives : GivesType (step .end + width (parts .second)) second-given (part (1 + step .size) given-now) v end other
+            second-gives : GivesType (step .end + node-width (parts .second)) second-given (part (1 + step .size) given-now) v end other
             second-gives =
                 gives-type answered (omega (arith, room-behind .for-type, leads-room given-leads (1 + step .size), steps .sized)) gives
 
             -- Where the second node ends, the size of its type, and its bytes.
 
-            ends : end ≡ step .end + width (parts .second)
+            ends : end ≡ step .end + node-width (parts .second)
             ends = second-gives .ends
 
             sized : other ≡ size second-given
@@ -431,11 +431,11 @@ module _ {types : List ℕ} {at : ℕ} {nodes : List ℕ} {from : ℕ} {slice : 
 
             taken : take (end - step .end) (drop (step .end) nodes) ≡ node-bytes (parts .second) []
             taken =
-                let long : end - step .end ≡ width (parts .second) = omega (arith, ends) in
+                let long : end - step .end ≡ node-width (parts .second) = omega (arith, ends) in
                 rw long (bytes-at second-node-at)
 
             -- There is room for the second node behind what is left of the first.
-            node-room : 1 + width left + width (parts .second) ≤ length remainder
+            node-room : 1 + node-width left + node-width (parts .second) ≤ length remainder
             node-room =
                 omega (
                   arith,
@@ -479,7 +479,7 @@ module _ {types : List ℕ} {at : ℕ} {nodes : List ℕ} {from : ℕ} {slice : 
               abbrev after : Step
               after = record { end = end; sent = 1 + step .sent; left = 1 + step .left + (end - step .end); size = 1 + step .size + other }
 
-              first-steps : Steps (from + width (due .node)) (in-first sent) (then left (parts .second)) (seq first-given second-given)
+              first-steps : Steps (from + node-width (due .node)) (in-first sent) (then left (parts .second)) (seq first-given second-given)
                   out remainder given out-now (back (1 + step .left) remainder-now x) (back (1 + step .size) given-now v) after
               unfolding prefix-bytes prefix-width type-bytes node-bytes size
               first-steps =
@@ -496,7 +496,7 @@ module _ {types : List ℕ} {at : ℕ} {nodes : List ℕ} {from : ℕ} {slice : 
                   }
 
               pub coming-fed : {result : Step} → result ≡ after
-                  → Steps (from + width (due .node)) (sends (due .type) (due .node) (due .prefix)) (leaves (due .type) (due .node) (due .prefix))
+                  → Steps (from + node-width (due .node)) (sends (due .type) (due .node) (due .prefix)) (leaves (due .type) (due .node) (due .prefix))
                   (output-type (due .type) (due .node)) out remainder given out-now (back (1 + step .left) remainder-now x)
                   (back (1 + step .size) given-now v) result
               coming-fed told = rw (sends-first, leaves-then, gives-sequence, told) first-steps

@@ -12,13 +12,13 @@ use Rattle.stream.specs.Reading.{accepted}
 use Rattle.stream.specs.TypeFiles.{type-bytes}
 use Rattle.stream.specs.SliceFiles.{prefix-bytes}
 use Rattle.files.specs.TypeReads.Laws.{type-width}
-use Rattle.files.specs.SliceReads.{width as prefix-width}
-use Rattle.files.specs.SliceReads.Laws.{prefix-width as prefix-length}
+use Rattle.files.specs.SliceReads.{prefix-width}
+use Rattle.files.specs.SliceReads.Laws.{prefix-bytes-length}
 use Rattle.node.specs.Nodes.{Node, Takes, output-type, Fits}
 use Rattle.node.specs.Nodes.Laws.{output-type-is}
 use Rattle.node.specs.Checking.Laws.{typing-complete}
 use Rattle.node.specs.PatchFiles.{node-bytes}
-use Rattle.patches.specs.PatchReads.{width}
+use Rattle.patches.specs.PatchReads.{node-width}
 use Rattle.sending.specs.declared.Sent.{Sent}
 use Rattle.sending.specs.Sending.{Delivers}
 use Rattle.typing.specs.declared.Typed.{Typed}
@@ -49,18 +49,18 @@ module _ {types : List ℕ} {at : ℕ} {nodes : List ℕ} {from : ℕ} {given gi
     (told : TypesNode types at nodes from given given-after answer) where
   -- The answer at a node that has a type is the type that the rules give.
   pub node-answered : {output : Ty} (due : TypingDue types at nodes from) → Takes (due .type) (due .node) output → Fits (due .type) (due .node)
-      → Answers (from + width (due .node)) (accepted (output-type (due .type) (due .node))) given given-after answer
+      → Answers (from + node-width (due .node)) (accepted (output-type (due .type) (due .node))) given given-after answer
   node-answered due is-typed fits = rw (output-type-is is-typed, ← typing-complete is-typed fits) (told .each due)
 
   -- The same where the node has no parts.
   pub leaf-answered : (due : GiveDue types at nodes from given)
-      → Answers (from + width (due .node)) (accepted (output-type (due .type) (due .node))) given given-after answer
+      → Answers (from + node-width (due .node)) (accepted (output-type (due .type) (due .node))) given given-after answer
   leaf-answered due =
       node-answered (record { type = due .type; node = due .node; type-at = due .type-at; node-at = due .node-at }) (due .is-typed) (due .fits)
 
 -- What was sent and left makes the step with the type given, if there was room for it.
 pub makes-step : {end : ℕ} (o : Prefix) (n : Node) {t : Ty} {out remainder given out-now remainder-now given-after : List ℕ} {fed : Sent} {step : Step}
-    → Delivers o n out remainder out-now remainder-now fed → prefix-width o ≤ length out → width n ≤ length remainder
+    → Delivers o n out remainder out-now remainder-now fed → prefix-width o ≤ length out → node-width n ≤ length remainder
     → step .sent ≡ fed .sent → step .left ≡ fed .left → GivesType end t given given-after (step .end) (step .size)
     → Steps end o n t out remainder given out-now remainder-now given-after step
 makes-step o n {out = out} {remainder = remainder} delivered output-room left-room sent left gives =
@@ -69,7 +69,7 @@ makes-step o n {out = out} {remainder = remainder} delivered output-room left-ro
       sent = sent ∙ delivered .leaves .sent;
       left = left ∙ delivered .leaves .left;
       sized = gives .sized;
-      output = front-leads (prefix-bytes o []) out (delivered .output) (omega (arith, prefix-length o []));
+      output = front-leads (prefix-bytes o []) out (delivered .output) (omega (arith, prefix-bytes-length o []));
       node-left = front-leads (node-bytes n []) remainder (delivered .leaves .buffer) left-room;
       type-given = gives .type-given;
     }

@@ -13,12 +13,12 @@ use Rattle.stream.specs.Buffers.{at-front}
 use Rattle.stream.specs.TypeFiles.{type-bytes}
 use Rattle.stream.specs.SliceFiles.{prefix-bytes}
 use Rattle.files.specs.TypeReads.{TypeAt}
-use Rattle.files.specs.SliceReads.{PrefixAt, width as prefix-width}
+use Rattle.files.specs.SliceReads.{PrefixAt, prefix-width}
 use Rattle.writing.specs.Writing.{LeftFileDue}
 use Rattle.node.specs.Nodes.{Node, both, second, Takes, output-type, count, node-limit, Fits}
 use Rattle.node.specs.Feeding.{sends, leaves}
 use Rattle.node.specs.PatchFiles.{node-bytes, read-node, patch-file-bytes}
-use Rattle.patches.specs.PatchReads.{node-arity, width, NodeAt}
+use Rattle.patches.specs.PatchReads.{node-arity, node-width, NodeAt}
 use Rattle.sending.specs.declared.Sent.{Sent}
 use Rattle.sending.specs.Sending.{LeafDue}
 use Rattle.step.specs.declared.Step.{Step}
@@ -68,7 +68,7 @@ pub record FeedDue (types : List ℕ) (at : ℕ) (nodes : List ℕ) (from : ℕ)
 pub record Steps (end : ℕ) (o : Prefix) (n : Node) (t : Ty) (out remainder given out-after remainder-after given-after : List ℕ) (step : Step) : Type 0 where
   pub ends : step .end ≡ end
   pub sent : step .sent ≡ prefix-width o
-  pub left : step .left ≡ width n
+  pub left : step .left ≡ node-width n
   pub sized : step .size ≡ size t
   pub output : Leads (prefix-bytes o []) out out-after
   pub node-left : Leads (node-bytes n []) remainder remainder-after
@@ -76,7 +76,7 @@ pub record Steps (end : ℕ) (o : Prefix) (n : Node) (t : Ty) (out remainder giv
 
 pub record FeedsNode (types : List ℕ) (at : ℕ) (nodes : List ℕ) (from : ℕ) (slice : List ℕ) (place : ℕ) (out remainder given out-after remainder-after given-after : List ℕ) (step : Step) : Type 0 where
   pub each : (due : FeedDue types at nodes from slice place out remainder given)
-      → Steps (from + width (due .node)) (sends (due .type) (due .node) (due .prefix)) (leaves (due .type) (due .node) (due .prefix))
+      → Steps (from + node-width (due .node)) (sends (due .type) (due .node) (due .prefix)) (leaves (due .type) (due .node) (due .prefix))
       (output-type (due .type) (due .node)) out remainder given out-after remainder-after given-after step
 
 -- A node that ends at `end` gives the type t, and both its end and the size of the type are told.
@@ -101,7 +101,7 @@ pub record GivesLeaf (types : List ℕ) (at : ℕ) (nodes : List ℕ) (from : �
   pub sent : step .sent ≡ fed .sent
   pub left : step .left ≡ fed .left
   pub each : (due : GiveDue types at nodes from given)
-      → GivesType (from + width (due .node)) (output-type (due .type) (due .node)) given given-after (step .end) (step .size)
+      → GivesType (from + node-width (due .node)) (output-type (due .type) (due .node)) given given-after (step .end) (step .size)
 
 -- Second is to be fed, of the type at `at`, and there is room for the type that it gives.
 pub record BehindDue (types : List ℕ) (at : ℕ) (slice : List ℕ) (place : ℕ) (out remainder given : List ℕ) : Type 0 where
@@ -117,7 +117,7 @@ pub record FeedsBehind (types : List ℕ) (at end : ℕ) (slice : List ℕ) (pla
 
 -- Two nodes one behind the other are fed in turn: what they send has the kind 6 if *then* is crossed, 7 for *both*. After a
 -- crossing the second node's remainder is left alone.
-pub record PartsDue (kind : ℕ) (types : List ℕ) (first second : ℕ) (nodes : List ℕ) (from : ℕ) (slice : List ℕ) (one other : ℕ) (out remainder given : List ℕ) : Type 0 where
+pub record FeedPartsDue (kind : ℕ) (types : List ℕ) (first second : ℕ) (nodes : List ℕ) (from : ℕ) (slice : List ℕ) (one other : ℕ) (out remainder given : List ℕ) : Type 0 where
   pub kinds : (kind ≡ 6) ⊎ (kind ≡ 7)
   pub first-type : Ty
   pub second-type : Ty
@@ -126,7 +126,7 @@ pub record PartsDue (kind : ℕ) (types : List ℕ) (first second : ℕ) (nodes 
   pub first-prefix : Prefix
   pub second-prefix : Prefix
   pub first-stand : Stand types first nodes from slice one first-type first-node first-prefix
-  pub second-stand : Stand types second nodes (from + width first-node) slice other second-type second-node second-prefix
+  pub second-stand : Stand types second nodes (from + node-width first-node) slice other second-type second-node second-prefix
   pub first-feedable : Feedable first-type first-node first-prefix
   pub second-feedable : Feedable second-type second-node second-prefix
   pub room : Room (1 + prefix-width (sends first-type first-node first-prefix) + prefix-width (sends second-type second-node second-prefix))
@@ -143,8 +143,8 @@ abbrev pub parts-given : ℕ → Ty → Ty → Ty
 parts-given k t r = elim (eqb k 6) [ true ↦ seq t r | false ↦ par t r ]
 
 pub record FeedsParts (kind : ℕ) (types : List ℕ) (first second : ℕ) (nodes : List ℕ) (from : ℕ) (slice : List ℕ) (one other : ℕ) (out remainder given out-after remainder-after given-after : List ℕ) (step : Step) : Type 0 where
-  pub each : (due : PartsDue kind types first second nodes from slice one other out remainder given)
-      → Steps (from + width (due .first-node) + width (due .second-node))
+  pub each : (due : FeedPartsDue kind types first second nodes from slice one other out remainder given)
+      → Steps (from + node-width (due .first-node) + node-width (due .second-node))
       (parts-sent kind (sends (due .first-type) (due .first-node) (due .first-prefix)) (sends (due .second-type) (due .second-node) (due .second-prefix)))
       (parts-left kind (leaves (due .first-type) (due .first-node) (due .first-prefix)) (leaves (due .second-type) (due .second-node) (due .second-prefix)))
       (parts-given kind (output-type (due .first-type) (due .first-node)) (output-type (due .second-type) (due .second-node)))

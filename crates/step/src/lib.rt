@@ -25,7 +25,7 @@ use writing::write_left_file;
 use writing::write_section;
 ghost use mathlib.Core.Path.{_≡_};
 ghost use lib.ListN.{getD};
-ghost use Rattle.step.specs.Steps.{FeedDue, FeedsNode, GiveDue, GivesLeaf, BehindDue, FeedsBehind, PartsDue, FeedsParts, PatchLeftDue, PatchLeftWritten};
+ghost use Rattle.step.specs.Steps.{FeedDue, FeedsNode, GiveDue, GivesLeaf, BehindDue, FeedsBehind, FeedPartsDue, FeedsParts, PatchLeftDue, PatchLeftWritten};
 
 // How a feed leaves a node: where the node ends, how many bytes it sends, how many the node left has, and how many nodes the type
 // that it gives.
@@ -145,7 +145,7 @@ fn feed_parts(
     remainder: &mut [u8],
     given: &mut [u8],
 ) -> Step
-    requires { ⌜ PartsDue kind (now types) first second (now nodes) from (now slice) one other (now out) (now remainder) (now given) ⌝ }
+    requires { ⌜ FeedPartsDue kind (now types) first second (now nodes) from (now slice) one other (now out) (now remainder) (now given) ⌝ }
     ensures { λ r. ⌜ FeedsParts kind (now (types .entry)) first second (now (nodes .entry)) from (now (slice .entry)) one other (now (out .entry)) (now (remainder .entry)) (now (given .entry)) (now (out .exit)) (now (remainder .exit)) (now (given .exit)) r ⌝ }
 {
     out[0] = kind;

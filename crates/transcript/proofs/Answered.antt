@@ -34,16 +34,16 @@ checked file lent b room promise =
     (roomy (fits-one (length lent)) (check file) (λ type e. le-leb (length type) (length lent) (le-trans (check-sized file b .sized type e .short) room)))
 
 -- A feed with its outcome, 20 aside.
-pub record FedBy (outcome : Result FedFiles) (output left : List ℕ) (answer : Fed) (output-after left-after : List ℕ) : Type 0 where
+pub record FedBy (outcome : Result FedFiles) (output patch-lent : List ℕ) (answer : Fed) (output-after patch-after : List ℕ) : Type 0 where
   pub answers : answer ≡ fed outcome
   pub output-buffer : output-after ≡ after (λ w. w .output) outcome output
-  pub left-buffer : left-after ≡ after (λ w. w .patch) outcome left
+  pub patch-buffer : patch-after ≡ after (λ w. w .patch) outcome patch-lent
 
-pub fed-by : (patch slice output left : List ℕ) {answer : Fed} {output-after left-after : List ℕ} → Bytes patch → Bytes slice
-    → 513 ≤ length output → 8482 ≤ length left → FeedPromise patch slice output left answer output-after left-after
-    → FedBy (feed patch slice) output left answer output-after left-after
-fed-by patch slice output left b c h k promise =
+pub fed-by : (patch slice output patch-lent : List ℕ) {answer : Fed} {output-after patch-after : List ℕ} → Bytes patch → Bytes slice
+    → 513 ≤ length output → 8482 ≤ length patch-lent → FeedPromise patch slice output patch-lent answer output-after patch-after
+    → FedBy (feed patch slice) output patch-lent answer output-after patch-after
+fed-by patch slice output patch-lent b c h k promise =
     let e =
-    roomy (fits-both (length output) (length left)) (feed patch slice)
+    roomy (fits-both (length output) (length patch-lent)) (feed patch slice)
     (λ w e. let s = feed-sized-of-bytes patch slice b c .sized w e in both-fit w (le-trans (s .output .short) h) (le-trans (s .patch .short) k)) in
-    record { answers = rw e at (promise .answers); output-buffer = rw e at (promise .output-buffer); left-buffer = rw e at (promise .left-buffer) }
+    record { answers = rw e at (promise .answers); output-buffer = rw e at (promise .output-buffer); patch-buffer = rw e at (promise .patch-buffer) }

@@ -124,32 +124,32 @@ module _ (patch slice lent : List ℕ) (n : ℕ) where
       }
 
 -- What an accepted feed leaves in its two buffers.
-pub record Sent (patch slice output left : List ℕ) (answer : Fed) (output-after left-after : List ℕ) : Type 0 where
+pub record FedInto (patch slice output patch-lent : List ℕ) (answer : Fed) (output-after patch-after : List ℕ) : Type 0 where
   pub written : FedFiles
   pub is-fed : feed patch slice ≡ accepted written
   pub sections : FedSections written
   pub sent : answer .output ≡ 2 + length (sections .output)
   pub kept : answer .patch ≡ length (written .patch)
   pub output-stands : output-after ≡ at-front (section-bytes (sections .output) []) output
-  pub left-stands : left-after ≡ at-front (section-bytes (sections .type) (sections .nodes)) left
+  pub patch-stands : patch-after ≡ at-front (section-bytes (sections .type) (sections .nodes)) patch-lent
   pub output-long : length output-after ≡ length output
-  pub left-long : length left-after ≡ length left
+  pub patch-long : length patch-after ≡ length patch-lent
 
-pub is-sent : (patch slice output left : List ℕ) {answer : Fed} {output-after left-after : List ℕ} → Bytes patch → Bytes slice
-    → 513 ≤ length output → 8482 ≤ length left → FedBy (feed patch slice) output left answer output-after left-after → answer .number ≡ 0
-    → Sent patch slice output left answer output-after left-after
+pub is-sent : (patch slice output patch-lent : List ℕ) {answer : Fed} {output-after patch-after : List ℕ} → Bytes patch → Bytes slice
+    → 513 ≤ length output → 8482 ≤ length patch-lent → FedBy (feed patch slice) output patch-lent answer output-after patch-after → answer .number ≡ 0
+    → FedInto patch slice output patch-lent answer output-after patch-after
 unfolding fed after
-is-sent patch slice output left {answer} {output-after} {left-after} b c h k by none =
+is-sent patch slice output patch-lent {answer} {output-after} {patch-after} b c h k by none =
     go (feed patch slice) refl (sym (ap (λ (a : Fed). a .number) (by .answers)) ∙ none)
   where
-    go : (o : Result FedFiles) → feed patch slice ≡ o → number-of o ≡ 0 → Sent patch slice output left answer output-after left-after
+    go : (o : Result FedFiles) → feed patch slice ≡ o → number-of o ≡ 0 → FedInto patch slice output patch-lent answer output-after patch-after
     go (refused f) e n = absurd (omega (arith, number-bounds f .0))
     go (accepted w) e n =
         let sections = fed-sections patch slice w b c e in
         let answers : answer ≡ fed (accepted w) = by .answers ∙ ap fed e in
         let sized = feed-sized-of-bytes patch slice b c .sized w e in
         let output-stands : output-after ≡ at-front (w .output) output = by .output-buffer ∙ ap (λ o. after (λ (v : FedFiles). v .output) o output) e in
-        let left-stands : left-after ≡ at-front (w .patch) left = by .left-buffer ∙ ap (λ o. after (λ (v : FedFiles). v .patch) o left) e in
+        let patch-stands : patch-after ≡ at-front (w .patch) patch-lent = by .patch-buffer ∙ ap (λ o. after (λ (v : FedFiles). v .patch) o patch-lent) e in
         record {
           written = w;
           is-fed = e;
@@ -157,7 +157,7 @@ is-sent patch slice output left {answer} {output-after} {left-after} b c h k by 
           sent = ap (λ (a : Fed). a .output) answers ∙ ap length (sections .output-is) ∙ section-length (sections .output) [] ∙ omega arith;
           kept = ap (λ (a : Fed). a .patch) answers;
           output-stands = output-stands ∙ ap (λ l. at-front l output) (sections .output-is);
-          left-stands = left-stands ∙ ap (λ l. at-front l left) (sections .patch-is);
+          patch-stands = patch-stands ∙ ap (λ l. at-front l patch-lent) (sections .patch-is);
           output-long = ap length output-stands ∙ front-length (w .output) output (le-trans (sized .output .short) h);
-          left-long = ap length left-stands ∙ front-length (w .patch) left (le-trans (sized .patch .short) k);
+          patch-long = ap length patch-stands ∙ front-length (w .patch) patch-lent (le-trans (sized .patch .short) k);
         }

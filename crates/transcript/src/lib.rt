@@ -126,28 +126,28 @@ fn take_patch(file: &[u8], patch: &mut [u8], out: &mut [u8]) -> Line
     Line::new(Stage::Feeding(file.len()), 0)
 }
 
-// Feeds a slice to the patch, which stands in the first `size` bytes; the patch left takes its place. `output` and `left`
-// are work bytes for what Feed writes.
+// Feeds a slice to the patch, which stands in the first `size` bytes; the patch left takes its place. `output` and
+// `patch_left` are work bytes for what Feed writes.
 fn feed_slice(
     file: &[u8],
     size: usize,
     patch: &mut [u8],
     output: &mut [u8],
-    left: &mut [u8],
+    patch_left: &mut [u8],
     out: &mut [u8],
 ) -> Line
-    requires { ⌜ Ready (Feeding size) (now patch) (now out) × (513 ≤ length (now output)) × (8482 ≤ length (now left)) ⌝ }
+    requires { ⌜ Ready (Feeding size) (now patch) (now out) × (513 ≤ length (now output)) × (8482 ≤ length (now patch_left)) ⌝ }
     ensures { λ r. ⌜ TakesFile (Feeding size) (now (patch .entry)) (now (file .entry)) (now (out .entry)) r (now (patch .exit)) (now (out .exit)) ⌝ }
 {
-    let fed = feed(&patch[..size], file, output, left);
+    let fed = feed(&patch[..size], file, output, patch_left);
     if fed.number != 0 {
         return Line::new(Stage::Feeding(size), put_number(fed.number, out));
     }
     let sent = fed.output;
     let kept = fed.patch;
-    let type_end = 2 + count_of(left[0], left[1]);
-    let written = put_fed(&output[2..sent], &left[2..type_end], out);
-    copy(&left[..kept], patch);
+    let type_end = 2 + count_of(patch_left[0], patch_left[1]);
+    let written = put_fed(&output[2..sent], &patch_left[2..type_end], out);
+    copy(&patch_left[..kept], patch);
     Line::new(Stage::Feeding(kept), written)
 }
 
@@ -157,8 +157,8 @@ fn take_slice(file: &[u8], size: usize, patch: &mut [u8], out: &mut [u8]) -> Lin
     ensures { λ r. ⌜ TakesFile (Feeding size) (now (patch .entry)) (now (file .entry)) (now (out .entry)) r (now (patch .exit)) (now (out .exit)) ⌝ }
 {
     let mut output = [0u8; 513];
-    let mut left = [0u8; 8482];
-    feed_slice(file, size, patch, &mut output, &mut left, out)
+    let mut patch_left = [0u8; 8482];
+    feed_slice(file, size, patch, &mut output, &mut patch_left, out)
 }
 
 // Takes one file, if there is a whole one and the program has not stopped.

@@ -14,7 +14,7 @@ use Rattle.node.specs.Checking.{gives, typing}
 use Rattle.node.specs.PatchFiles.{node-bytes}
 use Rattle.typing.specs.declared.Typed.{Typed}
 use Rattle.typing.specs.declared.Typed.the-variants.{Gives}
-use Rattle.patches.specs.PatchReads.{node-arity, width}
+use Rattle.patches.specs.PatchReads.{node-arity, node-width}
 use Rattle.patches.specs.PatchReads.Laws.{ends-inside, Case, by-byte, silent-at}
 use Rattle.writing.specs.Appending.{Appends}
 use Rattle.typing.specs.Typing.{Answers, GivenCarried, TypingDue, TypesNode}
@@ -23,7 +23,7 @@ use Rattle.typing.specs.Typing.Laws.{answers-small}
 
 -- The nodes of the kind k take `wide` bytes and have this outcome.
 abbrev pub Leaf : ℕ → (Ty → Result Ty) → ℕ → Type 0
-Leaf wide outcome k = Case (λ n. (width n ≡ wide) × ((t : Ty) → typing t n ≡ outcome t)) k
+Leaf wide outcome k = Case (λ n. (node-width n ≡ wide) × ((t : Ty) → typing t n ≡ outcome t)) k
 
 module _ {types : List ℕ} {at : ℕ} {nodes : List ℕ} {from : ℕ} where
   pub leaf-typed : {lent after : List ℕ} {answer : Typed} {k : ℕ} {outcome : Ty → Result Ty} (wide : ℕ) → getD nodes from 0 ≡ k → Leaf wide outcome k
@@ -32,9 +32,9 @@ module _ {types : List ℕ} {at : ℕ} {nodes : List ℕ} {from : ℕ} where
   leaf-typed {lent} {after} {answer} {k} {outcome} wide e leaf given = record { each = each }
     where
       each : (due : TypingDue types at nodes from)
-          → Answers (from + width (due .node)) (typing (due .type) (due .node)) lent after answer
+          → Answers (from + node-width (due .node)) (typing (due .type) (due .node)) lent after answer
       each due =
-          let is = by-byte (λ n. (width n ≡ wide) × ((t : Ty) → typing t n ≡ outcome t)) (due .node-at) e leaf in
+          let is = by-byte (λ n. (node-width n ≡ wide) × ((t : Ty) → typing t n ≡ outcome t)) (due .node-at) e leaf in
           rw (is .0, is .1 (due .type)) (given (due .type) (due .type-at))
 
   -- Cue and level give a type of one byte.
@@ -54,17 +54,17 @@ module _ {types : List ℕ} {at : ℕ} {nodes : List ℕ} {from : ℕ} where
     silent-typed {lent} {after} {answer} given = record { each = each }
       where
         each : (due : TypingDue types at nodes from)
-            → Answers (from + width (due .node)) (typing (due .type) (due .node)) lent after answer
+            → Answers (from + node-width (due .node)) (typing (due .type) (due .node)) lent after answer
         each due =
             let silent = silent-at e (due .node-at) in
-            let end : from + width (due .node) ≡ from + 1 + size (silent .type) = omega (arith, silent .wide) in
+            let end : from + node-width (due .node) ≡ from + 1 + size (silent .type) = omega (arith, silent .wide) in
             rw (end, ap (typing (due .type)) (silent .made)) (given .each (silent .type) (silent .type-at))
 
   -- A level's value stands behind its kind byte.
   pub level-inside : TypingDue types at nodes from → getD nodes from 0 ≡ 3 → from + 3 ≤ length nodes
   unfolding node-bytes value-bytes
   level-inside due e =
-      let wide = by-byte (λ n. width n ≡ 3) (due .node-at) e (λ v. refl) in
+      let wide = by-byte (λ n. node-width n ≡ 3) (due .node-at) e (λ v. refl) in
       omega (arith, ends-inside (due .node-at))
 
 -- The kinds that are left when all others but those with parts have been tried: front alone.

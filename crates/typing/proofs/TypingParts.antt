@@ -19,11 +19,11 @@ use Rattle.node.specs.Checking.{gives, typing}
 use Rattle.node.specs.Checking.Laws.{Carries, gives-small}
 use Rattle.typing.specs.declared.Typed.{Typed}
 use Rattle.typing.specs.declared.Typed.the-variants.{Gives, Failed}
-use Rattle.patches.specs.PatchReads.{width, NodeAt}
+use Rattle.patches.specs.PatchReads.{node-width, NodeAt}
 use Rattle.patches.specs.PatchReads.Laws.{ends-inside, width-positive, Forks, both-forks, then-forks, chain-forks, Parts, parts-at}
 use Rattle.writing.specs.Appending.{Appends, Within}
-use Rattle.typing.specs.Typing.{limited, Answers, TypingDue, TypesNode, PartsDue, fork, parts-typing, TypesParts}
-use Rattle.writing.specs.Appending.Laws.{back-length, Written, nothing-written, written-on, written-part}
+use Rattle.typing.specs.Typing.{limited, Answers, TypingDue, TypesNode, TypePartsDue, fork, parts-typing, TypesParts}
+use Rattle.writing.specs.Appending.Laws.{back-length, WrittenSoFar, nothing-written, written-on, written-part}
 use Rattle.typing.specs.Typing.Laws.{other-shape, same-shape, is-fork, typing-small, is-given, is-refused, answers-refused, answers-written, requires-fails}
 
 fork-bytes : {k : ℕ} (t r : Ty) → (k ≡ 3) ⊎ (k ≡ 4) → (k ∷ type-bytes t []) ++ type-bytes r [] ≡ type-bytes (fork k t r) []
@@ -49,16 +49,16 @@ pub record FirstGiven (nodes : List ℕ) (from before next many : ℕ) : Type 0 
 -- Both parts of a type, written one behind the other
 
 module _ {kind : ℕ} {types : List ℕ} {first second : ℕ} {nodes : List ℕ} {from : ℕ} where
-  abbrev pub first-due : PartsDue kind types first second nodes from → TypingDue types first nodes from
+  abbrev pub first-due : TypePartsDue kind types first second nodes from → TypingDue types first nodes from
   first-due due = record { type = due .first-type; node = due .first-node; type-at = due .first-type-at; node-at = due .first-node-at }
 
   module _ {lent now y : List ℕ} {before start : ℕ} {answer : Typed}
       (answered : FirstAnswer kind types first nodes from lent now y before start answer) where
-    first-answers : (due : PartsDue kind types first second nodes from)
-        → Answers (from + width (due .first-node)) (typing (due .first-type) (due .first-node)) (part start now) y answer
+    first-answers : (due : TypePartsDue kind types first second nodes from)
+        → Answers (from + node-width (due .first-node)) (typing (due .first-type) (due .first-node)) (part start now) y answer
     first-answers due = answered .typed .each (first-due due)
 
-    pub first-kept : PartsDue kind types first second nodes from → length (back start now y) ≡ length lent
+    pub first-kept : TypePartsDue kind types first second nodes from → length (back start now y) ≡ length lent
     first-kept due = back-length start now y (answered .starts .inside) (first-answers due .long) ∙ answered .kind-written .long
 
     pub first-failed : (fault : Fault) → answer ≡ Failed fault → TypesParts kind types first second nodes from lent (back start now y) (Failed fault)
@@ -66,15 +66,15 @@ module _ {kind : ℕ} {types : List ℕ} {first second : ℕ} {nodes : List ℕ}
         record { each = λ due. rw (is-refused _ _ (sym e ∙ first-answers due .answers)) (answers-refused (first-kept due)) }
 
     module _ {next many : ℕ} (first-gives : answer ≡ Gives next many) where
-      record First (due : PartsDue kind types first second nodes from) : Type 0 where
+      record First (due : TypePartsDue kind types first second nodes from) : Type 0 where
         type : Ty
         is-accepted : typing (due .first-type) (due .first-node) ≡ accepted type
-        ends : next ≡ from + width (due .first-node)
+        ends : next ≡ from + node-width (due .first-node)
         sized : many ≡ size type
         small : size type ≤ type-limit
-        written : Written (kind ∷ type-bytes type []) lent (back start now y) (before + many)
+        written : WrittenSoFar (kind ∷ type-bytes type []) lent (back start now y) (before + many)
 
-      first-part-given : (due : PartsDue kind types first second nodes from) → First due
+      first-part-given : (due : TypePartsDue kind types first second nodes from) → First due
       first-part-given due =
           let a = first-answers due in
           let g = is-given _ _ (sym first-gives ∙ a .answers) in
@@ -89,7 +89,7 @@ module _ {kind : ℕ} {types : List ℕ} {first second : ℕ} {nodes : List ℕ}
                 (g .sized ∙ sym (type-width (g .type)));
           }
 
-      pub first-given : PartsDue kind types first second nodes from → FirstGiven nodes from before next many
+      pub first-given : TypePartsDue kind types first second nodes from → FirstGiven nodes from before next many
       unfolding type-limit
       first-given due =
           let f = first-part-given due in
@@ -100,10 +100,10 @@ module _ {kind : ℕ} {types : List ℕ} {first second : ℕ} {nodes : List ℕ}
             small = omega (arith, f .sized, f .small);
           }
 
-      pub second-node-at : (due : PartsDue kind types first second nodes from) → NodeAt nodes next (due .second-node)
+      pub second-node-at : (due : TypePartsDue kind types first second nodes from) → NodeAt nodes next (due .second-node)
       second-node-at due = rw (first-part-given due .ends) (due .second-node-at)
 
-      abbrev pub second-due : PartsDue kind types first second nodes from → TypingDue types second nodes next
+      abbrev pub second-due : TypePartsDue kind types first second nodes from → TypingDue types second nodes next
       second-due due =
           record { type = due .second-type; node = due .second-node; type-at = due .second-type-at; node-at = second-node-at due }
 
@@ -112,22 +112,22 @@ module _ {kind : ℕ} {types : List ℕ} {first second : ℕ} {nodes : List ℕ}
         abbrev after : List ℕ
         after = back rest (back start now y) z
 
-        pub second-kept : PartsDue kind types first second nodes from → length after ≡ length lent
+        pub second-kept : TypePartsDue kind types first second nodes from → length after ≡ length lent
         second-kept due =
             back-length rest (back start now y) z (rests .inside) (second-typed .each (second-due due) .long) ∙ first-kept due
 
         pub second-failed : (fault : Fault) → other ≡ Failed fault → TypesParts kind types first second nodes from lent after (Failed fault)
         second-failed fault e = record { each = each }
           where
-            each : (due : PartsDue kind types first second nodes from)
-                → Answers (from + width (due .first-node) + width (due .second-node))
+            each : (due : TypePartsDue kind types first second nodes from)
+                → Answers (from + node-width (due .first-node) + node-width (due .second-node))
                 (parts-typing kind (due .first-type) (due .second-type) (due .first-node) (due .second-node)) lent after (Failed fault)
             each due =
                 rw (first-part-given due .is-accepted, is-refused _ _ (sym e ∙ second-typed .each (second-due due) .answers))
                 (answers-refused (second-kept due))
 
         module _ {end more : ℕ} (second-gives : other ≡ Gives end more) where
-          pub second-small : PartsDue kind types first second nodes from → more ≤ 255
+          pub second-small : TypePartsDue kind types first second nodes from → more ≤ 255
           unfolding type-limit
           second-small due =
               let g = is-given _ _ (sym second-gives ∙ second-typed .each (second-due due) .answers) in
@@ -136,15 +136,15 @@ module _ {kind : ℕ} {types : List ℕ} {first second : ℕ} {nodes : List ℕ}
           pub both-given : TypesParts kind types first second nodes from lent after (limited end (before + many + more))
           both-given = record { each = each }
             where
-              each : (due : PartsDue kind types first second nodes from)
-                  → Answers (from + width (due .first-node) + width (due .second-node))
+              each : (due : TypePartsDue kind types first second nodes from)
+                  → Answers (from + node-width (due .first-node) + node-width (due .second-node))
                   (parts-typing kind (due .first-type) (due .second-type) (due .first-node) (due .second-node)) lent after
                   (limited end (before + many + more))
               each due =
                   let f = first-part-given due in
                   let a = second-typed .each (second-due due) in
                   let g = is-given _ _ (sym second-gives ∙ a .answers) in
-                  let ends : from + width (due .first-node) + width (due .second-node) ≡ end = omega (arith, f .ends, g .ends) in
+                  let ends : from + node-width (due .first-node) + node-width (due .second-node) ≡ end = omega (arith, f .ends, g .ends) in
                   rw (f .is-accepted, g .given, ends)
                   (answers-written (fork kind (f .type) (g .type))
                   (written-part (f .written) rests (a .writes (g .type) (g .given)) (g .sized ∙ sym (type-width (g .type))))
@@ -199,7 +199,7 @@ module _ {types : List ℕ} {at : ℕ} (sequence : getD types at 0 ≡ 3) where
 
 module _ {k fork-kind : ℕ} {types : List ℕ} {at first second : ℕ} (splits : Splits k fork-kind types at first second)
     {nodes : List ℕ} {from : ℕ} (byte : getD nodes from 0 ≡ k) where
-  abbrev pub parts-due : TypingDue types at nodes from → PartsDue fork-kind types first second nodes (from + 1)
+  abbrev pub parts-due : TypingDue types at nodes from → TypePartsDue fork-kind types first second nodes (from + 1)
   parts-due due =
       let parts = parts-at (splits .forks) byte (due .node-at) in
       record {
@@ -218,10 +218,10 @@ module _ {k fork-kind : ℕ} {types : List ℕ} {at first second : ℕ} (splits 
       → TypesNode types at nodes from lent after answer
   parts-typed {lent} {after} {answer} typed = record { each = each }
     where
-      each : (due : TypingDue types at nodes from) → Answers (from + width (due .node)) (typing (due .type) (due .node)) lent after answer
+      each : (due : TypingDue types at nodes from) → Answers (from + node-width (due .node)) (typing (due .type) (due .node)) lent after answer
       each due =
           let parts = parts-at (splits .forks) byte (due .node-at) in
-          let ends : from + width (due .node) ≡ from + 1 + width (parts .first) + width (parts .second) = omega (arith, parts .wide) in
+          let ends : from + node-width (due .node) ≡ from + 1 + node-width (parts .first) + node-width (parts .second) = omega (arith, parts .wide) in
           rw (ends, ap (typing (due .type)) (parts .made) ∙ splits .outcome (due .type-at) (parts .first) (parts .second))
           (typed .each (parts-due due))
 
@@ -232,7 +232,7 @@ unfolding typing
 then-refused {types} {at} {nodes} {from} {lent} byte other = record { each = each }
   where
     each : (due : TypingDue types at nodes from)
-        → Answers (from + width (due .node)) (typing (due .type) (due .node)) lent lent (Failed WrongShape)
+        → Answers (from + node-width (due .node)) (typing (due .type) (due .node)) lent lent (Failed WrongShape)
     each due =
         let parts = parts-at then-forks byte (due .node-at) in
         rw (ap (typing (due .type)) (parts .made))
@@ -265,7 +265,7 @@ module _ {types : List ℕ} {at : ℕ} {nodes : List ℕ} {from : ℕ} (byte : g
     chain-failed {lent} fault e = record { each = each }
       where
         each : (due : TypingDue types at nodes from)
-            → Answers (from + width (due .node)) (typing (due .type) (due .node)) lent lent (Failed fault)
+            → Answers (from + node-width (due .node)) (typing (due .type) (due .node)) lent lent (Failed fault)
         each due = rw (chain-is due, is-refused _ _ (sym e ∙ first-typed .each (chain-first due) .answers)) (answers-refused refl)
 
     pub middle-kept : TypingDue types at nodes from → length middle-after ≡ length middle
@@ -275,7 +275,7 @@ module _ {types : List ℕ} {at : ℕ} {nodes : List ℕ} {from : ℕ} (byte : g
       pub record Middle (due : TypingDue types at nodes from) : Type 0 where
         pub type : Ty
         pub is-accepted : typing (due .type) (chained due .first) ≡ accepted type
-        pub ends : next ≡ from + 1 + width (chained due .first)
+        pub ends : next ≡ from + 1 + node-width (chained due .first)
         pub type-at : TypeAt middle-after 0 type
 
       pub middle-given : (due : TypingDue types at nodes from) → Middle due
@@ -306,9 +306,9 @@ module _ {types : List ℕ} {at : ℕ} {nodes : List ℕ} {from : ℕ} (byte : g
           → TypesNode types at nodes from lent after other
       chain-typed {lent} {after} {other} second-typed = record { each = each }
         where
-          each : (due : TypingDue types at nodes from) → Answers (from + width (due .node)) (typing (due .type) (due .node)) lent after other
+          each : (due : TypingDue types at nodes from) → Answers (from + node-width (due .node)) (typing (due .type) (due .node)) lent after other
           each due =
               let m = middle-given due in
-              let ends : from + width (due .node) ≡ next + width (chained due .second) = omega (arith, m .ends, chained due .wide) in
+              let ends : from + node-width (due .node) ≡ next + node-width (chained due .second) = omega (arith, m .ends, chained due .wide) in
               rw (ends, chain-is due, m .is-accepted, given-again (m .type) (chained due .second) (chained due .second-at .carries))
               (second-typed .each (chain-second due))

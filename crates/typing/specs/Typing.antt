@@ -16,7 +16,7 @@ use Rattle.node.specs.Nodes.{Node}
 use Rattle.node.specs.Checking.{gives, typing}
 use Rattle.typing.specs.declared.Typed.{Typed}
 use Rattle.typing.specs.declared.Typed.the-variants.{Gives, Failed}
-use Rattle.patches.specs.PatchReads.{width, NodeAt}
+use Rattle.patches.specs.PatchReads.{node-width, NodeAt}
 pub mod Laws
 
 -- What is told of a node that ends at `end`.
@@ -57,10 +57,10 @@ pub record TypingDue (types : List ℕ) (at : ℕ) (nodes : List ℕ) (from : �
 
 pub record TypesNode (types : List ℕ) (at : ℕ) (nodes : List ℕ) (from : ℕ) (lent lent-after : List ℕ) (answer : Typed) : Type 0 where
   pub each : (due : TypingDue types at nodes from)
-      → Answers (from + width (due .node)) (typing (due .type) (due .node)) lent lent-after answer
+      → Answers (from + node-width (due .node)) (typing (due .type) (due .node)) lent lent-after answer
 
 -- Two nodes one behind the other, and the types that they take; `kind` is 3 or 4.
-pub record PartsDue (kind : ℕ) (types : List ℕ) (first second : ℕ) (nodes : List ℕ) (from : ℕ) : Type 0 where
+pub record TypePartsDue (kind : ℕ) (types : List ℕ) (first second : ℕ) (nodes : List ℕ) (from : ℕ) : Type 0 where
   pub forks : (kind ≡ 3) ⊎ (kind ≡ 4)
   pub first-type : Ty
   pub second-type : Ty
@@ -69,7 +69,7 @@ pub record PartsDue (kind : ℕ) (types : List ℕ) (first second : ℕ) (nodes 
   pub first-type-at : TypeAt types first first-type
   pub second-type-at : TypeAt types second second-type
   pub first-node-at : NodeAt nodes from first-node
-  pub second-node-at : NodeAt nodes (from + width first-node) second-node
+  pub second-node-at : NodeAt nodes (from + node-width first-node) second-node
 
 abbrev pub fork : ℕ → Ty → Ty → Ty
 fork k t r = elim (eqb k 3) [ true ↦ seq t r | false ↦ par t r ]
@@ -79,6 +79,6 @@ abbrev pub parts-typing : ℕ → Ty → Ty → Node → Node → Result Ty
 parts-typing k s t n m = go-on (typing s n) (λ u. go-on (typing t m) (λ r. gives (fork k u r)))
 
 pub record TypesParts (kind : ℕ) (types : List ℕ) (first second : ℕ) (nodes : List ℕ) (from : ℕ) (lent lent-after : List ℕ) (answer : Typed) : Type 0 where
-  pub each : (due : PartsDue kind types first second nodes from)
-      → Answers (from + width (due .first-node) + width (due .second-node))
+  pub each : (due : TypePartsDue kind types first second nodes from)
+      → Answers (from + node-width (due .first-node) + node-width (due .second-node))
       (parts-typing kind (due .first-type) (due .second-type) (due .first-node) (due .second-node)) lent lent-after answer

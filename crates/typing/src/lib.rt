@@ -3,7 +3,7 @@
 // A type is written on work bytes that may be too short for it: at a node with two parts a fault of the second part comes
 // before the size of the type that both give. So every writer here says how long its answer is, and writes it only if there
 // is room.
-use files::types::Ty;
+use files::types::TypePlace;
 use files::types::is_nullable;
 use files::types::skip_type;
 use stream::Fault;
@@ -17,7 +17,7 @@ ghost use Rattle.files.specs.TypeReads.{SomeTypeAt};
 ghost use Rattle.node.specs.Nodes.{regroup-right, regroup-left, spread, front};
 ghost use Rattle.node.specs.Checking.{gives, typing};
 ghost use Rattle.patches.specs.PatchReads.{node-arity};
-ghost use Rattle.typing.specs.Typing.{limited, first-of, second-of, Given, GivenCarried, TypingDue, TypesNode, PartsDue, TypesParts};
+ghost use Rattle.typing.specs.Typing.{limited, first-of, second-of, Given, GivenCarried, TypingDue, TypesNode, TypePartsDue, TypesParts};
 
 // How the second pass leaves a node: where the node ends and how many nodes the type has that it gives, or the first fault.
 pub enum Typed {
@@ -29,7 +29,7 @@ pub enum Typed {
 fn limit(end: usize, size: usize) -> Typed
     ensures { λ r. ⌜ r ≡ limited end size ⌝ }
 {
-    if Ty::MAX_NODES < size {
+    if TypePlace::MAX_NODES < size {
         return Typed::Failed(Fault::TypeTooLarge);
     }
     Typed::Gives(end, size)
@@ -220,7 +220,7 @@ fn type_parts(
     from: usize,
     out: &mut [u8],
 ) -> Typed
-    requires { ⌜ PartsDue kind (now types) first second (now nodes) from ⌝ }
+    requires { ⌜ TypePartsDue kind (now types) first second (now nodes) from ⌝ }
     ensures { λ r. ⌜ TypesParts kind (now (types .entry)) first second (now (nodes .entry)) from (now (out .entry)) (now (out .exit)) r ⌝ }
 {
     let before = append_kind(kind, 0, out);

@@ -15,7 +15,7 @@ use Rattle.files.specs.TypeReads.Laws.{bytes-at, type-width}
 use Rattle.writing.specs.Writing.Standing.{type-file-size, written-stands}
 use Rattle.node.specs.Checking.{typing}
 use Rattle.node.specs.PatchFiles.{first-pass, second-pass, patch-file}
-use Rattle.patches.specs.declared.Patch.{Patch as Place}
+use Rattle.patches.specs.declared.PatchPlace.{PatchPlace}
 use Rattle.typing.specs.declared.Typed.{Typed}
 use Rattle.typing.specs.declared.Typed.the-variants.{Gives, Failed}
 use Rattle.patches.specs.PatchReads.Standing.{AcceptedPatch}
@@ -36,7 +36,7 @@ pub record TypeGiven (file given : List ℕ) (many : ℕ) : Type 0 where
   pub long : length (type-file-bytes output) ≡ 2 + many
   pub bytes : take many given ≡ type-bytes output []
 
-module _ {file : List ℕ} {place : Place} (read : AcceptedPatch file place) {end-due : ℕ} {lent given : List ℕ} {answer : Typed}
+module _ {file : List ℕ} {place : PatchPlace} (read : AcceptedPatch file place) {end-due : ℕ} {lent given : List ℕ} {answer : Typed}
     (answers : Answers end-due (typing (read .patch .input) (read .patch .node)) lent given answer) where
   pub not-typed : {e : Fault} → answer ≡ Failed e → check file ≡ refused e
   unfolding check patch-file second-pass

@@ -19,8 +19,8 @@ use Rattle.stream.specs.TypeFiles.{type-bytes}
 use Rattle.stream.specs.SliceFiles.{prefix-bytes, slice-file-bytes, slice-file}
 use Rattle.stream.specs.SliceFiles.Laws.{prefix-length}
 use Rattle.files.specs.TypeReads.Laws.{type-width}
-use Rattle.files.specs.SliceReads.{width as prefix-width}
-use Rattle.files.specs.SliceReads.Laws.{prefix-width as prefix-long}
+use Rattle.files.specs.SliceReads.{prefix-width}
+use Rattle.files.specs.SliceReads.Laws.{prefix-bytes-length}
 use Rattle.writing.specs.Writing.Standing.{slice-file-size}
 use Rattle.node.specs.Nodes.{Node, count, node-limit}
 use Rattle.node.specs.Nodes.Laws.{output-type-is, output-small}
@@ -29,7 +29,7 @@ use Rattle.node.specs.Feeding.Laws.{preserved}
 use Rattle.node.specs.Checking.{typing}
 use Rattle.node.specs.Checking.Laws.{WellTyped, typing-sound}
 use Rattle.node.specs.PatchFiles.{node-bytes, patch-file-bytes, first-pass, second-pass, patch-file}
-use Rattle.patches.specs.declared.Patch.{Patch as Place}
+use Rattle.patches.specs.declared.PatchPlace.{PatchPlace}
 use Rattle.patches.specs.PatchReads.Laws.{ends-inside, count-within}
 use Rattle.patches.specs.PatchReads.Standing.{AcceptedPatch}
 use Rattle.step.specs.declared.Step.{Step}
@@ -40,39 +40,39 @@ use Rattle.meaning.specs.Promises.{FeedPromise}
 use Rattle.wosthile.specs.FeedReads.{FeedRead}
 
 -- How the answers of Feed keep its promise.
-module _ (output left : List ℕ) {patch slice : List ℕ} where
+module _ (output patch-lent : List ℕ) {patch slice : List ℕ} where
   pub refused-keeps : (e : Fault) → feed patch slice ≡ refused e
-      → FeedPromise patch slice output left (record { number = number e; output = 0; patch = 0 }) output left
+      → FeedPromise patch slice output patch-lent (record { number = number e; output = 0; patch = 0 }) output patch-lent
   unfolding with-room told after
-  refused-keeps e h = record { answers = rw h; output-buffer = rw h; left-buffer = rw h }
+  refused-keeps e h = record { answers = rw h; output-buffer = rw h; patch-buffer = rw h }
 
   module _ (files : FedFiles) (h : feed patch slice ≡ accepted files) where
     pub output-short : length output < length (files .output)
-        → FeedPromise patch slice output left (record { number = number NoRoom; output = 0; patch = 0 }) output left
+        → FeedPromise patch slice output patch-lent (record { number = number NoRoom; output = 0; patch = 0 }) output patch-lent
     unfolding with-room told after
     output-short s =
-        record { answers = rw (h, lt-leb _ _ s); output-buffer = rw (h, lt-leb _ _ s); left-buffer = rw (h, lt-leb _ _ s) }
+        record { answers = rw (h, lt-leb _ _ s); output-buffer = rw (h, lt-leb _ _ s); patch-buffer = rw (h, lt-leb _ _ s) }
 
-    pub left-short : length (files .output) ≤ length output → length left < length (files .patch)
-        → FeedPromise patch slice output left (record { number = number NoRoom; output = 0; patch = 0 }) output left
+    pub patch-short : length (files .output) ≤ length output → length patch-lent < length (files .patch)
+        → FeedPromise patch slice output patch-lent (record { number = number NoRoom; output = 0; patch = 0 }) output patch-lent
     unfolding with-room told after
-    left-short r s =
+    patch-short r s =
         record {
           answers = rw (h, le-leb _ _ r, lt-leb _ _ s);
           output-buffer = rw (h, le-leb _ _ r, lt-leb _ _ s);
-          left-buffer = rw (h, le-leb _ _ r, lt-leb _ _ s);
+          patch-buffer = rw (h, le-leb _ _ r, lt-leb _ _ s);
         }
 
-    pub files-keep : length (files .output) ≤ length output → length (files .patch) ≤ length left
+    pub files-keep : length (files .output) ≤ length output → length (files .patch) ≤ length patch-lent
         → {sent kept : ℕ} → sent ≡ length (files .output) → kept ≡ length (files .patch)
-        → {output-after left-after : List ℕ} → output-after ≡ at-front (files .output) output → left-after ≡ at-front (files .patch) left
-        → FeedPromise patch slice output left (record { number = 0; output = sent; patch = kept }) output-after left-after
+        → {output-after patch-after : List ℕ} → output-after ≡ at-front (files .output) output → patch-after ≡ at-front (files .patch) patch-lent
+        → FeedPromise patch slice output patch-lent (record { number = 0; output = sent; patch = kept }) output-after patch-after
     unfolding with-room told after
     files-keep r s n m o l =
         record {
           answers = rw (h, le-leb _ _ r, le-leb _ _ s, n, m);
           output-buffer = rw (h, le-leb _ _ r, le-leb _ _ s, o);
-          left-buffer = rw (h, le-leb _ _ r, le-leb _ _ s, l);
+          patch-buffer = rw (h, le-leb _ _ r, le-leb _ _ s, l);
         }
 
 -- A patch that is not read, or not typed, and a slice that is not read.
@@ -81,7 +81,7 @@ pub patch-unread : (patch slice : List ℕ) {e : Fault} → first-pass patch ≡
 unfolding feed patch-file
 patch-unread patch slice h = rw h
 
-module _ {patch : List ℕ} {place : Place} (read : AcceptedPatch patch place) (slice : List ℕ) where
+module _ {patch : List ℕ} {place : PatchPlace} (read : AcceptedPatch patch place) (slice : List ℕ) where
   pub patch-untyped : {e : Fault} → typing (read .patch .input) (read .patch .node) ≡ refused e → feed patch slice ≡ refused e
   unfolding feed patch-file second-pass
   patch-untyped h = rw (read .is-accepted, h)
@@ -91,7 +91,7 @@ module _ {patch : List ℕ} {place : Place} (read : AcceptedPatch patch place) (
   unfolding feed patch-file second-pass
   slice-unread h k = rw (read .is-accepted, h, k)
 
-module _ {patch : List ℕ} {place : Place} {slice : List ℕ} {remains : ℕ} (due : FeedRead patch place slice remains) where
+module _ {patch : List ℕ} {place : PatchPlace} {slice : List ℕ} {remains : ℕ} (due : FeedRead patch place slice remains) where
   abbrev input : Ty
   input = due .read .patch .input
 
@@ -117,7 +117,7 @@ module _ {patch : List ℕ} {place : Place} {slice : List ℕ} {remains : ℕ} (
       omega (
         arith,
         prefix-length [] (preserved (is-typed .types) (due .taken .is-prefix) .sent),
-        prefix-long (sends input node prefix) [],
+        prefix-bytes-length (sends input node prefix) [],
         output-small (is-typed .types) (is-typed .fits),
         limit-is,
       )
@@ -156,7 +156,7 @@ module _ {patch : List ℕ} {place : Place} {slice : List ℕ} {remains : ℕ} (
   nodes-room = omega (arith, few)
 
   pub small-left : remains ≤ 255
-  small-left = omega (arith, due .measured, due .taken .left, derivative-size (due .taken .is-prefix), due .read .type-at .small, limit-is)
+  small-left = omega (arith, due .measured, due .taken .remains, derivative-size (due .taken .is-prefix), due .read .type-at .small, limit-is)
 
   -- What is sent and the node left stand in front of the work arrays, and how long both files are.
   pub record Stepped (sent nodes : List ℕ) (step : Step) : Type 0 where
@@ -189,13 +189,13 @@ module _ {patch : List ℕ} {place : Place} {slice : List ℕ} {remains : ℕ} (
               ap length (append-nil (node-bytes (leaves input node prefix) [])),
               type-width (derivative input prefix),
               due .measured,
-              due .taken .left,
+              due .taken .remains,
               fed .left,
             );
       }
     where
       sent-long : step .sent ≡ length (prefix-bytes (sends input node prefix) [])
-      sent-long = omega (arith, fed .sent, prefix-long (sends input node prefix) [])
+      sent-long = omega (arith, fed .sent, prefix-bytes-length (sends input node prefix) [])
 
   module _ {sent nodes : List ℕ} {step : Step} (done : Stepped sent nodes step) where
     -- The section of what is sent is the output's file.
@@ -210,9 +210,9 @@ module _ {patch : List ℕ} {place : Place} {slice : List ℕ} {remains : ℕ} (
     unfolding slice-file-bytes
     output-written out e = e ∙ ap (λ body. at-front (section-bytes body []) out) (done .sent-taken)
 
-    abbrev pub patch-left-due : (left : List ℕ) → 2 + remains + 2 + step .left ≤ length left
-        → PatchLeftDue patch (place .input .start) slice remains (take (step .left) nodes) left
-    patch-left-due left room =
+    abbrev pub patch-left-due : (patch-lent : List ℕ) → 2 + remains + 2 + step .left ≤ length patch-lent
+        → PatchLeftDue patch (place .input .start) slice remains (take (step .left) nodes) patch-lent
+    patch-left-due patch-lent room =
         let long : length (take (step .left) nodes) ≡ step .left = length-take-le (step .left) nodes (done .nodes-inside) in
         record {
           type-due =
@@ -220,7 +220,7 @@ module _ {patch : List ℕ} {place : Place} {slice : List ℕ} {remains : ℕ} (
                 type = input;
                 prefix = prefix;
                 stands = record { type-at = due .read .type-at; prefix-at = due .taken .stands; is-prefix = due .taken .is-prefix };
-                measured = due .measured ∙ due .taken .left;
+                measured = due .measured ∙ due .taken .remains;
                 room = omega arith;
               };
           node = leaves input node prefix;

@@ -3,7 +3,7 @@ use mathlib.Core.Path.{_≡_}
 use mathlib.Core.List.{List}
 use Prim.Native.Nat.{ℕ}
 use Rattle.stream.specs.declared.Fault.{Fault}
-use Rattle.files.specs.declared.prefixes.Prefix.{Prefix as Known}
+use Rattle.files.specs.declared.prefixes.Known.{Known}
 use Rattle.stream.specs.Types.{Ty}
 use Rattle.stream.specs.Prefixes.{Prefix}
 use Rattle.stream.specs.Reading.{Result, refused, go-on}

@@ -5,23 +5,23 @@ use Prim.Native.Nat.{ℕ, _+_, _*_, _≤_}
 use lib.ListN.{length}
 use Rattle.stream.specs.Types.{Ty}
 use Rattle.stream.specs.Reading.{accepted}
-use Rattle.files.specs.declared.prefixes.Prefix.{Prefix as Known}
+use Rattle.files.specs.declared.prefixes.Known.{Known}
 use Rattle.writing.specs.Writing.Standing.{AcceptedSlice}
 use Rattle.node.specs.Nodes.{count}
 use Rattle.node.specs.Checking.{typing}
-use Rattle.patches.specs.declared.Patch.{Patch as Place}
+use Rattle.patches.specs.declared.PatchPlace.{PatchPlace}
 use Rattle.patches.specs.PatchReads.Standing.{AcceptedPatch}
 
 -- The patch is read and typed, the slice is a prefix of its input type, and leaves a type of `remains` nodes.
-pub record FeedRead (patch : List ℕ) (place : Place) (slice : List ℕ) (remains : ℕ) : Type 0 where
+pub record FeedRead (patch : List ℕ) (place : PatchPlace) (slice : List ℕ) (remains : ℕ) : Type 0 where
   pub read : AcceptedPatch patch place
   pub output : Ty
   pub is-typed : typing (read .patch .input) (read .patch .node) ≡ accepted output
   pub about : Known
   pub taken : AcceptedSlice (read .patch .input) slice about
-  pub measured : remains ≡ about .left
+  pub measured : remains ≡ about .remains
 
 -- And the work bytes for the nodes left have room for every patch of as many nodes.
-pub record SendDue (patch : List ℕ) (place : Place) (slice : List ℕ) (remains : ℕ) (nodes : List ℕ) : Type 0 where
+pub record SendDue (patch : List ℕ) (place : PatchPlace) (slice : List ℕ) (remains : ℕ) (nodes : List ℕ) : Type 0 where
   pub reads : FeedRead patch place slice remains
   pub room : 257 * count (reads .read .patch .node) + 255 ≤ 2 * length nodes

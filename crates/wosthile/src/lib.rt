@@ -7,7 +7,7 @@ use files::types::read_type_file;
 use meaning::Admitted;
 use meaning::Fed;
 use meaning::Written;
-use patches::Patch;
+use patches::PatchPlace;
 use patches::PatchRead;
 use patches::read_patch_file;
 use step::feed_node;
@@ -98,11 +98,11 @@ pub fn left(ty: &[u8], slice: &[u8], out: &mut [u8]) -> Written
         TypeRead::Whole(place) => match read_slice_file(ty, place.start, slice) {
             SliceRead::Refused(fault) => refuse(fault),
             SliceRead::Whole(prefix) => {
-                let length = 2 + prefix.left;
+                let length = 2 + prefix.remains;
                 if out.len() < length {
                     return refuse(Fault::NoRoom);
                 }
-                write_left_file(ty, place.start, slice, prefix.left, out);
+                write_left_file(ty, place.start, slice, prefix.remains, out);
                 Written {
                     number: 0,
                     written: length,
@@ -159,15 +159,15 @@ fn refuse_feed(fault: Fault) -> Fed
 // bytes, `nodes` for the nodes left, since both have to be known before a byte of either buffer is written.
 fn send(
     patch: &[u8],
-    place: Patch,
+    place: PatchPlace,
     slice: &[u8],
     remains: usize,
     nodes: &mut [u8],
     out: &mut [u8],
-    left: &mut [u8],
+    patch_left: &mut [u8],
 ) -> Fed
     requires { ⌜ SendDue (now patch) place (now slice) remains (now nodes) ⌝ }
-    ensures { λ r. ⌜ FeedPromise (now (patch .entry)) (now (slice .entry)) (now (out .entry)) (now (left .entry)) r (now (out .exit)) (now (left .exit)) ⌝ }
+    ensures { λ r. ⌜ FeedPromise (now (patch .entry)) (now (slice .entry)) (now (out .entry)) (now (patch_left .entry)) r (now (out .exit)) (now (patch_left .exit)) ⌝ }
 {
     let mut sent = [0u8; 513];
     let mut given = [0u8; 255];
@@ -188,11 +188,11 @@ fn send(
     if out.len() < output {
         return refuse_feed(Fault::NoRoom);
     }
-    if left.len() < kept {
+    if patch_left.len() < kept {
         return refuse_feed(Fault::NoRoom);
     }
     write_section(&sent[..step.sent], out);
-    write_patch_left(patch, start, slice, remains, &nodes[..step.left], left);
+    write_patch_left(patch, start, slice, remains, &nodes[..step.left], patch_left);
     Fed {
         number: 0,
         output,
@@ -204,26 +204,26 @@ fn send(
 // no more than a quarter of it; each has a byte at least.
 fn send_on(
     patch: &[u8],
-    place: Patch,
+    place: PatchPlace,
     slice: &[u8],
     remains: usize,
     out: &mut [u8],
-    left: &mut [u8],
+    patch_left: &mut [u8],
 ) -> Fed
     requires { ⌜ FeedRead (now patch) place (now slice) remains ⌝ }
-    ensures { λ r. ⌜ FeedPromise (now (patch .entry)) (now (slice .entry)) (now (out .entry)) (now (left .entry)) r (now (out .exit)) (now (left .exit)) ⌝ }
+    ensures { λ r. ⌜ FeedPromise (now (patch .entry)) (now (slice .entry)) (now (out .entry)) (now (patch_left .entry)) r (now (out .exit)) (now (patch_left .exit)) ⌝ }
 {
     if patch.len() - place.nodes < 16 {
         let mut nodes = [0u8; 2055];
-        return send(patch, place, slice, remains, &mut nodes, out, left);
+        return send(patch, place, slice, remains, &mut nodes, out, patch_left);
     }
-    let mut nodes = [0u8; Patch::MAX_NODE_BYTES];
-    send(patch, place, slice, remains, &mut nodes, out, left)
+    let mut nodes = [0u8; PatchPlace::MAX_NODE_BYTES];
+    send(patch, place, slice, remains, &mut nodes, out, patch_left)
 }
 
 // The file of what the patch sends on the slice, and that of the patch left.
-pub fn feed(patch: &[u8], slice: &[u8], out: &mut [u8], left: &mut [u8]) -> Fed
-    ensures { λ r. ⌜ FeedPromise (now (patch .entry)) (now (slice .entry)) (now (out .entry)) (now (left .entry)) r (now (out .exit)) (now (left .exit)) ⌝ }
+pub fn feed(patch: &[u8], slice: &[u8], out: &mut [u8], patch_left: &mut [u8]) -> Fed
+    ensures { λ r. ⌜ FeedPromise (now (patch .entry)) (now (slice .entry)) (now (out .entry)) (now (patch_left .entry)) r (now (out .exit)) (now (patch_left .exit)) ⌝ }
 {
     match read_patch_file(patch) {
         PatchRead::Refused(fault) => refuse_feed(fault),
@@ -237,9 +237,9 @@ pub fn feed(patch: &[u8], slice: &[u8], out: &mut [u8], left: &mut [u8]) -> Fed
                         patch,
                         place,
                         slice,
-                        prefix.left,
+                        prefix.remains,
                         out,
-                        left,
+                        patch_left,
                     ),
                 },
             }

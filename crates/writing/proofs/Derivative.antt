@@ -11,7 +11,7 @@ use Rattle.stream.specs.Prefixes.{Prefix, in-first, crossed, beside, Complete, 
 use Rattle.stream.specs.TypeFiles.{type-bytes}
 use Rattle.files.specs.TypeReads.{TypeAt, SomeTypeAt, TypeEnds}
 use Rattle.files.specs.TypeReads.Laws.{type-before, type-width, starts-inside, ends-inside, bytes-at, first-at, second-at}
-use Rattle.files.specs.SliceReads.{width, leaf-width, PrefixAt, SomePrefixAt, PrefixEnds}
+use Rattle.files.specs.SliceReads.{prefix-width, leaf-width, PrefixAt, SomePrefixAt, PrefixEnds}
 use Rattle.files.specs.SliceReads.Laws.{prefix-kind, width-positive, prefix-inside, kind-at, in-first-at, crossed-first-at, crossed-second-at, beside-first-at, beside-second-at}
 use Rattle.stream.specs.Buffers.{at-front}
 use Rattle.writing.specs.Writing.{leaf-left, Stands, DerivativeDue, Moves, DerivativeWritten}
@@ -64,7 +64,7 @@ module _ (types : List ℕ) (at : ℕ) (slice : List ℕ) (from : ℕ) (lent : L
       by-kind (λ t p. Due t p → P t p) (due .stands .is-prefix) (rw h c) (due .stands .type-at, due .stands .prefix-at, due .room)
 
   abbrev Whole : List ℕ → Moved → Ty → Prefix → Type 0
-  Whole lent-after moved t p = Moves (at + size t) (from + width p) (type-bytes (derivative t p) []) lent lent-after moved
+  Whole lent-after moved t p = Moves (at + size t) (from + prefix-width p) (type-bytes (derivative t p) []) lent lent-after moved
 
   -- A leaf
 
@@ -106,7 +106,7 @@ module _ (types : List ℕ) (at : ℕ) (slice : List ℕ) (from : ℕ) (lent : L
         place-is : place ≡ at + 1 + size s
         place-is = type-ends .each s (first-at (due .0) (omega arith))
 
-        rest-is : rest ≡ from + 1 + width b
+        rest-is : rest ≡ from + 1 + prefix-width b
         rest-is = prefix-ends .each b (crossed-first-at (due .1))
 
         second-stands : Stands types place slice rest t q
@@ -130,13 +130,13 @@ module _ (types : List ℕ) (at : ℕ) (slice : List ℕ) (from : ℕ) (lent : L
 
       pub crossed-written : {lent-after : List ℕ} {moved : Moved} → DerivativeWritten types place slice rest lent lent-after moved
           → DerivativeWritten types at slice from lent lent-after moved
-      unfolding size width derivative
+      unfolding size prefix-width derivative
       crossed-written {lent-after} {moved} written = record { each = by-byte (Whole lent-after moved) 6 six go }
         where
           go : (s t : Ty) (b q : Prefix) → IsPrefix s b → Complete b → IsPrefix t q → Due (seq s t) (crossed b q)
               → Whole lent-after moved (seq s t) (crossed b q)
           go s t b q h c k due =
-              let m : Moves (place + size t) (rest + width q) (type-bytes (derivative t q) []) lent lent-after moved
+              let m : Moves (place + size t) (rest + prefix-width q) (type-bytes (derivative t q) []) lent lent-after moved
               = written .each (second-due s t b q k due) in
               record {
                 first = omega (arith, m .first, place-is s t b q k due);
@@ -150,7 +150,7 @@ module _ (types : List ℕ) (at : ℕ) (slice : List ℕ) (from : ℕ) (lent : L
   module _ (k : ℕ) (s : Ty) (p : Prefix) where
     record First (now : List ℕ) (first : Moved) : Type 0 where
       type-end : first .first ≡ at + 1 + size s
-      prefix-end : first .second ≡ from + 1 + width p
+      prefix-end : first .second ≡ from + 1 + prefix-width p
       long : first .written ≡ size (derivative s p)
       begun : Begun (k ∷ type-bytes (derivative s p) []) lent now (1 + first .written)
 
@@ -164,7 +164,7 @@ module _ (types : List ℕ) (at : ℕ) (slice : List ℕ) (from : ℕ) (lent : L
       first-part : {y : List ℕ} {first : Moved} → DerivativeWritten types (at + 1) slice (from + 1) (part 1 (set lent 0 k)) y first
           → First (back 1 (set lent 0 k) y) first
       first-part {y} {first} written =
-          let m : Moves (at + 1 + size s) (from + 1 + width p) (type-bytes (derivative s p) []) (part 1 (set lent 0 k)) y first
+          let m : Moves (at + 1 + size s) (from + 1 + prefix-width p) (type-bytes (derivative s p) []) (part 1 (set lent 0 k)) y first
           = written .each first-due in
           record {
             type-end = m .first;
@@ -253,7 +253,7 @@ module _ (types : List ℕ) (at : ℕ) (slice : List ℕ) (from : ℕ) (lent : L
         pub coming-written : {z : List ℕ} → z ≡ at-front second-bytes (part (1 + first .written) now-coming)
             → DerivativeWritten types at slice from lent (back (1 + first .written) now-coming z)
             (record { first = end; second = first .second; written = 1 + first .written + (end - first .first) })
-        unfolding size width derivative type-bytes
+        unfolding size prefix-width derivative type-bytes
         coming-written {z} copied = record { each = by-byte (Whole _ _) 5 five go }
           where
             go : (s t : Ty) (p : Prefix) → IsPrefix s p → Due (seq s t) (in-first p)
@@ -331,7 +331,7 @@ module _ (types : List ℕ) (at : ℕ) (slice : List ℕ) (from : ℕ) (lent : L
         pub beside-written :
             DerivativeWritten types at slice from lent (back (1 + first .written) now-beside z)
             (record { first = second .first; second = second .second; written = 1 + first .written + second .written })
-        unfolding size width derivative type-bytes
+        unfolding size prefix-width derivative type-bytes
         beside-written = record { each = by-byte (Whole _ _) 7 seven go }
           where
             go : (s t : Ty) (p q : Prefix) → IsPrefix s p → IsPrefix t q → Due (par s t) (beside p q)
@@ -340,7 +340,7 @@ module _ (types : List ℕ) (at : ℕ) (slice : List ℕ) (from : ℕ) (lent : L
                 (par s t) (beside p q)
             go s t p q h k due =
                 let f = first-beside s t p q h due written in
-                let m : Moves (first .first + size t) (first .second + width q) (type-bytes (derivative t q) []) behind z second
+                let m : Moves (first .first + size t) (first .second + prefix-width q) (type-bytes (derivative t q) []) behind z second
                 = then-written .each (other-due s t p q h k due) in
                 let whole = with-second 4 s p (derivative t q) f (m .buffer) (m .written) in
                 record {

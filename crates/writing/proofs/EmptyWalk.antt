@@ -13,9 +13,9 @@ use Rattle.stream.specs.TypeFiles.{type-bytes}
 use Rattle.stream.specs.SliceFiles.{prefix-bytes}
 use Rattle.files.specs.TypeReads.{TypeAt, SomeTypeAt, TypeEnds}
 use Rattle.files.specs.TypeReads.Laws.{type-drop, kind-at, starts-inside, same-type}
-use Rattle.files.specs.SliceReads.Laws.{prefix-width}
+use Rattle.files.specs.SliceReads.Laws.{prefix-bytes-length}
 use Rattle.writing.specs.Writing.{empty-kind, EmptyDue, EmptyWritten}
-use Rattle.writing.specs.Appending.Laws.{Written, nothing-written, written-on}
+use Rattle.writing.specs.Appending.Laws.{WrittenSoFar, nothing-written, written-on}
 use Rattle.writing.proofs.RoomBehind.{appended-byte}
 
 -- A type that is still to be gone through, and its mark on the stack.
@@ -140,7 +140,7 @@ module _ (types : List ℕ) (at : ℕ) (lent now stack : List ℕ) (depth from c
     deep : depth ≡ length tasks
     marked : Marked stack tasks
     bytes : List ℕ
-    so-far : Written bytes lent now count
+    so-far : WrittenSoFar bytes lent now count
     whole : prefix-bytes (empty-prefix (due .type)) [] ≡ bytes ++ owing tasks
 
   -- The same, whichever types are still to be gone through; `tall` is how many marks the stack holds.
@@ -186,7 +186,7 @@ module _ {types lent now stack : List ℕ} {at depth from count : ℕ} where
         arith,
         ap length (stage .whole),
         length-append (stage .bytes) (owing xs),
-        prefix-width (empty-prefix (stage .due .type)) [],
+        prefix-bytes-length (empty-prefix (stage .due .type)) [],
         stage .due .room,
         stage .so-far .long,
       )
@@ -213,7 +213,7 @@ module _ {types lent now stack : List ℕ} {at depth from count : ℕ} where
             each = λ due.
                 let all : prefix-bytes (empty-prefix (due .type)) [] ≡ stage .bytes
                 = ap (λ t. prefix-bytes (empty-prefix t) []) (same-type (due .stands) (stage .due .stands)) ∙ stage .whole ∙ append-nil (stage .bytes) in (
-                  omega (arith, stage .so-far .long, ap length all, prefix-width (empty-prefix (due .type)) []),
+                  omega (arith, stage .so-far .long, ap length all, prefix-bytes-length (empty-prefix (due .type)) []),
                   rw all (stage .so-far .holds .in-front (omega (arith, stage .so-far .long, room [] stage))),
                 );
           }

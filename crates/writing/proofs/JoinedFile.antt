@@ -6,7 +6,7 @@ use native.Mathlib.Omega.{arith}
 use Rattle.writing.specs.declared.Moved.{Moved}
 use Rattle.stream.specs.Prefixes.{concat}
 use Rattle.stream.specs.SliceFiles.{prefix-bytes, slice-file-bytes}
-use Rattle.files.specs.SliceReads.Laws.{prefix-width}
+use Rattle.files.specs.SliceReads.Laws.{prefix-bytes-length}
 use Rattle.stream.specs.Buffers.{at-front}
 use Rattle.writing.specs.Writing.{ConcatDue, ConcatWritten, JoinedFileDue, JoinedFileWritten}
 use Rattle.writing.specs.Writing.Laws.{part, back, count-bytes, room-behind-count, section-written}
@@ -30,5 +30,5 @@ module _ {first second : List ℕ} {joined : ℕ} {lent y : List ℕ} (counted :
       go : (due : JoinedFileDue first second joined lent) → back 2 y z ≡ at-front (slice-file-bytes (concat (due .one) (due .other))) lent
       go due =
           section-written joined lent y counted (prefix-bytes (concat (due .one) (due .other)) []) z
-          (omega (arith, due .measured, prefix-width (concat (due .one) (due .other)) []))
+          (omega (arith, due .measured, prefix-bytes-length (concat (due .one) (due .other)) []))
           (written .each (body-due due) .buffer)

@@ -7,14 +7,14 @@ use native.Mathlib.Omega.{arith}
 use lib.ListN.{getD}
 use Rattle.stream.specs.Types.{Ty}
 use Rattle.stream.specs.Prefixes.{Prefix, nothing, cue-awaited, cue-come, level-awaited, level-come, in-first, crossed, beside, IsPrefix, of-empty, of-cue-awaited, of-cue-come, of-level-awaited, of-level-come, of-first, of-crossed, of-beside, derivative, concat}
-use Rattle.files.specs.SliceReads.{width, is-unfinished}
-use Rattle.files.specs.SliceReads.Laws.{prefix-kind, prefix-width, kind-at}
+use Rattle.files.specs.SliceReads.{prefix-width, is-unfinished}
+use Rattle.files.specs.SliceReads.Laws.{prefix-kind, prefix-bytes-length, kind-at}
 use Rattle.writing.specs.Writing.{PrefixDue, PrefixWritten, ConcatDue, LeafConcatDue, ConcatWritten}
 
 -- A leaf still awaited gives way to the second prefix; after one that has come there is nothing left but the empty type.
 
-gives-way : (p q : Prefix) → prefix-kind p < 5 → is-unfinished (prefix-kind p) ≡ true → (width p ≡ 1) × (concat p q ≡ q)
-unfolding width concat
+gives-way : (p q : Prefix) → prefix-kind p < 5 → is-unfinished (prefix-kind p) ≡ true → (prefix-width p ≡ 1) × (concat p q ≡ q)
+unfolding prefix-width concat
 gives-way nothing q h u = absurd (false≢true u)
 gives-way cue-awaited q h u = (refl, refl)
 gives-way cue-come q h u = absurd (false≢true u)
@@ -25,8 +25,8 @@ gives-way (crossed b p) q h u = absurd (omega arith)
 gives-way (beside p r) q h u = absurd (omega arith)
 
 stays : {t : Ty} {p : Prefix} (q : Prefix) → IsPrefix t p → IsPrefix (derivative t p) q → prefix-kind p < 5
-    → is-unfinished (prefix-kind p) ≡ false → (width q ≡ 1) × (concat p q ≡ p)
-unfolding width concat derivative
+    → is-unfinished (prefix-kind p) ≡ false → (prefix-width q ≡ 1) × (concat p q ≡ p)
+unfolding prefix-width concat derivative
 stays q of-empty of-empty h u = (refl, refl)
 stays q of-cue-awaited k h u = absurd (true≢false u)
 stays q of-cue-come of-empty h u = (refl, refl)
@@ -38,7 +38,7 @@ stays q (of-beside i j) k h u = absurd (omega arith)
 
 module _ {first second : List ℕ} {at from : ℕ} {lent : List ℕ} (leaf : getD first at 0 < 5) where
   module _ (awaited : is-unfinished (getD first at 0) ≡ true) where
-    way : (due : ConcatDue first at second from lent) → (width (due .one) ≡ 1) × (concat (due .one) (due .other) ≡ due .other)
+    way : (due : ConcatDue first at second from lent) → (prefix-width (due .one) ≡ 1) × (concat (due .one) (due .other) ≡ due .other)
     way due =
         let k = kind-at (due .follows .first-at) in
         gives-way (due .one) (due .other) (omega arith) (rw k at awaited)
@@ -58,13 +58,13 @@ module _ {first second : List ℕ} {at from : ℕ} {lent : List ℕ} (leaf : get
               record {
                 first = omega arith;
                 second = omega (arith, d .0);
-                written = rw (w .1) (omega (arith, d .0, prefix-width (due .other) []));
+                written = rw (w .1) (omega (arith, d .0, prefix-bytes-length (due .other) []));
                 buffer = rw (w .1) (d .1);
               };
         }
 
   module _ (come : is-unfinished (getD first at 0) ≡ false) where
-    stay : (due : ConcatDue first at second from lent) → (width (due .other) ≡ 1) × (concat (due .one) (due .other) ≡ due .one)
+    stay : (due : ConcatDue first at second from lent) → (prefix-width (due .other) ≡ 1) × (concat (due .one) (due .other) ≡ due .one)
     stay due =
         let k = kind-at (due .follows .first-at) in
         stays (due .other) (due .follows .is-first) (due .follows .is-second) (omega arith) (rw k at come)
@@ -83,7 +83,7 @@ module _ {first second : List ℕ} {at from : ℕ} {lent : List ℕ} (leaf : get
               record {
                 first = omega (arith, d .0);
                 second = omega arith;
-                written = rw (w .1) (omega (arith, d .0, prefix-width (due .one) []));
+                written = rw (w .1) (omega (arith, d .0, prefix-bytes-length (due .one) []));
                 buffer = rw (w .1) (d .1);
               };
         }

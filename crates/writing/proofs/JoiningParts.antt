@@ -8,8 +8,8 @@ use Rattle.writing.specs.declared.Moved.{Moved}
 use Rattle.stream.specs.Types.{Ty}
 use Rattle.stream.specs.Prefixes.{Prefix, in-first, crossed, beside, IsPrefix, of-empty, of-cue-awaited, of-cue-come, of-level-awaited, of-level-come, of-first, of-crossed, of-beside, derivative, concat}
 use Rattle.stream.specs.SliceFiles.{prefix-bytes}
-use Rattle.files.specs.SliceReads.{width, PrefixAt}
-use Rattle.files.specs.SliceReads.Laws.{prefix-width, width-positive, prefix-before, prefix-inside, kind-at, in-first-at, crossed-first-at, crossed-second-at, beside-first-at, beside-second-at}
+use Rattle.files.specs.SliceReads.{prefix-width, PrefixAt}
+use Rattle.files.specs.SliceReads.Laws.{prefix-bytes-length, width-positive, prefix-before, prefix-inside, kind-at, in-first-at, crossed-first-at, crossed-second-at, beside-first-at, beside-second-at}
 use Rattle.writing.specs.Writing.{PrefixDue, PrefixWritten, Moves, Follows, ConcatDue, ConcatWritten}
 use Rattle.writing.specs.Writing.Laws.{part, back, front-length, Begun, begins, goes-on, room-left, length-kept}
 
@@ -19,11 +19,11 @@ data Meets (first : List ℕ) (at : ℕ) (second : List ℕ) (from : ℕ) : Pref
       → Follows first (at + 1) second (from + 1) t p q → Meets first at second from (in-first p) (in-first q)
   crossing : {t : Ty} {p q r : Prefix} → getD first at 0 ≡ 5 → getD second from 0 ≡ 6
       → Follows first (at + 1) second (from + 1) t p q
-      → ((end : ℕ) → end ≡ from + 1 + width q → PrefixAt second end r) → Meets first at second from (in-first p) (crossed q r)
+      → ((end : ℕ) → end ≡ from + 1 + prefix-width q → PrefixAt second end r) → Meets first at second from (in-first p) (crossed q r)
   behind : {t : Ty} {b p q : Prefix} → getD first at 0 ≡ 6 → PrefixAt first (at + 1) b
-      → ((end : ℕ) → end ≡ at + 1 + width b → Follows first end second from t p q) → Meets first at second from (crossed b p) q
+      → ((end : ℕ) → end ≡ at + 1 + prefix-width b → Follows first end second from t p q) → Meets first at second from (crossed b p) q
   aside : {s t : Ty} {p q r u : Prefix} → getD first at 0 ≡ 7 → Follows first (at + 1) second (from + 1) s p r
-      → ((first-end second-end : ℕ) → first-end ≡ at + 1 + width p → second-end ≡ from + 1 + width r
+      → ((first-end second-end : ℕ) → first-end ≡ at + 1 + prefix-width p → second-end ≡ from + 1 + prefix-width r
       → Follows first first-end second second-end t q u) → Meets first at second from (beside p q) (beside r u)
 
 meets : {first second : List ℕ} {at from : ℕ} {t : Ty} {one other : Prefix} → Follows first at second from t one other
@@ -82,7 +82,7 @@ module _ (first : List ℕ) (at : ℕ) (second : List ℕ) (from : ℕ) (lent : 
       → Settled second lent after m
   settled due done =
       let d = done .each due in
-      let n = prefix-width (concat (due .one) (due .other)) [] in
+      let n = prefix-bytes-length (concat (due .one) (due .other)) [] in
       record {
         second-inside = omega (arith, d .second, prefix-inside (due .follows .second-at));
         within = omega (arith, d .written, due .room);
@@ -95,17 +95,17 @@ module _ (first : List ℕ) (at : ℕ) (second : List ℕ) (from : ℕ) (lent : 
 
   -- The first parts are joined behind a kind byte k.
   module _ (k : ℕ) where
-    abbrev first-due : {t : Ty} {p q : Prefix} → Follows first (at + 1) second (from + 1) t p q → width (concat p q) < length lent
+    abbrev first-due : {t : Ty} {p q : Prefix} → Follows first (at + 1) second (from + 1) t p q → prefix-width (concat p q) < length lent
         → ConcatDue first (at + 1) second (from + 1) (part 1 (set lent 0 k))
     first-due {t} {p} {q} f h =
         record { type = t; one = p; other = q; follows = f; room = omega (arith, room-left (begins {lent = lent} k (omega arith))) }
 
     pub joins-first : ConcatDue first at second from lent → 5 ≤ getD first at 0 → (getD first at 0 ≡ 6 → ⊥)
         → ConcatDue first (at + 1) second (from + 1) (part 1 (set lent 0 k))
-    unfolding width concat
+    unfolding prefix-width concat
     joins-first due h n = go (meets (due .follows) h) (due .room)
       where
-        go : {p q : Prefix} → Meets first at second from p q → width (concat p q) ≤ length lent
+        go : {p q : Prefix} → Meets first at second from p q → prefix-width (concat p q) ≤ length lent
             → ConcatDue first (at + 1) second (from + 1) (part 1 (set lent 0 k))
         go (coming d e f) r = first-due f (omega arith)
         go (crossing d e f s) r = first-due f (omega arith)
@@ -113,11 +113,11 @@ module _ (first : List ℕ) (at : ℕ) (second : List ℕ) (from : ℕ) (lent : 
         go (aside d f s) r = first-due f (omega arith)
 
     module _ {y : List ℕ} {m : Moved} (done : ConcatWritten first (at + 1) second (from + 1) (part 1 (set lent 0 k)) y m) where
-      first-moves : {t : Ty} {p q : Prefix} → Follows first (at + 1) second (from + 1) t p q → width (concat p q) < length lent
-          → Moves (at + 1 + width p) (from + 1 + width q) (prefix-bytes (concat p q) []) (part 1 (set lent 0 k)) y m
+      first-moves : {t : Ty} {p q : Prefix} → Follows first (at + 1) second (from + 1) t p q → prefix-width (concat p q) < length lent
+          → Moves (at + 1 + prefix-width p) (from + 1 + prefix-width q) (prefix-bytes (concat p q) []) (part 1 (set lent 0 k)) y m
       first-moves f h = done .each (first-due f h)
 
-      first-begun : {t : Ty} {p q : Prefix} → Follows first (at + 1) second (from + 1) t p q → width (concat p q) < length lent
+      first-begun : {t : Ty} {p q : Prefix} → Follows first (at + 1) second (from + 1) t p q → prefix-width (concat p q) < length lent
           → Begun (k ∷ prefix-bytes (concat p q) []) lent (back 1 (set lent 0 k) y) (1 + m .written)
       first-begun {p = p} {q = q} f h =
           let d = first-moves f h in
@@ -130,16 +130,16 @@ module _ (first : List ℕ) (at : ℕ) (second : List ℕ) (from : ℕ) (lent : 
         pub kept : length (back 1 (set lent 0 k) y) ≡ length lent
 
       pub started : ConcatDue first at second from lent → 5 ≤ getD first at 0 → (getD first at 0 ≡ 6 → ⊥) → Started
-      unfolding width concat
+      unfolding prefix-width concat
       started due h n = go (meets (due .follows) h) (due .room)
         where
-          so-far : {t : Ty} {p q : Prefix} → Follows first (at + 1) second (from + 1) t p q → width (concat p q) < length lent → Started
+          so-far : {t : Ty} {p q : Prefix} → Follows first (at + 1) second (from + 1) t p q → prefix-width (concat p q) < length lent → Started
           so-far {p = p} {q = q} f r =
               let d = first-moves f r in
-              let l : 1 + m .written ≤ length lent = omega (arith, d .written, prefix-width (concat p q) []) in
+              let l : 1 + m .written ≤ length lent = omega (arith, d .written, prefix-bytes-length (concat p q) []) in
               record { beyond = omega (arith, d .first); within = l; kept = length-kept (first-begun f r) l }
 
-          go : {p q : Prefix} → Meets first at second from p q → width (concat p q) ≤ length lent → Started
+          go : {p q : Prefix} → Meets first at second from p q → prefix-width (concat p q) ≤ length lent → Started
           go (coming d e f) r = so-far f (omega arith)
           go (crossing d e f s) r = so-far f (omega arith)
           go (behind d b f) r = absurd (n d)
@@ -149,11 +149,11 @@ module _ (first : List ℕ) (at : ℕ) (second : List ℕ) (from : ℕ) (lent : 
         -- Both first parts are still coming.
         pub coming-written : getD second from 0 ≡ 5
             → ConcatWritten first at second from lent (back 1 (set lent 0 k) y) (record { first = m .first; second = m .second; written = 1 + m .written })
-        unfolding width concat prefix-bytes
+        unfolding prefix-width concat prefix-bytes
         coming-written other-kind = record { each = λ due. go (meets (due .follows) (omega arith)) (due .room) }
           where
-            go : {p q : Prefix} → Meets first at second from p q → width (concat p q) ≤ length lent
-                → Moves (at + width p) (from + width q) (prefix-bytes (concat p q) []) lent (back 1 (set lent 0 k) y)
+            go : {p q : Prefix} → Meets first at second from p q → prefix-width (concat p q) ≤ length lent
+                → Moves (at + prefix-width p) (from + prefix-width q) (prefix-bytes (concat p q) []) lent (back 1 (set lent 0 k) y)
                 (record { first = m .first; second = m .second; written = 1 + m .written })
             go (coming {p = p} {q = q} d e f) r =
                 let g = first-moves f (omega arith) in
@@ -166,21 +166,21 @@ module _ (first : List ℕ) (at : ℕ) (second : List ℕ) (from : ℕ) (lent : 
         -- The second prefix brings the crossing.
         module _ (other-kind : getD second from 0 ≡ 5 → ⊥) where
           abbrev rest-due : {t : Ty} {p q u : Prefix} → Follows first (at + 1) second (from + 1) t p q
-              → ((end : ℕ) → end ≡ from + 1 + width q → PrefixAt second end u) → width (concat p q) + width u < length lent
+              → ((end : ℕ) → end ≡ from + 1 + prefix-width q → PrefixAt second end u) → prefix-width (concat p q) + prefix-width u < length lent
               → PrefixDue second (m .second) (part (1 + m .written) (back 1 (set lent 0 k) y))
           rest-due {p = p} {q = q} {u = u} f s r =
               let g = first-moves f (omega arith) in
               record {
                 prefix = u;
                 stands = s (m .second) (g .second);
-                room = omega (arith, room-left (first-begun f (omega arith)), g .written, prefix-width (concat p q) []);
+                room = omega (arith, room-left (first-begun f (omega arith)), g .written, prefix-bytes-length (concat p q) []);
               }
 
           pub crossing-due : ConcatDue first at second from lent → PrefixDue second (m .second) (part (1 + m .written) (back 1 (set lent 0 k) y))
-          unfolding width concat
+          unfolding prefix-width concat
           crossing-due due = go (meets (due .follows) (omega arith)) (due .room)
             where
-              go : {p q : Prefix} → Meets first at second from p q → width (concat p q) ≤ length lent
+              go : {p q : Prefix} → Meets first at second from p q → prefix-width (concat p q) ≤ length lent
                   → PrefixDue second (m .second) (part (1 + m .written) (back 1 (set lent 0 k) y))
               go (coming d e f) r = absurd (other-kind e)
               go (crossing d e f s) r = rest-due f s (omega arith)
@@ -190,11 +190,11 @@ module _ (first : List ℕ) (at : ℕ) (second : List ℕ) (from : ℕ) (lent : 
           pub crossing-written : {z : List ℕ} {n : ℕ} → PrefixWritten second (m .second) (part (1 + m .written) (back 1 (set lent 0 k) y)) z n
               → ConcatWritten first at second from lent (back (1 + m .written) (back 1 (set lent 0 k) y) z)
               (record { first = m .first; second = m .second + n; written = 1 + m .written + n })
-          unfolding width concat prefix-bytes
+          unfolding prefix-width concat prefix-bytes
           crossing-written {z} {n} copied = record { each = λ due. go (meets (due .follows) (omega arith)) (due .room) }
             where
-              go : {p q : Prefix} → Meets first at second from p q → width (concat p q) ≤ length lent
-                  → Moves (at + width p) (from + width q) (prefix-bytes (concat p q) []) lent (back (1 + m .written) (back 1 (set lent 0 k) y) z)
+              go : {p q : Prefix} → Meets first at second from p q → prefix-width (concat p q) ≤ length lent
+                  → Moves (at + prefix-width p) (from + prefix-width q) (prefix-bytes (concat p q) []) lent (back (1 + m .written) (back 1 (set lent 0 k) y) z)
                   (record { first = m .first; second = m .second + n; written = 1 + m .written + n })
               go (coming d e f) r = absurd (other-kind e)
               go (crossing {p = p} {q = q} {r = u} d e f s) r =
@@ -202,7 +202,7 @@ module _ (first : List ℕ) (at : ℕ) (second : List ℕ) (from : ℕ) (lent : 
                   let b = first-begun f (omega arith) in
                   let c = copied .each (rest-due f s (omega arith)) in
                   moves (omega (arith, g .first)) (omega (arith, g .second, c .0))
-                  (goes-on b (prefix-bytes u []) (c .1) (omega (arith, c .0, prefix-width u [])))
+                  (goes-on b (prefix-bytes u []) (c .1) (omega (arith, c .0, prefix-bytes-length u [])))
                   (kind-and-parts (concat p q) u (same-kind ∙ e))
               go (behind d b f) r = absurd (omega arith)
               go (aside d f s) r = absurd (omega arith)
@@ -210,8 +210,8 @@ module _ (first : List ℕ) (at : ℕ) (second : List ℕ) (from : ℕ) (lent : 
       -- Two prefixes side by side.
       module _ (written-kind : k ≡ 7) (one-kind : getD first at 0 ≡ 7) where
         abbrev second-due : {s t : Ty} {p q r u : Prefix} → Follows first (at + 1) second (from + 1) s p r
-            → ((first-end second-end : ℕ) → first-end ≡ at + 1 + width p → second-end ≡ from + 1 + width r
-            → Follows first first-end second second-end t q u) → width (concat p r) + width (concat q u) < length lent
+            → ((first-end second-end : ℕ) → first-end ≡ at + 1 + prefix-width p → second-end ≡ from + 1 + prefix-width r
+            → Follows first first-end second second-end t q u) → prefix-width (concat p r) + prefix-width (concat q u) < length lent
             → ConcatDue first (m .first) second (m .second) (part (1 + m .written) (back 1 (set lent 0 k) y))
         second-due {t = t} {p = p} {q = q} {r = r} {u = u} f s h =
             let g = first-moves f (omega arith) in
@@ -220,15 +220,15 @@ module _ (first : List ℕ) (at : ℕ) (second : List ℕ) (from : ℕ) (lent : 
               one = q;
               other = u;
               follows = s (m .first) (m .second) (g .first) (g .second);
-              room = omega (arith, room-left (first-begun f (omega arith)), g .written, prefix-width (concat p r) []);
+              room = omega (arith, room-left (first-begun f (omega arith)), g .written, prefix-bytes-length (concat p r) []);
             }
 
         pub aside-due : ConcatDue first at second from lent
             → ConcatDue first (m .first) second (m .second) (part (1 + m .written) (back 1 (set lent 0 k) y))
-        unfolding width concat
+        unfolding prefix-width concat
         aside-due due = go (meets (due .follows) (omega arith)) (due .room)
           where
-            go : {p q : Prefix} → Meets first at second from p q → width (concat p q) ≤ length lent
+            go : {p q : Prefix} → Meets first at second from p q → prefix-width (concat p q) ≤ length lent
                 → ConcatDue first (m .first) second (m .second) (part (1 + m .written) (back 1 (set lent 0 k) y))
             go (coming d e f) r = absurd (omega arith)
             go (crossing d e f s) r = absurd (omega arith)
@@ -239,11 +239,11 @@ module _ (first : List ℕ) (at : ℕ) (second : List ℕ) (from : ℕ) (lent : 
             → ConcatWritten first (m .first) second (m .second) (part (1 + m .written) (back 1 (set lent 0 k) y)) z n
             → ConcatWritten first at second from lent (back (1 + m .written) (back 1 (set lent 0 k) y) z)
             (record { first = n .first; second = n .second; written = 1 + m .written + n .written })
-        unfolding width concat prefix-bytes
+        unfolding prefix-width concat prefix-bytes
         aside-written {z} {n} joined = record { each = λ due. go (meets (due .follows) (omega arith)) (due .room) }
           where
-            go : {p q : Prefix} → Meets first at second from p q → width (concat p q) ≤ length lent
-                → Moves (at + width p) (from + width q) (prefix-bytes (concat p q) []) lent (back (1 + m .written) (back 1 (set lent 0 k) y) z)
+            go : {p q : Prefix} → Meets first at second from p q → prefix-width (concat p q) ≤ length lent
+                → Moves (at + prefix-width p) (from + prefix-width q) (prefix-bytes (concat p q) []) lent (back (1 + m .written) (back 1 (set lent 0 k) y) z)
                 (record { first = n .first; second = n .second; written = 1 + m .written + n .written })
             go (coming d e f) r = absurd (omega arith)
             go (crossing d e f s) r = absurd (omega arith)
@@ -257,15 +257,15 @@ module _ (first : List ℕ) (at : ℕ) (second : List ℕ) (from : ℕ) (lent : 
 
   -- The complete first part is copied, and what the first prefix has of the second part is joined.
   module _ (one-kind : getD first at 0 ≡ 6) where
-    abbrev whole-due : {b : Prefix} → PrefixAt first (at + 1) b → width b < length lent → PrefixDue first (at + 1) (part 1 (set lent 0 6))
+    abbrev whole-due : {b : Prefix} → PrefixAt first (at + 1) b → prefix-width b < length lent → PrefixDue first (at + 1) (part 1 (set lent 0 6))
     whole-due {b} x h =
         record { prefix = b; stands = x; room = omega (arith, room-left (begins {lent = lent} 6 (omega arith))) }
 
     pub copies-first : ConcatDue first at second from lent → PrefixDue first (at + 1) (part 1 (set lent 0 6))
-    unfolding width concat
+    unfolding prefix-width concat
     copies-first due = go (meets (due .follows) (omega arith)) (due .room)
       where
-        go : {p q : Prefix} → Meets first at second from p q → width (concat p q) ≤ length lent
+        go : {p q : Prefix} → Meets first at second from p q → prefix-width (concat p q) ≤ length lent
             → PrefixDue first (at + 1) (part 1 (set lent 0 6))
         go (coming d e f) r = absurd (omega arith)
         go (crossing d e f s) r = absurd (omega arith)
@@ -273,17 +273,17 @@ module _ (first : List ℕ) (at : ℕ) (second : List ℕ) (from : ℕ) (lent : 
         go (aside d f s) r = absurd (omega arith)
 
     module _ {y : List ℕ} {n : ℕ} (done : PrefixWritten first (at + 1) (part 1 (set lent 0 6)) y n) where
-      whole-width : {b : Prefix} → PrefixAt first (at + 1) b → width b < length lent → n ≡ width b
+      whole-width : {b : Prefix} → PrefixAt first (at + 1) b → prefix-width b < length lent → n ≡ prefix-width b
       whole-width x h = done .each (whole-due x h) .0
 
-      whole-begun : {b : Prefix} → PrefixAt first (at + 1) b → width b < length lent
+      whole-begun : {b : Prefix} → PrefixAt first (at + 1) b → prefix-width b < length lent
           → Begun (6 ∷ prefix-bytes b []) lent (back 1 (set lent 0 6) y) (1 + n)
       whole-begun {b} x h =
           let c = done .each (whole-due x h) in
-          goes-on (begins {lent = lent} 6 (omega arith)) (prefix-bytes b []) (c .1) (omega (arith, c .0, prefix-width b []))
+          goes-on (begins {lent = lent} 6 (omega arith)) (prefix-bytes b []) (c .1) (omega (arith, c .0, prefix-bytes-length b []))
 
       abbrev behind-first : {t : Ty} {b p q : Prefix} → PrefixAt first (at + 1) b
-          → ((end : ℕ) → end ≡ at + 1 + width b → Follows first end second from t p q) → width b + width (concat p q) < length lent
+          → ((end : ℕ) → end ≡ at + 1 + prefix-width b → Follows first end second from t p q) → prefix-width b + prefix-width (concat p q) < length lent
           → ConcatDue first (at + (1 + n)) second from (part (1 + n) (back 1 (set lent 0 6) y))
       behind-first {t} {b} {p} {q} x f h =
           let w = whole-width x (omega arith) in
@@ -302,10 +302,10 @@ module _ (first : List ℕ) (at : ℕ) (second : List ℕ) (from : ℕ) (lent : 
         pub kept : length (back 1 (set lent 0 6) y) ≡ length lent
 
       pub copied : ConcatDue first at second from lent → Copied
-      unfolding width concat
+      unfolding prefix-width concat
       copied due = go (meets (due .follows) (omega arith)) (due .room)
         where
-          go : {p q : Prefix} → Meets first at second from p q → width (concat p q) ≤ length lent → Copied
+          go : {p q : Prefix} → Meets first at second from p q → prefix-width (concat p q) ≤ length lent → Copied
           go (coming d e f) r = absurd (omega arith)
           go (crossing d e f s) r = absurd (omega arith)
           go (behind d x f) r =
@@ -316,10 +316,10 @@ module _ (first : List ℕ) (at : ℕ) (second : List ℕ) (from : ℕ) (lent : 
 
       pub behind-due : ConcatDue first at second from lent
           → ConcatDue first (at + (1 + n)) second from (part (1 + n) (back 1 (set lent 0 6) y))
-      unfolding width concat
+      unfolding prefix-width concat
       behind-due due = go (meets (due .follows) (omega arith)) (due .room)
         where
-          go : {p q : Prefix} → Meets first at second from p q → width (concat p q) ≤ length lent
+          go : {p q : Prefix} → Meets first at second from p q → prefix-width (concat p q) ≤ length lent
               → ConcatDue first (at + (1 + n)) second from (part (1 + n) (back 1 (set lent 0 6) y))
           go (coming d e f) r = absurd (omega arith)
           go (crossing d e f s) r = absurd (omega arith)
@@ -330,11 +330,11 @@ module _ (first : List ℕ) (at : ℕ) (second : List ℕ) (from : ℕ) (lent : 
           → ConcatWritten first (at + (1 + n)) second from (part (1 + n) (back 1 (set lent 0 6) y)) z m
           → ConcatWritten first at second from lent (back (1 + n) (back 1 (set lent 0 6) y) z)
           (record { first = m .first; second = m .second; written = 1 + n + m .written })
-      unfolding width concat prefix-bytes
+      unfolding prefix-width concat prefix-bytes
       behind-written {z} {m} joined = record { each = λ due. go (meets (due .follows) (omega arith)) (due .room) }
         where
-          go : {p q : Prefix} → Meets first at second from p q → width (concat p q) ≤ length lent
-              → Moves (at + width p) (from + width q) (prefix-bytes (concat p q) []) lent (back (1 + n) (back 1 (set lent 0 6) y) z)
+          go : {p q : Prefix} → Meets first at second from p q → prefix-width (concat p q) ≤ length lent
+              → Moves (at + prefix-width p) (from + prefix-width q) (prefix-bytes (concat p q) []) lent (back (1 + n) (back 1 (set lent 0 6) y) z)
               (record { first = m .first; second = m .second; written = 1 + n + m .written })
           go (coming d e f) r = absurd (omega arith)
           go (crossing d e f s) r = absurd (omega arith)

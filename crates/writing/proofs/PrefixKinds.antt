@@ -7,7 +7,7 @@ use Rattle.stream.specs.Types.{Ty, empty, cue, level, seq, par, size}
 use Rattle.stream.specs.Levels.{level-limit}
 use Rattle.stream.specs.Prefixes.{Prefix, nothing, cue-awaited, cue-come, level-awaited, level-come, in-first, crossed, beside, Complete, IsPrefix, of-empty, of-cue-awaited, of-cue-come, of-level-awaited, of-level-come, of-first, of-crossed, of-beside, derivative}
 use Rattle.stream.specs.TypeFiles.{type-bytes}
-use Rattle.files.specs.SliceReads.{width, leaf-width}
+use Rattle.files.specs.SliceReads.{prefix-width, leaf-width}
 use Rattle.files.specs.SliceReads.Laws.{prefix-kind}
 use Rattle.writing.specs.Writing.{leaf-left}
 
@@ -39,8 +39,8 @@ by-kind P (of-beside {s} {t} {p} {q} h k) c = c s t p q h k
 
 -- A leaf.
 pub leaf-is : {t : Ty} {p : Prefix} → IsPrefix t p → (prefix-kind p ≡ 5 → ⊥) → (prefix-kind p ≡ 6 → ⊥) → (prefix-kind p ≡ 7 → ⊥)
-    → (size t ≡ 1) × (width p ≡ leaf-width (prefix-kind p)) × (type-bytes (derivative t p) [] ≡ leaf-left (prefix-kind p) ∷ [])
-unfolding size width type-bytes derivative
+    → (size t ≡ 1) × (prefix-width p ≡ leaf-width (prefix-kind p)) × (type-bytes (derivative t p) [] ≡ leaf-left (prefix-kind p) ∷ [])
+unfolding size prefix-width type-bytes derivative
 leaf-is of-empty f g h = (refl, refl, refl)
 leaf-is of-cue-awaited f g h = (refl, refl, refl)
 leaf-is of-cue-come f g h = (refl, refl, refl)

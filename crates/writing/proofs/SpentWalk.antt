@@ -13,16 +13,16 @@ use Rattle.stream.specs.Prefixes.{Prefix, Complete, whole-nothing, whole-cue, w
 use Rattle.stream.specs.TypeFiles.{type-bytes}
 use Rattle.stream.specs.TypeFiles.Laws.{type-length}
 use Rattle.files.specs.TypeReads.Laws.{type-width}
-use Rattle.files.specs.SliceReads.{width, leaf-width, PrefixAt, SomePrefixAt, PrefixEnds}
+use Rattle.files.specs.SliceReads.{prefix-width, leaf-width, PrefixAt, SomePrefixAt, PrefixEnds}
 use Rattle.files.specs.SliceReads.Laws.{width-positive, leaf-positive, prefix-inside, kind-at, crossed-first-at, crossed-second-at, beside-first-at, beside-second-at}
 use Rattle.writing.specs.Writing.{SpentDue, SpentWritten}
-use Rattle.writing.specs.Appending.Laws.{Written, nothing-written, written-on}
+use Rattle.writing.specs.Appending.Laws.{WrittenSoFar, nothing-written, written-on}
 use Rattle.writing.proofs.RoomBehind.{appended-byte}
 
 -- `owed` complete prefixes stand one behind the other from `from`; what they leave of their types has the bytes `left`.
 data Pending (slice : List ℕ) : (owed from : ℕ) (left : List ℕ) → Type 0 where
   none : {from : ℕ} → from ≤ length slice → Pending slice 0 from []
-  more : {owed from : ℕ} {left : List ℕ} (t : Ty) {p : Prefix} → PrefixAt slice from p → Complete p → Pending slice owed (from + width p) left
+  more : {owed from : ℕ} {left : List ℕ} (t : Ty) {p : Prefix} → PrefixAt slice from p → Complete p → Pending slice owed (from + prefix-width p) left
       → Pending slice (suc owed) from (type-bytes (derivative t p) left)
 
 -- The next byte of what is left is k, and `owed` prefixes from `from` leave the others.
@@ -63,7 +63,7 @@ module _ {slice : List ℕ} where
 
   -- At a kind 6.
   crosses : {owed from : ℕ} {left : List ℕ} → Pending slice owed from left → 0 < owed → getD slice from 0 ≡ 6 → Crosses slice owed from left
-  unfolding width derivative
+  unfolding prefix-width derivative
   crosses (none i) h e = absurd (omega arith)
   crosses (more t s whole-nothing r) h e = absurd (omega (arith, kind-at s))
   crosses (more t s whole-cue r) h e = absurd (omega (arith, kind-at s))
@@ -72,7 +72,7 @@ module _ {slice : List ℕ} where
       record {
         first = record { prefix = b; stands = crossed-first-at s };
         second = λ place ends.
-            let behind : place ≡ from + 1 + width b = ends .each b (crossed-first-at s) in
+            let behind : place ≡ from + 1 + prefix-width b = ends .each b (crossed-first-at s) in
             (omega arith, more (second-part t) (crossed-second-at s behind) d (moved r refl (omega arith)));
       }
   crosses (more t s (whole-beside c d) r) h e = absurd (omega (arith, kind-at s))
@@ -80,7 +80,7 @@ module _ {slice : List ℕ} where
   -- Two prefixes side by side: both are owed, and leave their types side by side.
   forks : {owed from : ℕ} {left : List ℕ} → Pending slice owed from left → 0 < owed → getD slice from 0 ≡ 7
       → Turns slice 4 (owed + 1) (from + 1) left
-  unfolding width derivative type-bytes
+  unfolding prefix-width derivative type-bytes
   forks (none i) h e = absurd (omega arith)
   forks (more t s whole-nothing r) h e = absurd (omega (arith, kind-at s))
   forks (more t s whole-cue r) h e = absurd (omega (arith, kind-at s))
@@ -93,7 +93,7 @@ module _ {slice : List ℕ} where
   -- A complete leaf leaves the empty type.
   leaves : {owed from : ℕ} {left : List ℕ} → Pending slice owed from left → 0 < owed → (getD slice from 0 ≡ 6 → ⊥)
       → (getD slice from 0 ≡ 7 → ⊥) → Turns slice 0 (owed - 1) (from + leaf-width (getD slice from 0)) left
-  unfolding width derivative type-bytes
+  unfolding prefix-width derivative type-bytes
   leaves (none i) h six seven = absurd (omega arith)
   leaves (more t s whole-nothing r) h six seven = record { others = _; next = refl; pending = rw (kind-at s) (moved r (omega arith) refl) }
   leaves (more t s whole-cue r) h six seven = record { others = _; next = refl; pending = rw (kind-at s) (moved r (omega arith) refl) }
@@ -107,7 +107,7 @@ pub record Spending (slice lent whole now : List ℕ) (owed from written : ℕ) 
   left : List ℕ
   all : bytes ++ left ≡ whole
   room : length whole ≤ length lent
-  so-far : Written bytes lent now written
+  so-far : WrittenSoFar bytes lent now written
   pending : Pending slice owed from left
 
 -- All that the prefix at `at` leaves of its type.

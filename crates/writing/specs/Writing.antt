@@ -10,7 +10,7 @@ use Rattle.stream.specs.Prefixes.{Prefix, Complete, IsPrefix, empty-prefix, der
 use Rattle.stream.specs.TypeFiles.{type-bytes, type-file-bytes}
 use Rattle.stream.specs.SliceFiles.{prefix-bytes, slice-file-bytes}
 use Rattle.files.specs.TypeReads.{TypeAt}
-use Rattle.files.specs.SliceReads.{width, PrefixAt}
+use Rattle.files.specs.SliceReads.{prefix-width, PrefixAt}
 pub mod Laws
 pub mod Standing
 
@@ -18,10 +18,10 @@ pub mod Standing
 pub record PrefixDue (bytes : List ℕ) (at : ℕ) (lent : List ℕ) : Type 0 where
   pub prefix : Prefix
   pub stands : PrefixAt bytes at prefix
-  pub room : width prefix ≤ length lent
+  pub room : prefix-width prefix ≤ length lent
 
 pub record PrefixWritten (bytes : List ℕ) (at : ℕ) (lent lent-after : List ℕ) (written : ℕ) : Type 0 where
-  pub each : (due : PrefixDue bytes at lent) → (written ≡ width (due .prefix)) × (lent-after ≡ at-front (prefix-bytes (due .prefix) []) lent)
+  pub each : (due : PrefixDue bytes at lent) → (written ≡ prefix-width (due .prefix)) × (lent-after ≡ at-front (prefix-bytes (due .prefix) []) lent)
 
 -- The kind of the type that a leaf of a slice leaves.
 abbrev pub leaf-left : ℕ → ℕ
@@ -49,7 +49,7 @@ pub record Moves (first-end second-end : ℕ) (bytes lent lent-after : List ℕ)
 
 pub record DerivativeWritten (types : List ℕ) (at : ℕ) (slice : List ℕ) (from : ℕ) (lent lent-after : List ℕ) (moved : Moved) : Type 0 where
   pub each : (due : DerivativeDue types at slice from lent)
-      → Moves (at + size (due .type)) (from + width (due .prefix)) (type-bytes (derivative (due .type) (due .prefix)) []) lent lent-after moved
+      → Moves (at + size (due .type)) (from + prefix-width (due .prefix)) (type-bytes (derivative (due .type) (due .prefix)) []) lent lent-after moved
 
 -- The same for a slice file, whose tree stands behind the two bytes of its count, and with a count before what is written;
 -- `left` is how many nodes the type left has.
@@ -76,7 +76,7 @@ pub record ConcatDue (first : List ℕ) (at : ℕ) (second : List ℕ) (from : �
   pub one : Prefix
   pub other : Prefix
   pub follows : Follows first at second from type one other
-  pub room : width (concat one other) ≤ length lent
+  pub room : prefix-width (concat one other) ≤ length lent
 
 -- The same where the first prefix is a leaf.
 pub record LeafConcatDue (first : List ℕ) (at : ℕ) (second : List ℕ) (from : ℕ) (lent : List ℕ) : Type 0 where
@@ -85,7 +85,7 @@ pub record LeafConcatDue (first : List ℕ) (at : ℕ) (second : List ℕ) (from
 
 pub record ConcatWritten (first : List ℕ) (at : ℕ) (second : List ℕ) (from : ℕ) (lent lent-after : List ℕ) (moved : Moved) : Type 0 where
   pub each : (due : ConcatDue first at second from lent)
-      → Moves (at + width (due .one)) (from + width (due .other)) (prefix-bytes (concat (due .one) (due .other)) []) lent lent-after moved
+      → Moves (at + prefix-width (due .one)) (from + prefix-width (due .other)) (prefix-bytes (concat (due .one) (due .other)) []) lent lent-after moved
 
 -- The same for two slice files, and with a count before what is written; `joined` is how many bytes the join has.
 pub record JoinedFileDue (first second : List ℕ) (joined : ℕ) (lent : List ℕ) : Type 0 where
@@ -93,7 +93,7 @@ pub record JoinedFileDue (first second : List ℕ) (joined : ℕ) (lent : List �
   pub one : Prefix
   pub other : Prefix
   pub follows : Follows first 2 second 2 type one other
-  pub measured : joined ≡ width (concat one other)
+  pub measured : joined ≡ prefix-width (concat one other)
   pub countable : joined ≤ 65535
   pub room : 2 + joined ≤ length lent
 
@@ -108,11 +108,11 @@ empty-kind k = getD (0 ∷ 1 ∷ 3 ∷ 5 ∷ []) k 7
 pub record EmptyDue (types : List ℕ) (at : ℕ) (lent : List ℕ) : Type 0 where
   pub type : Ty
   pub stands : TypeAt types at type
-  pub room : width (empty-prefix type) ≤ length lent
+  pub room : prefix-width (empty-prefix type) ≤ length lent
 
 pub record EmptyWritten (types : List ℕ) (at : ℕ) (lent lent-after : List ℕ) (written : ℕ) : Type 0 where
   pub each : (due : EmptyDue types at lent)
-      → (written ≡ width (empty-prefix (due .type))) × (lent-after ≡ at-front (prefix-bytes (empty-prefix (due .type)) []) lent)
+      → (written ≡ prefix-width (empty-prefix (due .type))) × (lent-after ≡ at-front (prefix-bytes (empty-prefix (due .type)) []) lent)
 
 -- What the complete prefix at `at` leaves of a type is to be written on `lent`, which has room for it.
 pub record SpentDue (slice : List ℕ) (at : ℕ) (lent : List ℕ) : Type 0 where

@@ -153,8 +153,8 @@ module _ {outcome : Result (List ℕ)} {lent : List ℕ} {answer : Written} {len
 
 -- Feed
 
-module _ {patch slice output left : List ℕ} {answer : Fed} {output-after left-after : List ℕ}
-    (promise : FeedPromise patch slice output left answer output-after left-after) where
+module _ {patch slice output left : List ℕ} {answer : Fed} {output-after patch-after : List ℕ}
+    (promise : FeedPromise patch slice output left answer output-after patch-after) where
   abbrev fits : FedFiles → Bool
   fits w = fits-both (length output) (length left) w
 
@@ -167,12 +167,12 @@ module _ {patch slice output left : List ℕ} {answer : Fed} {output-after left-
 
   pub feeds-decided : {ns : List ℕ} → Refuses ns (feed patch slice)
       → Decided (with-room (fits-both (length output) (length left)) (feed patch slice)) (20 ∷ ns) (answer .number)
-      (output ∷ left ∷ []) (output-after ∷ left-after ∷ [])
+      (output ∷ left ∷ []) (output-after ∷ patch-after ∷ [])
   feeds-decided {ns} r =
-      decided (20 ∷ ns) (answer .number) (output ∷ left ∷ []) (output-after ∷ left-after ∷ []) (with-room fits (feed patch slice))
+      decided (20 ∷ ns) (answer .number) (output ∷ left ∷ []) (output-after ∷ patch-after ∷ []) (with-room fits (feed patch slice))
       (room-refusals fits (Listed (20 ∷ ns)) (feed patch slice) refl (listed-more 20 ns (feed patch slice) (r .only))) fed-told
       (λ e h. ap₂ (λ x y. x ∷ y ∷ []) (unaltered (λ w. w .output) (with-room fits (feed patch slice)) output output-after e (promise .output-buffer) h)
-      (unaltered (λ w. w .patch) (with-room fits (feed patch slice)) left left-after e (promise .left-buffer) h))
+      (unaltered (λ w. w .patch) (with-room fits (feed patch slice)) left patch-after e (promise .patch-buffer) h))
 
   pub feeds-twenty : {ns : List ℕ} → Refuses ns (feed patch slice)
       → answer .number ≡ 20 ↔ TooShort (fits-both (length output) (length left)) (feed patch slice)
@@ -191,10 +191,10 @@ module _ {patch slice output left : List ℕ} {answer : Fed} {output-after left-
       → 513 ≤ length output → 8482 ≤ length left → answer .number ≡ 20 → ⊥
   feeds-never-twenty r l h k e = never-twenty fits (feed patch slice) (not-room (feed patch slice) r) (both-fits l h k) (sym fed-told ∙ e)
 
-  pub feeds-bytes : FeedsSized (feed patch slice) → Bytes output → Bytes left → Bytes output-after × Bytes left-after
+  pub feeds-bytes : FeedsSized (feed patch slice) → Bytes output → Bytes left → Bytes output-after × Bytes patch-after
   feeds-bytes l b c = (
     rw (promise .output-buffer) (still-bytes fits (feed patch slice) (λ w. w .output) output (λ w e. (l .sized w e) .output .bytes) b),
-    rw (promise .left-buffer) (still-bytes fits (feed patch slice) (λ w. w .patch) left (λ w e. (l .sized w e) .patch .bytes) c),
+    rw (promise .patch-buffer) (still-bytes fits (feed patch slice) (λ w. w .patch) left (λ w e. (l .sized w e) .patch .bytes) c),
   )
 
   pub feeds-zero : FeedsSized (feed patch slice) → 513 ≤ length output → 8482 ≤ length left → answer .number ≡ 0 ↔ IsAccepted (feed patch slice)
@@ -202,13 +202,13 @@ module _ {patch slice output left : List ℕ} {answer : Fed} {output-after left-
 
   -- With room for its files, the call writes exactly these.
   pub feeds-exactly : {w : FedFiles} → feed patch slice ≡ accepted w → length (w .output) ≤ length output → length (w .patch) ≤ length left
-      → Sent (w .output) (w .patch) output left answer output-after left-after
+      → Sent (w .output) (w .patch) output left answer output-after patch-after
   unfolding fed after
   feeds-exactly {w} e h k =
       let o = enough-room fits (feed patch slice) e (both-fit w h k) in (
         promise .answers ∙ ap fed o,
         promise .output-buffer ∙ ap (λ r. after (λ f. f .output) r output) o,
-        promise .left-buffer ∙ ap (λ r. after (λ f. f .patch) r left) o,
+        promise .patch-buffer ∙ ap (λ r. after (λ f. f .patch) r left) o,
       )
 
   -- An accepted call has written the two files that it had to.
@@ -216,7 +216,7 @@ module _ {patch slice output left : List ℕ} {answer : Fed} {output-after left-
     pub files : FedFiles
     pub due : feed patch slice ≡ accepted files
     pub output-file : take (answer .output) output-after ≡ files .output
-    pub patch-file : take (answer .patch) left-after ≡ files .patch
+    pub patch-file : take (answer .patch) patch-after ≡ files .patch
 
   pub feeds-accepted : answer .number ≡ 0 → Accepted
   unfolding fed after
@@ -229,7 +229,7 @@ module _ {patch slice output left : List ℕ} {answer : Fed} {output-after left-
         due = room-accepted fits (feed patch slice) w (a .1) .0;
         output-file = ap₂ take (ap (λ (f : Fed). f .output) told) (promise .output-buffer ∙ ap (λ r. after (λ f. f .output) r output) (a .1))
             ∙ take-append-seam (w .output) (drop (length (w .output)) output);
-        patch-file = ap₂ take (ap (λ (f : Fed). f .patch) told) (promise .left-buffer ∙ ap (λ r. after (λ f. f .patch) r left) (a .1))
+        patch-file = ap₂ take (ap (λ (f : Fed). f .patch) told) (promise .patch-buffer ∙ ap (λ r. after (λ f. f .patch) r left) (a .1))
             ∙ take-append-seam (w .patch) (drop (length (w .patch)) left);
       }
 
@@ -275,8 +275,8 @@ pub join-kept : (type first second lent : List ℕ)
 join-kept type first second lent = writes-kept (join type first second) lent
 
 pub feed-kept : (patch slice output left : List ℕ)
-    → (answer : Fed) × (output-after : List ℕ) × (left-after : List ℕ) × FeedPromise patch slice output left answer output-after left-after
-feed-kept patch slice output left = (_, _, _, record { answers = refl; output-buffer = refl; left-buffer = refl })
+    → (answer : Fed) × (output-after : List ℕ) × (patch-after : List ℕ) × FeedPromise patch slice output left answer output-after patch-after
+feed-kept patch slice output left = (_, _, _, record { answers = refl; output-buffer = refl; patch-buffer = refl })
 
 pub writes-alike : {outcome : Result (List ℕ)} {lent x y : List ℕ} {a b : Written} → Writes outcome lent a x → Writes outcome lent b y
     → (a ≡ b) × (x ≡ y)
@@ -287,11 +287,11 @@ admits-alike h k = h .answers ∙ sym (k .answers)
 
 pub feeds-alike : {patch slice output left x y u v : List ℕ} {a b : Fed} → FeedPromise patch slice output left a x u
     → FeedPromise patch slice output left b y v → (a ≡ b) × (x ≡ y) × (u ≡ v)
-feeds-alike h k = (h .answers ∙ sym (k .answers), h .output-buffer ∙ sym (k .output-buffer), h .left-buffer ∙ sym (k .left-buffer))
+feeds-alike h k = (h .answers ∙ sym (k .answers), h .output-buffer ∙ sym (k .output-buffer), h .patch-buffer ∙ sym (k .patch-buffer))
 
 -- What Check refuses, 20 aside, Feed refuses with the same number.
-pub feeds-as-check : {patch slice lent lent-after output left output-after left-after : List ℕ} {c : Written} {f : Fed}
-    → CheckPromise patch lent c lent-after → FeedPromise patch slice output left f output-after left-after
+pub feeds-as-check : {patch slice lent lent-after output left output-after patch-after : List ℕ} {c : Written} {f : Fed}
+    → CheckPromise patch lent c lent-after → FeedPromise patch slice output left f output-after patch-after
     → (c .number ≡ 0 → ⊥) → (c .number ≡ 20 → ⊥) → f ≡ record { number = c .number; output = 0; patch = 0 }
 unfolding with-room fed written
 feeds-as-check {patch} {slice} {lent} {output = output} {left = left} {c = c} {f = f} check-call feed-call n m = go (check patch) refl

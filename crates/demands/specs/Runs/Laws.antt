@@ -133,11 +133,11 @@ as-one-by {s} {t} {n} r (p ∷ ps) a (piece h k) e d o l =
         ∙ (λ i. accepted (record { output = slice-file-bytes (sends-concat-all ps (a .types) h k i); patch = patches i }))
 
 -- Fed a prefix, a patch file sends and leaves what the rules say.
-pub feed-by-rules : {n′ : Node} {o : Prefix} {file slice output left output-after left-after : List ℕ} {answer : Fed}
-    → FeedPromise file slice output left answer output-after left-after → (patch : PatchFile file) (taken : SliceFile (patch .input) slice)
+pub feed-by-rules : {n′ : Node} {o : Prefix} {file slice output left output-after patch-after : List ℕ} {answer : Fed}
+    → FeedPromise file slice output left answer output-after patch-after → (patch : PatchFile file) (taken : SliceFile (patch .input) slice)
     → Feeds (patch .input) (patch .node) (taken .prefix) o n′
     → length (slice-file-bytes o) ≤ length output → length (patch-file-bytes (derivative (patch .input) (taken .prefix)) n′) ≤ length left
-    → Sent (slice-file-bytes o) (patch-file-bytes (derivative (patch .input) (taken .prefix)) n′) output left answer output-after left-after
+    → Sent (slice-file-bytes o) (patch-file-bytes (derivative (patch .input) (taken .prefix)) n′) output left answer output-after patch-after
 feed-by-rules k patch taken g i j =
     let e = feeds-only g in
     let s = patch .input in

@@ -12,23 +12,23 @@ use Rattle.stream.specs.Levels.Laws.{value-length}
 use Rattle.stream.specs.Prefixes.{Prefix, nothing, cue-awaited, cue-come, level-awaited, level-come, in-first, crossed, beside, IsPrefix, of-empty, of-cue-awaited, of-cue-come, of-level-awaited, of-level-come, of-first, of-crossed, of-beside, derivative, concat}
 use Rattle.stream.specs.Reading.Laws.{_&_, past, every}
 use Rattle.stream.specs.SliceFiles.{prefix-bytes}
-use Rattle.files.specs.SliceReads.{width, overlap, leaf-width, PrefixAt}
+use Rattle.files.specs.SliceReads.{prefix-width, overlap, leaf-width, PrefixAt}
 
 -- Widths
 
-pub prefix-width : (p : Prefix) (r : List ℕ) → length (prefix-bytes p r) ≡ width p + length r
-unfolding prefix-bytes width
-prefix-width nothing r = omega arith
-prefix-width cue-awaited r = omega arith
-prefix-width cue-come r = omega arith
-prefix-width level-awaited r = omega arith
-prefix-width (level-come v) r = omega (arith, value-length v r)
-prefix-width (in-first p) r = omega (arith, prefix-width p r)
-prefix-width (crossed b q) r = omega (arith, prefix-width b (prefix-bytes q r), prefix-width q r)
-prefix-width (beside p q) r = omega (arith, prefix-width p (prefix-bytes q r), prefix-width q r)
+pub prefix-bytes-length : (p : Prefix) (r : List ℕ) → length (prefix-bytes p r) ≡ prefix-width p + length r
+unfolding prefix-bytes prefix-width
+prefix-bytes-length nothing r = omega arith
+prefix-bytes-length cue-awaited r = omega arith
+prefix-bytes-length cue-come r = omega arith
+prefix-bytes-length level-awaited r = omega arith
+prefix-bytes-length (level-come v) r = omega (arith, value-length v r)
+prefix-bytes-length (in-first p) r = omega (arith, prefix-bytes-length p r)
+prefix-bytes-length (crossed b q) r = omega (arith, prefix-bytes-length b (prefix-bytes q r), prefix-bytes-length q r)
+prefix-bytes-length (beside p q) r = omega (arith, prefix-bytes-length p (prefix-bytes q r), prefix-bytes-length q r)
 
-pub width-positive : (p : Prefix) → 1 ≤ width p
-unfolding width
+pub width-positive : (p : Prefix) → 1 ≤ prefix-width p
+unfolding prefix-width
 width-positive nothing = omega arith
 width-positive cue-awaited = omega arith
 width-positive cue-come = omega arith
@@ -38,8 +38,8 @@ width-positive (in-first p) = omega arith
 width-positive (crossed b q) = omega arith
 width-positive (beside p q) = omega arith
 
-pub overlap-within : (p : Prefix) → overlap p ≤ width p
-unfolding width overlap
+pub overlap-within : (p : Prefix) → overlap p ≤ prefix-width p
+unfolding prefix-width overlap
 overlap-within nothing = omega arith
 overlap-within cue-awaited = omega arith
 overlap-within cue-come = omega arith
@@ -55,8 +55,8 @@ leaf-positive =
 
 -- A join is shorter than the two by the overlap of the first.
 pub concat-width : {t : Ty} {p : Prefix} (q : Prefix) → IsPrefix t p → IsPrefix (derivative t p) q
-    → width (concat p q) + overlap p ≡ width p + width q
-unfolding derivative concat width overlap
+    → prefix-width (concat p q) + overlap p ≡ prefix-width p + prefix-width q
+unfolding derivative concat prefix-width overlap
 concat-width q of-empty of-empty = omega arith
 concat-width q of-cue-awaited k = omega arith
 concat-width q of-cue-come of-empty = omega arith
@@ -69,8 +69,8 @@ concat-width q (of-beside h i) (of-beside k l) = omega (arith, concat-width _ h 
 
 -- What stands behind a prefix
 
-pub behind-prefix : (p : Prefix) (r : List ℕ) → drop (width p) (prefix-bytes p r) ≡ r
-unfolding prefix-bytes value-bytes width
+pub behind-prefix : (p : Prefix) (r : List ℕ) → drop (prefix-width p) (prefix-bytes p r) ≡ r
+unfolding prefix-bytes value-bytes prefix-width
 behind-prefix nothing r = refl
 behind-prefix cue-awaited r = refl
 behind-prefix cue-come r = refl
@@ -127,18 +127,18 @@ behind-kind : (bytes : List ℕ) (at : ℕ) {k : ℕ} {r : List ℕ} → drop at
 behind-kind bytes at h = hop bytes at 1 h refl refl
 
 module _ {bytes : List ℕ} {at : ℕ} where
-  pub prefix-inside : {p : Prefix} → PrefixAt bytes at p → at + width p ≤ length bytes
+  pub prefix-inside : {p : Prefix} → PrefixAt bytes at p → at + prefix-width p ≤ length bytes
   prefix-inside {p} s =
-      omega (arith, width-positive p, prefix-width p (s .rest), ap length (s .here), length-drop at bytes)
+      omega (arith, width-positive p, prefix-bytes-length p (s .rest), ap length (s .here), length-drop at bytes)
 
   pub kind-at : {p : Prefix} → PrefixAt bytes at p → getD bytes at 0 ≡ prefix-kind p
   kind-at {p} s =
       ap (λ n. getD bytes n 0) (sym (add-zero at)) ∙ sym (getD-drop at bytes 0 0) ∙ ap (λ l. getD l 0 0) (s .here)
       ∙ kind-first p (s .rest)
 
-  pub prefix-taken : {p : Prefix} (n : ℕ) → PrefixAt bytes at p → n ≡ width p → take n (drop at bytes) ≡ prefix-bytes p []
+  pub prefix-taken : {p : Prefix} (n : ℕ) → PrefixAt bytes at p → n ≡ prefix-width p → take n (drop at bytes) ≡ prefix-bytes p []
   prefix-taken {p} n s e =
-      ap (take n) (s .here ∙ prefix-before p (s .rest)) ∙ take-at (prefix-bytes p []) (s .rest) n (omega (arith, prefix-width p []))
+      ap (take n) (s .here ∙ prefix-before p (s .rest)) ∙ take-at (prefix-bytes p []) (s .rest) n (omega (arith, prefix-bytes-length p []))
 
   -- The first part stands behind the kind, the second behind the first.
 
@@ -150,16 +150,16 @@ module _ {bytes : List ℕ} {at : ℕ} where
   unfolding prefix-bytes
   crossed-first-at {q = q} s = record { rest = prefix-bytes q (s .rest); here = behind-kind bytes at (s .here) }
 
-  pub crossed-second-at : {b q : Prefix} {end : ℕ} → PrefixAt bytes at (crossed b q) → end ≡ at + 1 + width b → PrefixAt bytes end q
+  pub crossed-second-at : {b q : Prefix} {end : ℕ} → PrefixAt bytes at (crossed b q) → end ≡ at + 1 + prefix-width b → PrefixAt bytes end q
   unfolding prefix-bytes
   crossed-second-at {b} {q} s e =
-      record { rest = s .rest; here = hop bytes (at + 1) (width b) (behind-kind bytes at (s .here)) (behind-prefix b (prefix-bytes q (s .rest))) e }
+      record { rest = s .rest; here = hop bytes (at + 1) (prefix-width b) (behind-kind bytes at (s .here)) (behind-prefix b (prefix-bytes q (s .rest))) e }
 
   pub beside-first-at : {p q : Prefix} → PrefixAt bytes at (beside p q) → PrefixAt bytes (at + 1) p
   unfolding prefix-bytes
   beside-first-at {q = q} s = record { rest = prefix-bytes q (s .rest); here = behind-kind bytes at (s .here) }
 
-  pub beside-second-at : {p q : Prefix} {end : ℕ} → PrefixAt bytes at (beside p q) → end ≡ at + 1 + width p → PrefixAt bytes end q
+  pub beside-second-at : {p q : Prefix} {end : ℕ} → PrefixAt bytes at (beside p q) → end ≡ at + 1 + prefix-width p → PrefixAt bytes end q
   unfolding prefix-bytes
   beside-second-at {p} {q} s e =
-      record { rest = s .rest; here = hop bytes (at + 1) (width p) (behind-kind bytes at (s .here)) (behind-prefix p (prefix-bytes q (s .rest))) e }
+      record { rest = s .rest; here = hop bytes (at + 1) (prefix-width p) (behind-kind bytes at (s .here)) (behind-prefix p (prefix-bytes q (s .rest))) e }

@@ -15,7 +15,7 @@ use Rattle.files.specs.TypeReads.Laws.{type-before, type-width}
 use Rattle.node.specs.Nodes.{Node, pass, silent, emit-cue, emit-level, both, left-side, right-side, first, second, then, chain, regroup-right, regroup-left, spread, front, count}
 use Rattle.node.specs.Checking.Laws.{Carries}
 use Rattle.node.specs.PatchFiles.{node-bytes}
-use Rattle.patches.specs.PatchReads.{node-arity, width, NodeAt}
+use Rattle.patches.specs.PatchReads.{node-arity, node-width, NodeAt}
 
 -- The kind byte.
 abbrev pub node-kind : Node → ℕ
@@ -76,46 +76,46 @@ node-append front r s = refl
 pub node-before : (n : Node) (r : List ℕ) → node-bytes n r ≡ node-bytes n [] ++ r
 node-before n r = node-append n [] r
 
-node-width : (n : Node) (r : List ℕ) → length (node-bytes n r) ≡ width n + length r
-node-width n r = ap length (node-before n r) ∙ length-append (node-bytes n []) r
+node-bytes-length : (n : Node) (r : List ℕ) → length (node-bytes n r) ≡ node-width n + length r
+node-bytes-length n r = ap length (node-before n r) ∙ length-append (node-bytes n []) r
 
-pub node-drop : (n : Node) (r : List ℕ) → drop (width n) (node-bytes n r) ≡ r
-node-drop n r = ap (drop (width n)) (node-before n r) ∙ drop-at (node-bytes n []) r (width n) refl
+pub node-drop : (n : Node) (r : List ℕ) → drop (node-width n) (node-bytes n r) ≡ r
+node-drop n r = ap (drop (node-width n)) (node-before n r) ∙ drop-at (node-bytes n []) r (node-width n) refl
 
 -- Each node has a byte at least.
-pub count-within : (n : Node) → count n ≤ width n
+pub count-within : (n : Node) → count n ≤ node-width n
 unfolding count node-bytes value-bytes
 count-within pass = omega arith
 count-within (silent n) = omega arith
 count-within emit-cue = omega arith
 count-within (emit-level v) = omega arith
-count-within (both n m) = omega (arith, count-within n, count-within m, node-width n (node-bytes m []))
+count-within (both n m) = omega (arith, count-within n, count-within m, node-bytes-length n (node-bytes m []))
 count-within left-side = omega arith
 count-within right-side = omega arith
 count-within first = omega arith
 count-within second = omega arith
-count-within (then n m) = omega (arith, count-within n, count-within m, node-width n (node-bytes m []))
-count-within (chain n m) = omega (arith, count-within n, count-within m, node-width n (node-bytes m []))
+count-within (then n m) = omega (arith, count-within n, count-within m, node-bytes-length n (node-bytes m []))
+count-within (chain n m) = omega (arith, count-within n, count-within m, node-bytes-length n (node-bytes m []))
 count-within regroup-right = omega arith
 count-within regroup-left = omega arith
 count-within spread = omega arith
 count-within front = omega arith
 
-pub width-positive : (n : Node) → 1 ≤ width n
+pub width-positive : (n : Node) → 1 ≤ node-width n
 width-positive n = omega (arith, ap length (root-first n [] .0))
 
 module _ {bytes : List ℕ} {at : ℕ} {n : Node} (stands : NodeAt bytes at n) where
-  pub ends-inside : at + width n ≤ length bytes
+  pub ends-inside : at + node-width n ≤ length bytes
   ends-inside =
       let n-long = simp length-drop at (ap length (stands .here)) in
-      omega (arith, n-long, node-width n (stands .rest), width-positive n)
+      omega (arith, n-long, node-bytes-length n (stands .rest), width-positive n)
 
   pub starts-inside : at < length bytes
   starts-inside = omega (arith, ends-inside, width-positive n)
 
   -- The bytes of a node, as they stand there.
-  pub bytes-at : take (width n) (drop at bytes) ≡ node-bytes n []
-  bytes-at = ap (take (width n)) (stands .here ∙ node-before n (stands .rest)) ∙ take-at (node-bytes n []) (stands .rest) (width n) refl
+  pub bytes-at : take (node-width n) (drop at bytes) ≡ node-bytes n []
+  bytes-at = ap (take (node-width n)) (stands .here ∙ node-before n (stands .rest)) ∙ take-at (node-bytes n []) (stands .rest) (node-width n) refl
 
   pub kind-at : getD bytes at 0 ≡ node-kind n
   kind-at =
@@ -185,7 +185,7 @@ pub record Silent (bytes : List ℕ) (at : ℕ) (n : Node) : Type 0 where
   pub type : Ty
   pub made : n ≡ silent type
   pub type-at : TypeAt bytes (at + 1) type
-  pub wide : width n ≡ 1 + size type
+  pub wide : node-width n ≡ 1 + size type
 
 pub silent-at : {bytes : List ℕ} {at : ℕ} {n : Node} → getD bytes at 0 ≡ 1 → NodeAt bytes at n → Silent bytes at n
 unfolding node-bytes
@@ -223,8 +223,8 @@ pub record Parts (make : Node → Node → Node) (bytes : List ℕ) (at : ℕ) (
   pub second : Node
   pub made : n ≡ make first second
   pub first-at : NodeAt bytes (at + 1) first
-  pub second-at : NodeAt bytes (at + 1 + width first) second
-  pub wide : width n ≡ 1 + width first + width second
+  pub second-at : NodeAt bytes (at + 1 + node-width first) second
+  pub wide : node-width n ≡ 1 + node-width first + node-width second
 
 pub parts-at : {bytes : List ℕ} {at k : ℕ} {make : Node → Node → Node} {n : Node} → Forks k make → getD bytes at 0 ≡ k
     → NodeAt bytes at n → Parts make bytes at n
@@ -245,8 +245,8 @@ parts-at {bytes} {at} {k} {make} forks e stands = by-byte Standing stands e (for
           second-at =
               record {
                 rest = stands .rest;
-                here = rw (← drop-drop (width n) (at + 1) bytes, root) (node-drop n (node-bytes m (stands .rest)));
+                here = rw (← drop-drop (node-width n) (at + 1) bytes, root) (node-drop n (node-bytes m (stands .rest)));
                 carries = forks .carries n m (stands .carries) .1;
               };
-          wide = omega (arith, ap length (forks .bytes n m []), node-width n (node-bytes m []));
+          wide = omega (arith, ap length (forks .bytes n m []), node-bytes-length n (node-bytes m []));
         }

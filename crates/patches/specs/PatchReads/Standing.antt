@@ -15,7 +15,7 @@ use Rattle.files.specs.TypeReads.Laws.{type-before, type-drop}
 use Rattle.node.specs.Nodes.{Node, count, node-limit}
 use Rattle.node.specs.PatchFiles.{Patch, node-bytes, patch-file-bytes, first-pass}
 use Rattle.node.specs.PatchFiles.Laws.{first-pass-sound}
-use Rattle.patches.specs.declared.Patch.{Patch as Place}
+use Rattle.patches.specs.declared.PatchPlace.{PatchPlace}
 use Rattle.patches.specs.declared.PatchRead.{PatchRead}
 use Rattle.patches.specs.declared.PatchRead.the-variants.{Whole, Refused}
 use Rattle.patches.specs.PatchReads.{in-patch-file, patch-read, NodeAt}
@@ -38,7 +38,7 @@ module _ (s : Ty) (n : Node) where
       ∙ append-nil (node-bytes n [])
 
 -- A patch file that its reader accepts.
-pub record AcceptedPatch (file : List ℕ) (place : Place) : Type 0 where
+pub record AcceptedPatch (file : List ℕ) (place : PatchPlace) : Type 0 where
   pub patch : Patch
   pub is-accepted : first-pass file ≡ accepted patch
   pub type-at : TypeAt file (place .input .start) (patch .input)
@@ -57,7 +57,7 @@ stands file p bytes e =
     }
 
 module _ (file : List ℕ) {answer : PatchRead} (told : answer ≡ patch-read (first-pass file)) where
-  pub patch-accepted : Bytes file → (place : Place) → answer ≡ Whole place → AcceptedPatch file place
+  pub patch-accepted : Bytes file → (place : PatchPlace) → answer ≡ Whole place → AcceptedPatch file place
   unfolding patch-read
   patch-accepted bytes place e = go (first-pass file) refl (sym told ∙ e)
     where

@@ -3,7 +3,7 @@ use borrow.Author.Needs.{needs}
 use mathlib.Core.Path.{refl}
 use native.Mathlib.Omega.{arith}
 use Rattle.stream.specs.SliceFiles.{prefix-bytes}
-use Rattle.files.specs.SliceReads.{width}
+use Rattle.files.specs.SliceReads.{prefix-width}
 use Rattle.writing.specs.Writing.Laws.{byte}
 use Rattle.sending.specs.Sending.Laws.{delivers}
 use Rattle.sending.proofs.feed_cue.Statement.{statement}
@@ -22,7 +22,7 @@ same-length-2 : tie.Need-same-length-2
 same-length-2 c = search needs
 
 returns : tie.Need-returns
-unfolding prefix-bytes width
+unfolding prefix-bytes prefix-width
 returns c =
     let left = c .before .before in
     let begun = left .before .before .before .before in

@@ -5,8 +5,8 @@ use mathlib.Core.List.{[], _∷_}
 use Prim.Native.Nat.{ℕ, _-_}
 use native.Mathlib.Omega.{arith}
 use Rattle.stream.specs.SliceFiles.{prefix-bytes}
-use Rattle.files.specs.SliceReads.{width}
-use Rattle.files.specs.SliceReads.Laws.{prefix-width, prefix-inside, prefix-taken}
+use Rattle.files.specs.SliceReads.{prefix-width}
+use Rattle.files.specs.SliceReads.Laws.{prefix-bytes-length, prefix-inside, prefix-taken}
 use Rattle.node.specs.Nodes.{pass}
 use Rattle.node.specs.Feeding.{sends, leaves}
 use Rattle.node.specs.PatchFiles.{node-bytes}
@@ -46,7 +46,7 @@ abbrev long : tie.After-skip-prefix → ℕ
 long c = c .skip-prefix .result - c .before .before .before .before .args .place
 
 append-requires : tie.Need-append-requires
-unfolding sends width
+unfolding sends prefix-width
 append-requires c κs =
     let second = c .before .before .before .before in
     let first = second .before .before .before .before in
@@ -58,7 +58,7 @@ append-requires c κs =
     (omega (
       arith,
       due .output-room,
-      prefix-width (due .prefix) [],
+      prefix-bytes-length (due .prefix) [],
       first .append-kind .ensures .ends,
       second .append-kind2 .ensures .ends,
     ))

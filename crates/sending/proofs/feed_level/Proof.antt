@@ -4,7 +4,7 @@ use borrow.Author.Needs.{needs}
 use mathlib.Core.Path.{refl}
 use native.Mathlib.Omega.{arith}
 use lib.ListN.{length-set}
-use Rattle.files.specs.SliceReads.{width}
+use Rattle.files.specs.SliceReads.{prefix-width}
 use Rattle.writing.specs.Writing.Laws.{length-kept}
 use Rattle.sending.specs.Sending.Laws.{delivers}
 use Rattle.sending.proofs.LevelSent.{value-inside, level-room, value-room, level-sent}
@@ -53,7 +53,7 @@ same-length-2 : tie.Need-same-length-2
 same-length-2 c = search needs
 
 returns : tie.Need-returns
-unfolding width
+unfolding prefix-width
 returns c =
     let left = c .before .before in
     let copied = left .before .before .before .before in

@@ -7,13 +7,13 @@ use lib.ListN.{length}
 use Rattle.stream.specs.Buffers.{at-front}
 use Rattle.stream.specs.Prefixes.{Prefix}
 use Rattle.stream.specs.SliceFiles.{prefix-bytes}
-use Rattle.files.specs.SliceReads.{width as prefix-width, PrefixAt}
-use Rattle.files.specs.SliceReads.Laws.{prefix-width as prefix-length, width-positive, prefix-inside}
+use Rattle.files.specs.SliceReads.{prefix-width, PrefixAt}
+use Rattle.files.specs.SliceReads.Laws.{prefix-bytes-length, width-positive, prefix-inside}
 use Rattle.node.specs.Nodes.{Node}
 use Rattle.node.specs.Feeding.{sends, leaves}
 use Rattle.node.specs.PatchFiles.{node-bytes}
 use Rattle.writing.specs.Writing.{PrefixDue, PrefixWritten}
-use Rattle.writing.specs.Appending.Laws.{Written}
+use Rattle.writing.specs.Appending.Laws.{WrittenSoFar}
 use Rattle.sending.specs.declared.Sent.{Sent}
 use Rattle.sending.specs.Sending.{Leaves, LeavesKind, Delivers, LeafDue}
 
@@ -25,11 +25,11 @@ delivers wide written left =
 
 -- The same where the prefix was written piece by piece, and there is room for it.
 pub delivers-written : {o : Prefix} {n : Node} {many : ℕ} {pieces out remainder out-after remainder-after : List ℕ} {fed : Sent}
-    → Written pieces out out-after many → pieces ≡ prefix-bytes o [] → prefix-width o ≤ length out
+    → WrittenSoFar pieces out out-after many → pieces ≡ prefix-bytes o [] → prefix-width o ≤ length out
     → Leaves n many remainder remainder-after fed → Delivers o n out remainder out-after remainder-after fed
 delivers-written {o} {out = out} so-far all room left =
-    delivers (omega (arith, so-far .long, ap length all, prefix-length o []))
-    (so-far .holds .in-front (omega (arith, ap length all, prefix-length o [])) ∙ ap (λ l. at-front l out) all) left
+    delivers (omega (arith, so-far .long, ap length all, prefix-bytes-length o []))
+    (so-far .holds .in-front (omega (arith, ap length all, prefix-bytes-length o [])) ∙ ap (λ l. at-front l out) all) left
 
 module _ {n : Node} {slice : List ℕ} {place : ℕ} {out remainder : List ℕ} (due : LeafDue n slice place out remainder) where
   -- The prefix's first byte can be read.

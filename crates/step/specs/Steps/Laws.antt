@@ -21,7 +21,7 @@ use Rattle.node.specs.Checking.Laws.{types-carries}
 use Rattle.node.specs.Feeding.{leaves}
 use Rattle.node.specs.Feeding.Laws.{preserved, leaves-count, leaves-fits}
 use Rattle.node.specs.PatchFiles.Laws.{node-length}
-use Rattle.patches.specs.PatchReads.{width}
+use Rattle.patches.specs.PatchReads.{node-width}
 use Rattle.step.specs.Steps.{Leads, Feedable}
 
 pub front-leads : (bytes lent : List ℕ) {now : List ℕ} → now ≡ at-front bytes lent → length bytes ≤ length lent → Leads bytes lent now
@@ -71,7 +71,7 @@ pub prefix-stands : {p : Prefix} {lent now : List ℕ} → Leads (prefix-bytes p
 prefix-stands {p} leads = record { rest = leads .rest; here = leads .begins ∙ sym (prefix-before p (leads .rest)) }
 
 -- How many bytes the node left takes.
-pub left-width : {s : Ty} {n : Node} {p : Prefix} → Feedable s n p → 2 * width (leaves s n p) ≤ 257 * count n + 255
+pub left-width : {s : Ty} {n : Node} {p : Prefix} → Feedable s n p → 2 * node-width (leaves s n p) ≤ 257 * count n + 255
 left-width {s} {n} {p} f =
     let carries = types-carries (preserved (f .types) (f .is-prefix) .types) (leaves-fits (f .types) (f .is-prefix) (f .fits)) in
     omega (arith, node-length (leaves s n p) [] carries, leaves-count (f .types) (f .is-prefix))

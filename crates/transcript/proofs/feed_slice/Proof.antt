@@ -14,7 +14,7 @@ use Rattle.meaning.specs.declared.Fed.{Fed}
 use Rattle.meaning.specs.Answers.{feed, number-of, fed}
 use Rattle.transcript.specs.Playing.{Inside}
 use Rattle.transcript.proofs.Answered.{number-short, FedBy, fed-by}
-use Rattle.transcript.proofs.TakingSlice.{Sent, is-sent, body-stands, count-stands, slice-refused, slice-fed}
+use Rattle.transcript.proofs.TakingSlice.{FedInto, is-sent, body-stands, count-stands, slice-refused, slice-fed}
 use Rattle.transcript.proofs.feed_slice.Statement.{statement}
 use Rattle.transcript.proofs.feed_slice.Tie as tie
 
@@ -51,11 +51,11 @@ slice-bytes c = λ i. omega (arith, c .before .before .before .before .before .b
 abbrev output-of : tie.After-feed → List ℕ
 output-of c = c .feed .last .1 .1 .0
 
-abbrev left-of : tie.After-feed → List ℕ
-left-of c = c .feed .last .1 .1 .1 .0
+abbrev patch-left-of : tie.After-feed → List ℕ
+patch-left-of c = c .feed .last .1 .1 .1 .0
 
 outcome : (c : tie.After-feed)
-    → FedBy (feed (patch-of c) (slice-of c)) (start c .args .output .now) (start c .args .left .now) (c .feed .result) (output-of c) (left-of c)
+    → FedBy (feed (patch-of c) (slice-of c)) (start c .args .output .now) (start c .args .patch-left .now) (c .feed .result) (output-of c) (patch-left-of c)
 outcome c = fed-by _ _ _ _ (patch-bytes c) (slice-bytes c) (start c .pre .1) (start c .pre .2) (c .feed .ensures)
 
 number-is : (c : tie.After-feed) → c .feed .result .number ≡ number-of (feed (patch-of c) (slice-of c))
@@ -106,23 +106,23 @@ call c = c .before .before .before .before .before .before .before .before .befo
 
 sent : (c : tie.After-count-of)
     → (let f = call c in
-    Sent (patch-of f) (slice-of f) (start f .args .output .now) (start f .args .left .now) (f .feed .result) (output-of f) (left-of f))
+    FedInto (patch-of f) (slice-of f) (start f .args .output .now) (start f .args .patch-left .now) (f .feed .result) (output-of f) (patch-left-of f))
 sent c = let f = call c in is-sent _ _ _ _ (patch-bytes f) (slice-bytes f) (start f .pre .1) (start f .pre .2) (outcome f) (omega arith)
 
 type-counted : (c : tie.After-count-of) → c .count-of .result ≡ length (sent c .sections .type)
-type-counted c = c .count-of .ensures .0 ∙ count-stands _ _ _ (left-of (call c)) (sent c .left-stands)
+type-counted c = c .count-of .ensures .0 ∙ count-stands _ _ _ (patch-left-of (call c)) (sent c .patch-stands)
 
 -- The fields of the line, and the patch left.
 output-field : (c : tie.After-count-of) → take (call c .feed .result .output - 2) (drop 2 (output-of (call c))) ≡ sent c .sections .output
 output-field c = body-stands _ [] _ _ (sent c .output-stands) {n = call c .feed .result .output - 2} (omega (arith, sent c .sent))
 
-type-field : (c : tie.After-count-of) → take (2 + c .count-of .result - 2) (drop 2 (left-of (call c))) ≡ sent c .sections .type
-type-field c = body-stands _ _ _ _ (sent c .left-stands) {n = 2 + c .count-of .result - 2} (omega (arith, type-counted c))
+type-field : (c : tie.After-count-of) → take (2 + c .count-of .result - 2) (drop 2 (patch-left-of (call c))) ≡ sent c .sections .type
+type-field c = body-stands _ _ _ _ (sent c .patch-stands) {n = 2 + c .count-of .result - 2} (omega (arith, type-counted c))
 
-patch-field : (c : tie.After-count-of) → take (call c .feed .result .patch) (left-of (call c)) ≡ sent c .written .patch
+patch-field : (c : tie.After-count-of) → take (call c .feed .result .patch) (patch-left-of (call c)) ≡ sent c .written .patch
 patch-field c =
     let s = sent c in
-    ap (take (call c .feed .result .patch)) (s .left-stands ∙ ap (λ l. at-front l (start (call c) .args .left .now)) (sym (s .sections .patch-is)))
+    ap (take (call c .feed .result .patch)) (s .patch-stands ∙ ap (λ l. at-front l (start (call c) .args .patch-left .now)) (sym (s .sections .patch-is)))
     ∙ take-at (s .written .patch) _ (call c .feed .result .patch) (sym (s .kept))
 
 sub-put-fed : tie.Need-sub-put-fed
@@ -141,7 +141,7 @@ part-put-fed-start-2 : tie.Need-part-put-fed-start-2
 part-put-fed-start-2 c = search needs
 
 part-put-fed-end-2 : tie.Need-part-put-fed-end-2
-part-put-fed-end-2 c = let n = c .before .before .before in omega (arith, type-counted n, sent n .sections .type-short, sent n .left-long, start (call n) .pre .2)
+part-put-fed-end-2 c = let n = c .before .before .before in omega (arith, type-counted n, sent n .sections .type-short, sent n .patch-long, start (call n) .pre .2)
 
 put-fed-requires : tie.Need-put-fed-requires
 put-fed-requires c κs =
@@ -151,8 +151,8 @@ put-fed-requires c κs =
       start (call n) .pre .0 .line-room,
     )
 
-kept-inside : (c : tie.After-count-of) → call c .feed .result .patch ≤ length (left-of (call c))
-kept-inside c = let s = sent c in omega (arith, s .kept, s .sections .patch-short, s .left-long, start (call c) .pre .2)
+kept-inside : (c : tie.After-count-of) → call c .feed .result .patch ≤ length (patch-left-of (call c))
+kept-inside c = let s = sent c in omega (arith, s .kept, s .sections .patch-short, s .patch-long, start (call c) .pre .2)
 
 slice-reshare-prefix-copy : tie.Need-slice-reshare-prefix-copy
 slice-reshare-prefix-copy c = kept-inside (c .before .before .before .before .before .before .before .before)

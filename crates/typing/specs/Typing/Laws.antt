@@ -14,7 +14,7 @@ use Rattle.stream.specs.Reading.{Result, accepted, refused, require}
 use Rattle.stream.specs.TypeFiles.{type-bytes}
 use Rattle.files.specs.TypeReads.{TypeAt, TypeEnds}
 use Rattle.files.specs.TypeReads.Laws.{type-width, bytes-at, kind-at}
-use Rattle.writing.specs.Appending.Laws.{Written}
+use Rattle.writing.specs.Appending.Laws.{WrittenSoFar}
 use Rattle.node.specs.Nodes.{Node, Small}
 use Rattle.node.specs.Nodes.Laws.{output-small}
 use Rattle.node.specs.Checking.{gives, typing}
@@ -87,7 +87,7 @@ pub answers-refused : {end : ℕ} {fault : Fault} {lent now : List ℕ} → leng
 unfolding typed
 answers-refused kept = record { answers = refl; long = kept; writes = λ t e. let z : _≡_ {A = ℕ} 0 1 = cc in absurd (omega arith) }
 
-pub answers-written : {end n : ℕ} {pieces lent now : List ℕ} (t : Ty) → Written pieces lent now n → pieces ≡ type-bytes t []
+pub answers-written : {end n : ℕ} {pieces lent now : List ℕ} (t : Ty) → WrittenSoFar pieces lent now n → pieces ≡ type-bytes t []
     → Answers end (gives t) lent now (limited end n)
 answers-written {end} {n} t so-far all =
     record {
@@ -99,7 +99,7 @@ answers-written {end} {n} t so-far all =
     sized : n ≡ size t
     sized = sym (so-far .long) ∙ ap length all ∙ type-width t
 
-pub answers-small : {end n : ℕ} {pieces lent now : List ℕ} (t : Ty) → Small t → Written pieces lent now n → pieces ≡ type-bytes t []
+pub answers-small : {end n : ℕ} {pieces lent now : List ℕ} (t : Ty) → Small t → WrittenSoFar pieces lent now n → pieces ≡ type-bytes t []
     → Answers end (gives t) lent now (Gives end n)
 answers-small {end} {n} t small so-far all =
     rw (← limited-small end {n = n} (omega (arith, small, so-far .long, ap length all, type-width t))) (answers-written t so-far all)

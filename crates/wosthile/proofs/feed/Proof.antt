@@ -6,7 +6,7 @@ use Prim.Native.Nat.{_+_}
 use native.Mathlib.Omega.{arith}
 use Rattle.writing.specs.Writing.Standing.{slice-accepted, slice-refused}
 use Rattle.node.specs.Checking.{typing}
-use Rattle.patches.specs.PatchReads.{width}
+use Rattle.patches.specs.PatchReads.{node-width}
 use Rattle.patches.specs.PatchReads.Standing.{AcceptedPatch, patch-accepted, patch-refused}
 use Rattle.typing.specs.Typing.{TypingDue}
 use Rattle.typing.specs.Typing.Laws.{IsGiven, is-given, is-refused}
@@ -76,7 +76,7 @@ read-of c = c .before .before .before .before .before
 
 type-of : (c : tie.After-enum-told)
     → (let p = patch-of (read-of c) .patch in
-    IsGiven ((read-of c) .before .place .given .0 .0 .nodes + width (p .node)) (c .enum-told .given .0 .0) (c .enum-told .given .0 .1 .0) (typing (p .input) (p .node)))
+    IsGiven ((read-of c) .before .place .given .0 .0 .nodes + node-width (p .node)) (c .enum-told .given .0 .0) (c .enum-told .given .0 .1 .0) (typing (p .input) (p .node)))
 type-of c =
     let p = patch-of (read-of c) .patch in
     is-given _ (typing (p .input) (p .node)) (sym (c .enum-told .given .1) ∙ c .before .before .before .type-node .ensures .each (due (read-of c)) .answers)

@@ -58,8 +58,8 @@ slice-of c =
 abbrev left-file : tie.After-known-told4 → List ℕ
 left-file c = type-file-bytes (derivative (type-of (type-read c) .type) (slice-of c .prefix))
 
-left-length : (c : tie.After-known-told4) → length (left-file c) ≡ 2 + c .before .prefix .given .0 .0 .left
-left-length c = type-file-size _ ∙ ap (λ n. 2 + n) (sym (slice-of c .left))
+left-length : (c : tie.After-known-told4) → length (left-file c) ≡ 2 + c .before .prefix .given .0 .0 .remains
+left-length c = type-file-size _ ∙ ap (λ n. 2 + n) (sym (slice-of c .remains))
 
 left-is : (c : tie.After-known-told4)
     → (let read = type-read c .before .before .before in left (type-file-of read) (slice-file-of read)) ≡ accepted (left-file c)

@@ -4,7 +4,7 @@ use borrow.Author.Needs.{needs}
 use mathlib.Core.Path.{sym}
 use native.Mathlib.Omega.{arith}
 use lib.Seq.{length-take-le}
-use Rattle.wosthile.proofs.FeedOutcome.{output-short, left-short, files-keep, files, feed-is, feed-due, small-left, Stepped, stepped, section-due, output-written, patch-left-due}
+use Rattle.wosthile.proofs.FeedOutcome.{output-short, patch-short, files-keep, files, feed-is, feed-due, small-left, Stepped, stepped, section-due, output-written, patch-left-due}
 use Rattle.wosthile.proofs.send.Statement.{statement}
 use Rattle.wosthile.proofs.send.Tie as tie
 
@@ -66,7 +66,7 @@ returns-2 c =
     let step = c .before .before .before .before .before .before .before .before .before in
     let due = entry step .pre .reads in
     rw (c .refuse-feed2 .ensures)
-    (left-short _ _ (files due) (feed-is due) (omega (arith, done step .output-long)) (omega (arith, done step .patch-long)))
+    (patch-short _ _ (files due) (feed-is due) (omega (arith, done step .output-long)) (omega (arith, done step .patch-long)))
 
 array-share-prefix-sent : tie.Need-array-share-prefix-sent
 array-share-prefix-sent c = done (c .before .before .before .before .before .before .before .before) .sent-inside
@@ -88,7 +88,7 @@ slice-aggregate-write-patch-left c = sym (length-take-le _ _ (done (c .before .b
 write-patch-left-requires : tie.Need-write-patch-left-requires
 write-patch-left-requires c κs =
     let step = c .before .before .before .before .before .before .before .before .before .before .before .before .before .before .before in
-    patch-left-due (entry step .pre .reads) (done step) (entry step .args .left .now) (omega arith)
+    patch-left-due (entry step .pre .reads) (done step) (entry step .args .patch-left .now) (omega arith)
 
 same-length-3 : tie.Need-same-length-3
 same-length-3 c = search needs
@@ -107,7 +107,7 @@ returns-3 c =
     files-keep _ _ (files due) (feed-is due) (omega (arith, done step .output-long)) (omega (arith, done step .patch-long))
     (sym (done step .output-long)) (sym (done step .patch-long))
     (output-written due (done step) _ (section .write-section .ensures))
-    (c .before .before .write-patch-left .ensures .each (patch-left-due due (done step) (entry step .args .left .now) (omega arith)))
+    (c .before .before .write-patch-left .ensures .each (patch-left-due due (done step) (entry step .args .patch-left .now) (omega arith)))
 
 pub send-spec : {M : Type 1} → statement M
 send-spec =

@@ -3,7 +3,7 @@ use borrow.Author.Needs.{needs}
 use native.Mathlib.Omega.{arith}
 use Prim.Native.Nat.{ℕ, _-_}
 use mathlib.Core.List.{[]}
-use Rattle.files.specs.SliceReads.Laws.{prefix-width, prefix-inside, prefix-taken}
+use Rattle.files.specs.SliceReads.Laws.{prefix-bytes-length, prefix-inside, prefix-taken}
 use Rattle.writing.proofs.copy_prefix.Statement.{statement}
 use Rattle.writing.proofs.copy_prefix.Tie as tie
 
@@ -32,7 +32,7 @@ copy-requires c κs =
     let skipped = c .before .before in
     let due = skipped .before .before .before .pre in
     let end = skipped .skip-prefix .ensures .each (due .prefix) (due .stands) in
-    rw (prefix-taken (long skipped) (due .stands) (omega arith)) (omega (arith, prefix-width (due .prefix) []))
+    rw (prefix-taken (long skipped) (due .stands) (omega arith)) (omega (arith, prefix-bytes-length (due .prefix) []))
 
 sub-result : tie.Need-sub-result
 sub-result c =

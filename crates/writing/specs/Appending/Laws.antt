@@ -43,15 +43,15 @@ holds-part {bytes} {more} {lent} {now} {y} {start} holds within rest =
         (rest .in-front (omega (arith, part-length start now, holds .long)))
 
 -- What has been written so far: all of `bytes`, which are `written` many.
-pub record Written (bytes lent now : List ℕ) (written : ℕ) : Type 0 where
+pub record WrittenSoFar (bytes lent now : List ℕ) (written : ℕ) : Type 0 where
   pub long : length bytes ≡ written
   pub holds : Holds bytes lent now
 
-pub nothing-written : (lent : List ℕ) → Written [] lent lent 0
+pub nothing-written : (lent : List ℕ) → WrittenSoFar [] lent lent 0
 nothing-written lent = record { long = refl; holds = holds-nothing lent }
 
-pub written-on : {bytes source lent now after : List ℕ} {written end : ℕ} → Written bytes lent now written → Appends source written now after end
-    → Written (bytes ++ source) lent after end
+pub written-on : {bytes source lent now after : List ℕ} {written end : ℕ} → WrittenSoFar bytes lent now written → Appends source written now after end
+    → WrittenSoFar (bytes ++ source) lent after end
 written-on {bytes} {source} {lent} so-far more =
     record {
       long = omega (arith, length-append bytes source, so-far .long, more .ends);
@@ -59,8 +59,8 @@ written-on {bytes} {source} {lent} so-far more =
     }
 
 -- The same where the part behind is lent on, and comes back with `more`.
-pub written-part : {bytes more lent now y : List ℕ} {written start n : ℕ} → Written bytes lent now written → Within written (length now) start
-    → Holds more (part start now) y → n ≡ length more → Written (bytes ++ more) lent (back start now y) (written + n)
+pub written-part : {bytes more lent now y : List ℕ} {written start n : ℕ} → WrittenSoFar bytes lent now written → Within written (length now) start
+    → Holds more (part start now) y → n ≡ length more → WrittenSoFar (bytes ++ more) lent (back start now y) (written + n)
 written-part {bytes} {more} so-far within rest long =
     record {
       long = omega (arith, length-append bytes more, so-far .long);

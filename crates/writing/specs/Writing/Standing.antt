@@ -6,10 +6,10 @@ use Prim.Native.Nat.{ℕ, _+_, _-_, _≤_}
 use native.Mathlib.Omega.{arith}
 use lib.ListN.{length, drop}
 use Rattle.stream.specs.declared.Fault.{Fault}
-use Rattle.files.specs.declared.types.Ty.{Ty as Place}
+use Rattle.files.specs.declared.types.TypePlace.{TypePlace}
 use Rattle.files.specs.declared.types.TypeRead.{TypeRead}
 use Rattle.files.specs.declared.types.TypeRead.the-variants.{Whole as WholeType, Refused as RefusedType}
-use Rattle.files.specs.declared.prefixes.Prefix.{Prefix as Known}
+use Rattle.files.specs.declared.prefixes.Known.{Known}
 use Rattle.files.specs.declared.prefixes.SliceRead.{SliceRead}
 use Rattle.files.specs.declared.prefixes.SliceRead.the-variants.{Whole, Refused}
 use Rattle.stream.specs.Types.{Ty, size, type-limit}
@@ -22,8 +22,8 @@ use Rattle.stream.specs.SliceFiles.{prefix-bytes, slice-file-bytes, slice-file}
 use Rattle.stream.specs.SliceFiles.Laws.{prefix-length, slice-file-sound}
 use Rattle.files.specs.TypeReads.{type-read, TypeAt}
 use Rattle.files.specs.TypeReads.Laws.{type-before}
-use Rattle.files.specs.SliceReads.{width, overlap as overlap-of, known, slice-read, ReadsSlice, PrefixAt}
-use Rattle.files.specs.SliceReads.Laws.{prefix-width, overlap-within, concat-width}
+use Rattle.files.specs.SliceReads.{prefix-width, overlap as overlap-of, known, slice-read, ReadsSlice, PrefixAt}
+use Rattle.files.specs.SliceReads.Laws.{prefix-bytes-length, overlap-within, concat-width}
 use Rattle.stream.specs.Buffers.{at-front}
 use Rattle.writing.specs.Writing.{Stands, DerivativeDue, LeftFileDue, JoinedFileDue}
 
@@ -46,7 +46,7 @@ pub record AcceptedType (file : List ℕ) (start : ℕ) : Type 0 where
   pub stands : TypeAt file start type
 
 module _ (file : List ℕ) {answer : TypeRead} (told : answer ≡ type-read (type-file file)) where
-  pub type-accepted : Bytes file → (place : Place) → answer ≡ WholeType place → AcceptedType file (place .start)
+  pub type-accepted : Bytes file → (place : TypePlace) → answer ≡ WholeType place → AcceptedType file (place .start)
   unfolding type-read
   type-accepted bytes place e = go (type-file file) refl (sym told ∙ e)
     where
@@ -70,9 +70,9 @@ pub type-file-size : (t : Ty) → length (type-file-bytes t) ≡ 2 + size t
 unfolding type-file-bytes section-bytes
 type-file-size t = rw (append-nil (type-bytes t [])) (omega (arith, type-length t []))
 
-pub slice-file-size : (p : Prefix) → length (slice-file-bytes p) ≡ 2 + width p
+pub slice-file-size : (p : Prefix) → length (slice-file-bytes p) ≡ 2 + prefix-width p
 unfolding slice-file-bytes section-bytes
-slice-file-size p = rw (append-nil (prefix-bytes p [])) (omega (arith, prefix-width p []))
+slice-file-size p = rw (append-nil (prefix-bytes p [])) (omega (arith, prefix-bytes-length p []))
 
 -- A slice file that its reader accepts.
 pub record AcceptedSlice (t : Ty) (file : List ℕ) (about : Known) : Type 0 where
@@ -80,10 +80,10 @@ pub record AcceptedSlice (t : Ty) (file : List ℕ) (about : Known) : Type 0 whe
   pub is-accepted : slice-file t file ≡ accepted prefix
   pub is-prefix : IsPrefix t prefix
   pub completeness : about .complete ≡ complete prefix
-  pub left : about .left ≡ size (derivative t prefix)
+  pub remains : about .remains ≡ size (derivative t prefix)
   pub overlap : about .overlap ≡ overlap-of prefix
   pub stands : PrefixAt file 2 prefix
-  pub fills : length file ≡ 2 + width prefix
+  pub fills : length file ≡ 2 + prefix-width prefix
 
 slice-stands : (t : Ty) (file : List ℕ) (about : Known) (p : Prefix) → Bytes file → slice-file t file ≡ accepted p → about ≡ known t p
     → AcceptedSlice t file about
@@ -95,7 +95,7 @@ slice-stands t file about p bytes e k =
       is-accepted = e;
       is-prefix = f .1;
       completeness = ap (λ a. a .complete) k;
-      left = ap (λ a. a .left) k;
+      remains = ap (λ a. a .remains) k;
       overlap = ap (λ a. a .overlap) k;
       stands = record { rest = []; here = rw (← f .0) (behind-count (prefix-bytes p [])) };
       fills = ap length (sym (f .0)) ∙ slice-file-size p;
@@ -126,7 +126,7 @@ written-stands t lent e small = record { rest = drop (length (type-bytes t [])) 
 -- An accepted slice file has at most 513 bytes.
 pub slice-short : {t : Ty} {file : List ℕ} {about : Known} → size t ≤ type-limit → AcceptedSlice t file about → length file ≤ 513
 unfolding type-limit
-slice-short small p = omega (arith, p .fills, prefix-length [] (p .is-prefix), prefix-width (p .prefix) [])
+slice-short small p = omega (arith, p .fills, prefix-length [] (p .is-prefix), prefix-bytes-length (p .prefix) [])
 
 -- What it overlaps with is behind the count.
 pub overlap-less : {t : Ty} {file : List ℕ} {about : Known} → AcceptedSlice t file about → about .overlap ≤ length file - 2
@@ -134,32 +134,32 @@ overlap-less p = omega (arith, p .fills, p .overlap, overlap-within (p .prefix))
 
 -- What the writers ask for, once the readers have accepted.
 module _ {types file : List ℕ} {start : ℕ} {about : Known} (t : AcceptedType types start) (p : AcceptedSlice (t .type) file about) where
-  pub left-small : about .left ≤ 255
+  pub left-small : about .remains ≤ 255
   unfolding type-limit
-  left-small = omega (arith, p .left, derivative-size (p .is-prefix), t .stands .small)
+  left-small = omega (arith, p .remains, derivative-size (p .is-prefix), t .stands .small)
 
   abbrev both-stand : Stands types start file 2 (t .type) (p .prefix)
   both-stand = record { type-at = t .stands; prefix-at = p .stands; is-prefix = p .is-prefix }
 
   abbrev pub derivative-due : (lent : List ℕ) → 255 ≤ length lent → DerivativeDue types start file 2 lent
   derivative-due lent room =
-      record { type = t .type; prefix = p .prefix; stands = both-stand; room = omega (arith, left-small, p .left) }
+      record { type = t .type; prefix = p .prefix; stands = both-stand; room = omega (arith, left-small, p .remains) }
 
-  abbrev pub left-file-due : (lent : List ℕ) → 2 + about .left ≤ length lent → LeftFileDue types start file (about .left) lent
-  left-file-due lent room = record { type = t .type; prefix = p .prefix; stands = both-stand; measured = p .left; room = room }
+  abbrev pub left-file-due : (lent : List ℕ) → 2 + about .remains ≤ length lent → LeftFileDue types start file (about .remains) lent
+  left-file-due lent room = record { type = t .type; prefix = p .prefix; stands = both-stand; measured = p .remains; room = room }
 
 module _ {t : Ty} {first second : List ℕ} {one other : Known}
     (p : AcceptedSlice t first one) (q : AcceptedSlice (derivative t (p .prefix)) second other) where
   -- A join has as many bytes as the two without their overlap.
-  pub joined-width : length first - 2 + (length second - 2) - one .overlap ≡ width (concat (p .prefix) (q .prefix))
+  pub joined-width : length first - 2 + (length second - 2) - one .overlap ≡ prefix-width (concat (p .prefix) (q .prefix))
   joined-width = omega (arith, p .fills, q .fills, p .overlap, concat-width (q .prefix) (p .is-prefix) (q .is-prefix))
 
-  pub joined-countable : size t ≤ type-limit → width (concat (p .prefix) (q .prefix)) ≤ 65535
+  pub joined-countable : size t ≤ type-limit → prefix-width (concat (p .prefix) (q .prefix)) ≤ 65535
   unfolding type-limit
   joined-countable small =
-      omega (arith, prefix-length [] (concat-is-prefix (q .prefix) (p .is-prefix) (q .is-prefix)), prefix-width (concat (p .prefix) (q .prefix)) [])
+      omega (arith, prefix-length [] (concat-is-prefix (q .prefix) (p .is-prefix) (q .is-prefix)), prefix-bytes-length (concat (p .prefix) (q .prefix)) [])
 
-  abbrev pub joined-file-due : size t ≤ type-limit → (joined : ℕ) (lent : List ℕ) → joined ≡ width (concat (p .prefix) (q .prefix))
+  abbrev pub joined-file-due : size t ≤ type-limit → (joined : ℕ) (lent : List ℕ) → joined ≡ prefix-width (concat (p .prefix) (q .prefix))
       → 2 + joined ≤ length lent → JoinedFileDue first second joined lent
   joined-file-due small joined lent measured room =
       record {

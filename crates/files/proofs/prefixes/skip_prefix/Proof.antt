@@ -4,14 +4,14 @@ use Prim.Native.Nat.{_+_, _-_}
 use native.Mathlib.Omega.{arith}
 use lib.ListN.{length, getD}
 use Rattle.stream.specs.Prefixes.{Prefix}
-use Rattle.files.specs.SliceReads.{width, PrefixAt}
+use Rattle.files.specs.SliceReads.{prefix-width, PrefixAt}
 use Rattle.files.specs.SliceReads.Laws.{prefix-inside}
 use Rattle.files.proofs.PrefixWalk.{Run, starts, level-wide, other-wide, room, finished, turned}
 use Rattle.files.proofs.prefixes.skip_prefix.Statement.{statement}
 use Rattle.files.proofs.prefixes.skip_prefix.Tie as tie
 
 abbrev Inv-loop : tie.InvT-loop
-Inv-loop slice at owed₀ end₀ owed end = (p : Prefix) → PrefixAt slice at p → Run slice (at + width p) owed end
+Inv-loop slice at owed₀ end₀ owed end = (p : Prefix) → PrefixAt slice at p → Run slice (at + prefix-width p) owed end
 
 abbrev μ-loop : tie.MeasureT-loop
 μ-loop slice at owed₀ end₀ owed end = length slice - end

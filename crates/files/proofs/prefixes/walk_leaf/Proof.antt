@@ -16,7 +16,7 @@ unfolding leaf-walked
 cut end n from k w e h = rw (lt-leb (leaf-width k) (n - from) (omega arith))
 
 come : (end n from k w : ℕ) (u : Bool) → w ≡ leaf-width k → u ≡ is-unfinished k → w ≤ n - from
-    → Past end (from + w) (record { complete = not u; left = 1; overlap = 1 }) ≡ leaf-walked end n from k
+    → Past end (from + w) (record { complete = not u; remains = 1; overlap = 1 }) ≡ leaf-walked end n from k
 unfolding leaf-walked
 come end n from k w u e f h = rw (le-leb (leaf-width k) (n - from) (omega arith), e, f)
 
