@@ -12,7 +12,7 @@ use lib.ListN.{length, getD, drop}
 use lib.Seq.{drop-cons}
 use Rattle.stream.specs.Types.{Ty, empty, cue, level, seq, par, size, type-limit}
 use Rattle.stream.specs.Prefixes.{Prefix, Complete, whole-crossed, whole-beside, IsPrefix, of-empty, of-cue-come, of-level-come, of-crossed, of-beside}
-use Rattle.stream.specs.Levels.Laws.{value-width}
+use Rattle.stream.specs.Levels.{value-width}
 use Rattle.stream.specs.TypeFiles.{type-bytes}
 use Rattle.files.specs.SliceReads.{prefix-width, TypeSpans, CompleteWide}
 

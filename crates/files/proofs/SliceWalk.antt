@@ -17,7 +17,8 @@ use Rattle.files.specs.declared.prefixes.Walk.the-variants.{Past, Failed
 use Rattle.stream.specs.Types.{Ty, size, type-limit, kind, first-part, second-part}
 use Rattle.stream.specs.Types.Laws.{and-left}
 use Rattle.stream.specs.Levels.{read-value}
-use Rattle.stream.specs.Prefixes.{Prefix, nothing, cue-awaited, cue-come, level-awaited, in-first, crossed, beside, complete, derivative}
+use Rattle.stream.specs.Prefixes.{Prefix, nothing, cue-awaited, cue-come, level-awaited, in-first, crossed, beside, derivative}
+use Rattle.stream.specs.Prefixes.Functions.{complete}
 use Rattle.stream.specs.Prefixes.Laws.{derivative-size}
 use Rattle.stream.specs.Reading.{Bytes, Reading, read, fault, read-on}
 use Rattle.stream.specs.Reading.Laws.{bytes-drop}

@@ -12,8 +12,9 @@ use Rattle.files.specs.declared.prefixes.Walk.the-variants.{Past, Failed
 use Rattle.files.specs.declared.prefixes.SliceRead.{SliceRead}
 use Rattle.files.specs.declared.prefixes.SliceRead.the-variants.{Whole, Refused}
 use Rattle.stream.specs.Types.{Ty, size, type-limit}
-use Rattle.stream.specs.Levels.Laws.{value-width}
-use Rattle.stream.specs.Prefixes.{Prefix, nothing, cue-awaited, cue-come, level-awaited, level-come, in-first, crossed, beside, Complete, complete, IsPrefix, derivative}
+use Rattle.stream.specs.Levels.{value-width}
+use Rattle.stream.specs.Prefixes.{Prefix, nothing, cue-awaited, cue-come, level-awaited, level-come, in-first, crossed, beside, Complete, IsPrefix, derivative}
+use Rattle.stream.specs.Prefixes.Functions.{complete}
 use Rattle.stream.specs.Reading.{Reading, read, fault, Result, accepted, refused, tree}
 use Rattle.files.specs.TypeReads.{TypeAt}
 use Rattle.stream.specs.SliceFiles.{Owed, owed, prefix-root, prefix-bytes, slice-file}
@@ -136,3 +137,14 @@ walked t type-end n (fault e) = Failed e
 pub record Walks (types : List ℕ) (at : ℕ) (slice : List ℕ) (from : ℕ) (must-complete : Bool) (answer : Walk) : Type 0 where
   pub each : (t : Ty) → TypeAt types at t
       → answer ≡ walked t (at + size t) (length slice) (read-owed (owed t must-complete) (drop from slice))
+
+-- A slice file that its reader accepts.
+pub record AcceptedSlice (t : Ty) (file : List ℕ) (about : Known) : Type 0 where
+  pub prefix : Prefix
+  pub is-accepted : slice-file t file ≡ accepted prefix
+  pub is-prefix : IsPrefix t prefix
+  pub completeness : about .complete ≡ complete prefix
+  pub remains : about .remains ≡ size (derivative t prefix)
+  pub overlap : about .overlap ≡ overlap prefix
+  pub stands : PrefixAt file 2 prefix
+  pub fills : length file ≡ 2 + prefix-width prefix

@@ -9,7 +9,7 @@ use Rattle.files.specs.declared.types.TypeRead.{TypeRead}
 use Rattle.files.specs.declared.types.TypeRead.the-variants.{Whole, Refused}
 use Rattle.stream.specs.Types.{Ty, nullable, size, type-limit}
 use Rattle.stream.specs.Reading.{Result, accepted, refused}
-use Rattle.stream.specs.TypeFiles.{type-bytes}
+use Rattle.stream.specs.TypeFiles.{type-bytes, type-file}
 pub mod Laws
 
 -- How many parts a type's kind has; of a byte that is no type's kind nobody asks.
@@ -40,3 +40,9 @@ pub record TypeEnds (bytes : List ℕ) (at end : ℕ) : Type 0 where
 
 pub record NullableIs (bytes : List ℕ) (at : ℕ) (answer : Bool) : Type 0 where
   pub each : (t : Ty) → TypeAt bytes at t → answer ≡ nullable t
+
+-- A type file that its reader accepts.
+pub record AcceptedType (file : List ℕ) (start : ℕ) : Type 0 where
+  pub type : Ty
+  pub is-accepted : type-file file ≡ accepted type
+  pub stands : TypeAt file start type

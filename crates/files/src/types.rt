@@ -19,6 +19,9 @@ impl TypePlace {
     // "At most 255 nodes in a type".
     pub const MAX_NODES: usize = 255;
 
+    // No type file is longer: the count, and a byte for each node.
+    pub const MAX_FILE: usize = 257;
+
     // Only the place: that a type stands there is for whoever made it to know.
     pub fn new(start: usize, end: usize) -> TypePlace
         ensures { λ r. ⌜ r ≡ record { start = start; end = end } ⌝ }

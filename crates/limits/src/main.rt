@@ -1,5 +1,6 @@
 // Case 10 of document 01: 63 nodes pass, 65 give 5; a type of 255 passes, 257 gives 4. The tests hold what this prints to the
 // second interpreter's answers.
+use files::types::TypePlace;
 use libc::STDOUT_FILENO;
 use wosthile::check;
 ghost use mathlib.Core.Path.{_≡_};
@@ -34,7 +35,7 @@ fn print_answer(case: &[u8], type_pairs: usize, node_pairs: usize)
     let mut file = [0u8; 326];
     let nodes = put_tree(4, 1, type_pairs, 0, &mut file);
     let end = put_tree(10, 0, node_pairs, nodes, &mut file);
-    let mut given = [0u8; 257];
+    let mut given = [0u8; TypePlace::MAX_FILE];
     let answer = check(&file[..end], &mut given);
     io::write_all(STDOUT_FILENO, case);
     io::print_decimal(STDOUT_FILENO, answer.number as u64);

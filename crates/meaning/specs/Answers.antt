@@ -1,25 +1,38 @@
 -- What each operation answers, from the bytes handed in (document 01, Operations).
-use mathlib.Core.Bool.{Bool, true, false, _&&_, _||_}
-use mathlib.Core.Path.{_≡_}
-use mathlib.Core.List.{List, [], _∷_}
+use mathlib.Core.Bool.{Bool, true, false, _&&_}
+use mathlib.Core.List.{List, [], _∷_, _++_}
 use Prim.Native.Nat.{ℕ, _+_, _*_}
-use lib.Dec.{leb, eqb}
+use lib.Dec.{leb}
 use lib.ListN.{length, take}
-use Rattle.stream.specs.declared.Fault.{Fault}
 use Rattle.stream.specs.declared.Fault.the-variants.{NoRoom}
-use Rattle.stream.specs.Faults.{number}
+use Rattle.stream.specs.Faults.{number, type-numbers, slice-numbers, patch-numbers}
+use Rattle.stream.specs.Types.{Ty}
 use Rattle.stream.specs.Buffers.{at-front}
-use Rattle.stream.specs.Prefixes.{complete, derivative, concat}
+use Rattle.stream.specs.Prefixes.{derivative, Prefix}
+use Rattle.stream.specs.Prefixes.Functions.{complete, concat}
 use Rattle.stream.specs.Reading.{Result, accepted, refused, go-on, require}
 use Rattle.stream.specs.TypeFiles.{type-file, type-file-bytes}
 use Rattle.stream.specs.SliceFiles.{slice-file, slice-file-bytes}
-use Rattle.node.specs.Feeding.{sends, leaves}
+use Rattle.node.specs.Feeding.Functions.{sends, patch-left}
 use Rattle.node.specs.PatchFiles.{patch-file, patch-file-bytes}
 use Rattle.meaning.specs.declared.Written.{Written}
 use Rattle.meaning.specs.declared.Admitted.{Admitted}
 use Rattle.meaning.specs.declared.Fed.{Fed}
+use Rattle.node.specs.Nodes.{Patch}
 pub mod Laws
 pub mod Examples
+
+-- The files of a call are read one after the other, up to the first fault. Admit and Left read "a type file and a slice"; Join a
+-- type and two slices, "as Admit for the first, then 11 to 14 for the second against what is left"; Feed a patch and a slice, "as
+-- Check without 20; 11 to 14 against the input type".
+abbrev pub on-slice : {A : Type 0} → (type slice : List ℕ) → (Ty → Prefix → Result A) → Result A
+on-slice type slice f = go-on (type-file type) (λ t. go-on (slice-file t slice) (λ p. f t p))
+
+abbrev pub on-slices : {A : Type 0} → (type first second : List ℕ) → (Prefix → Prefix → Result A) → Result A
+on-slices type first second f = on-slice type first (λ t p. go-on (slice-file (derivative t p) second) (λ q. f p q))
+
+abbrev pub on-patch : {A : Type 0} → (patch slice : List ℕ) → (Patch → Prefix → Result A) → Result A
+on-patch patch slice f = go-on (patch-file patch) (λ c. go-on (slice-file (c .patch .input) slice) (λ p. f (c .patch) p))
 
 -- "Check a patch; writes its output type file."
 unfoldable pub check : List ℕ → Result (List ℕ)
@@ -27,31 +40,26 @@ check patch = go-on (patch-file patch) (λ c. accepted (type-file-bytes (c .outp
 
 -- "Admit a type file and a slice; answers whether the slice is complete."
 unfoldable pub admit : List ℕ → List ℕ → Result Bool
-admit type slice = go-on (type-file type) (λ t. go-on (slice-file t slice) (λ p. accepted (complete p)))
+admit type slice = on-slice type slice (λ t p. accepted (complete p))
 
 -- "Left of a type and slice; writes a type file."
 unfoldable pub left : List ℕ → List ℕ → Result (List ℕ)
-left type slice = go-on (type-file type) (λ t. go-on (slice-file t slice) (λ p. accepted (type-file-bytes (derivative t p))))
+left type slice = on-slice type slice (λ t p. accepted (type-file-bytes (derivative t p)))
 
--- "Join a type and two slices; writes a slice file. As Admit for the first, then 11 to 14 for the second against what is left."
+-- "Join a type and two slices; writes a slice file."
 unfoldable pub join : List ℕ → List ℕ → List ℕ → Result (List ℕ)
-join type first second =
-    go-on (type-file type) (λ t. go-on (slice-file t first) (λ p. go-on (slice-file (derivative t p) second) (λ q.
-    accepted (slice-file-bytes (concat p q)))))
+join type first second = on-slices type first second (λ p q. accepted (slice-file-bytes (concat p q)))
 
--- "Feed a patch and a slice; writes the output slice file and the patch file left. As Check without 20; 11 to 14 against
--- the input type." "The patch left has as its input type what the slice leaves."
+-- "Feed a patch and a slice; writes the output slice file and the patch file left."
 pub record FedFiles : Type 0 where
   pub output : List ℕ
   pub patch : List ℕ
 
+abbrev pub fed-files : Patch → Prefix → FedFiles
+fed-files a p = record { output = slice-file-bytes (sends (a .input) (a .node) p); patch = patch-file-bytes (patch-left a p) }
+
 unfoldable pub feed : List ℕ → List ℕ → Result FedFiles
-feed patch slice =
-    go-on (patch-file patch) (λ c.
-    let s = c .patch .input in
-    let n = c .patch .node in
-    go-on (slice-file s slice) (λ p.
-    accepted (record { output = slice-file-bytes (sends s n p); patch = patch-file-bytes (derivative s p) (leaves s n p) })))
+feed patch slice = on-patch patch slice (λ a p. accepted (fed-files a p))
 
 -- "Last 20: the buffer is too short for this answer"; for Feed "20 if either buffer is too short".
 unfoldable pub with-room : {A : Type 0} → (A → Bool) → Result A → Result A
@@ -61,14 +69,14 @@ abbrev pub fits-one : ℕ → List ℕ → Bool
 fits-one lent file = leb (length file) lent
 
 abbrev pub fits-both : ℕ → ℕ → FedFiles → Bool
-fits-both output left files = leb (length (files .output)) output && leb (length (files .patch)) left
+fits-both output-lent patch-lent files = leb (length (files .output)) output-lent && leb (length (files .patch)) patch-lent
 
 -- The outcome of a call with 20 taken in, by the buffers that it is lent.
 abbrev pub into-one : (lent : List ℕ) → Result (List ℕ) → Result (List ℕ)
 into-one lent r = with-room (fits-one (length lent)) r
 
-abbrev pub into-both : (output left : List ℕ) → Result FedFiles → Result FedFiles
-into-both output left r = with-room (fits-both (length output) (length left)) r
+abbrev pub into-both : (output-lent patch-lent : List ℕ) → Result FedFiles → Result FedFiles
+into-both output-lent patch-lent r = with-room (fits-both (length output-lent) (length patch-lent)) r
 
 -- "Accepted is 0, with the number of bytes written, for Feed one number for each buffer. Refused: the number alone." The
 -- lengths, and Admit's `complete`, are free on a refusal; they are 0.
@@ -105,20 +113,10 @@ first-section [] = []
 first-section (h ∷ []) = h ∷ []
 first-section (h ∷ l ∷ s) = h ∷ l ∷ take (h * 256 + l) s
 
--- The numbers that document 01 lists for Check ("1" to "7"), for Admit, Left and Join ("1 to 4 as above", 11 to 14), and for
--- Feed ("As Check without 20; 11 to 14"), 20 aside.
-abbrev pub patch-numbers : List ℕ
-patch-numbers = 1 ∷ 2 ∷ 3 ∷ 4 ∷ 5 ∷ 6 ∷ 7 ∷ []
-
+-- The numbers that document 01 lists for Admit, Left and Join ("1 to 4 as above", 11 to 14) and for Feed ("As Check without 20; 11
+-- to 14"), 20 aside; for Check they are a patch's.
 abbrev pub admit-numbers : List ℕ
-admit-numbers = 1 ∷ 2 ∷ 3 ∷ 4 ∷ 11 ∷ 12 ∷ 13 ∷ 14 ∷ []
+admit-numbers = type-numbers ++ slice-numbers
 
 abbrev pub feed-numbers : List ℕ
-feed-numbers = 1 ∷ 2 ∷ 3 ∷ 4 ∷ 5 ∷ 6 ∷ 7 ∷ 11 ∷ 12 ∷ 13 ∷ 14 ∷ []
-
-abbrev pub contains : List ℕ → ℕ → Bool
-contains [] k = false
-contains (n ∷ ns) k = eqb n k || contains ns k
-
-abbrev pub Listed : List ℕ → Fault → Type 0
-Listed numbers e = contains numbers (number e) ≡ true
+feed-numbers = patch-numbers ++ slice-numbers

@@ -1,7 +1,8 @@
 -- One name for the definitions that worked examples compute with: `unfolding node-definitions` opens them all.
 use Rattle.stream.specs.Computing.{stream-definitions}
-use Rattle.node.specs.Nodes.{output-type, node-limit}
-use Rattle.node.specs.Feeding.{sends, leaves}
+use Rattle.node.specs.Nodes.{node-limit}
+use Rattle.node.specs.Nodes.Functions.{output-type}
+use Rattle.node.specs.Feeding.Functions.{sends, leaves}
 use Rattle.node.specs.Checking.{gives, typing}
 use Rattle.node.specs.PatchFiles.{node-bytes, patch-file-bytes, node-root, read-node, node-section, patch-sections, first-pass, second-pass, patch-file}
 

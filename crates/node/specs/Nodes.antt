@@ -1,8 +1,9 @@
 -- Nodes, their typing and their limits (document 01, Nodes and Bounds). A node is one of the source's kernel transformers,
 -- or a structural rule that document 01 keeps as a node.
 use Prim.Native.Nat.{ℕ, suc, _+_, _<_, _≤_}
-use Rattle.stream.specs.Types.{Ty, empty, cue, level, seq, par, Nullable, first-part, second-part, size, type-limit}
+use Rattle.stream.specs.Types.{Ty, empty, cue, level, seq, par, Nullable, size, type-limit}
 use Rattle.stream.specs.Levels.{level-limit}
+pub mod Functions
 pub mod Laws
 
 pub data Node : Type 0 where
@@ -40,24 +41,6 @@ pub data Takes : Ty → Node → Ty → Type 0 where
   takes-spread : {s t r : Ty} → Takes (seq s (par t r)) spread (par (seq s t) (seq s r))
   takes-front : {s : Ty} → Takes s front (seq empty s)
 
--- The output type that the rules give.
-unfoldable pub output-type : Ty → Node → Ty
-output-type s pass = s
-output-type s (silent n) = n
-output-type s emit-cue = cue
-output-type s (emit-level v) = level
-output-type s (both n m) = par (output-type s n) (output-type s m)
-output-type s left-side = first-part s
-output-type s right-side = second-part s
-output-type s first = first-part s
-output-type s second = second-part s
-output-type s (then n m) = seq (output-type (first-part s) n) (output-type (second-part s) m)
-output-type s (chain n m) = output-type (output-type s n) m
-output-type s regroup-right = seq (first-part (first-part s)) (seq (second-part (first-part s)) (second-part s))
-output-type s regroup-left = seq (seq (first-part s) (first-part (second-part s))) (second-part (second-part s))
-output-type s spread = par (seq (first-part s) (first-part (second-part s))) (seq (first-part s) (second-part (second-part s)))
-output-type s front = seq empty s
-
 -- The number of nodes; a type that silent carries does not count.
 unfoldable pub count : Node → ℕ
 count pass = 1
@@ -80,30 +63,31 @@ count front = 1
 unfoldable pub node-limit : ℕ
 node-limit = 63
 
--- "At most 255 nodes in a type .. wherever it arises: read, carried by silent, or given by a node."
+-- "At most 255 nodes in a type, counted as a tree, wherever it arises: read, carried by silent, or given by a node." Arises s n t
+-- says that t is given by n on s, or by a node in it; what silent carries it gives.
 abbrev pub Small : Ty → Type 0
 Small t = size t ≤ type-limit
 
-abbrev pub Fits : Ty → Node → Type 0
-Fits s pass = Small s
-Fits s (silent n) = Small n
-Fits s emit-cue = Small cue
-Fits s (emit-level v) = Small level
-Fits s (both n m) = Fits s n × Fits s m × Small (output-type s (both n m))
-Fits s left-side = Small (output-type s left-side)
-Fits s right-side = Small (output-type s right-side)
-Fits s first = Small (output-type s first)
-Fits s second = Small (output-type s second)
-Fits s (then n m) = Fits (first-part s) n × Fits (second-part s) m × Small (output-type s (then n m))
-Fits s (chain n m) = Fits s n × Fits (output-type s n) m × Small (output-type s (chain n m))
-Fits s regroup-right = Small (output-type s regroup-right)
-Fits s regroup-left = Small (output-type s regroup-left)
-Fits s spread = Small (output-type s spread)
-Fits s front = Small (output-type s front)
+pub data Arises : Ty → Node → Ty → Type 0 where
+  given : {s t : Ty} {n : Node} → Takes s n t → Arises s n t
+  in-both-first : {s t : Ty} {n m : Node} → Arises s n t → Arises s (both n m) t
+  in-both-second : {s t : Ty} {n m : Node} → Arises s m t → Arises s (both n m) t
+  in-then-first : {s r t : Ty} {n m : Node} → Arises s n t → Arises (seq s r) (then n m) t
+  in-then-second : {s r t : Ty} {n m : Node} → Arises r m t → Arises (seq s r) (then n m) t
+  in-chain-first : {s t : Ty} {n m : Node} → Arises s n t → Arises s (chain n m) t
+  in-chain-second : {s r t : Ty} {n m : Node} → Takes s n r → Arises r m t → Arises s (chain n m) t
 
--- A patch, "the kernel rules .. as document 01 takes them for one input, and its limits": from s to t by n.
+-- "The kernel rules .. as document 01 takes them for one input, and its limits": from s to t by n.
 pub record Allowed (s : Ty) (n : Node) (t : Ty) : Type 0 where
   pub types : Takes s n t
   pub input-small : Small s
   pub few : count n ≤ node-limit
-  pub fits : Fits s n
+  pub each-small : (u : Ty) → Arises s n u → Small u
+
+-- A patch: "the input type and then the nodes".
+pub record Patch : Type 0 where
+  pub input : Ty
+  pub node : Node
+
+abbrev pub patch-of : Ty → Node → Patch
+patch-of s n = record { input = s; node = n }

@@ -8,7 +8,7 @@ use Rattle.stream.specs.Types.{Ty}
 use Rattle.stream.specs.Levels.{value-bytes, read-value}
 use Rattle.stream.specs.Reading.{Reading, read, fault, Result, accepted, read-on, go-on, whole, section-bytes, section, Root, tree, leaf, two-parts}
 use Rattle.stream.specs.TypeFiles.{type-bytes, read-type, type-section}
-use Rattle.node.specs.Nodes.{Node, pass, silent, emit-cue, emit-level, both, left-side, right-side, first, second, then, chain, regroup-right, regroup-left, spread, front, node-limit, Allowed}
+use Rattle.node.specs.Nodes.{Node, pass, silent, emit-cue, emit-level, both, left-side, right-side, first, second, then, chain, regroup-right, regroup-left, spread, front, node-limit, Allowed, Patch}
 use Rattle.node.specs.Checking.{typing}
 pub mod Laws
 pub mod Examples
@@ -32,16 +32,15 @@ node-bytes spread r = 13 ∷ r
 node-bytes front r = 14 ∷ r
 
 -- "A patch file is two [sections], the input type and then the nodes."
-unfoldable pub patch-file-bytes : Ty → Node → List ℕ
-patch-file-bytes s n = section-bytes (type-bytes s []) (section-bytes (node-bytes n []) [])
+unfoldable pub patch-file-bytes : Patch → List ℕ
+patch-file-bytes p = section-bytes (type-bytes (p .input) []) (section-bytes (node-bytes (p .node) []) [])
 
 -- The bytes that are a patch file: those of trees that the rules and the limits allow.
 pub record PatchFile (file : List ℕ) : Type 0 where
-  pub input : Ty
-  pub node : Node
+  pub patch : Patch
   pub output : Ty
-  pub allowed : Allowed input node output
-  pub bytes : patch-file-bytes input node ≡ file
+  pub allowed : Allowed (patch .input) (patch .node) output
+  pub bytes : patch-file-bytes patch ≡ file
 
 -- What each kind byte begins, by its number.
 abbrev pub node-kinds : List (List ℕ → Reading (Root (Unit {0}) Node))
@@ -73,11 +72,7 @@ read-node s = tree TooManyNodes node-root node-limit tt s
 unfoldable pub node-section : List ℕ → Reading Node
 node-section s = section CutShort LeftOver read-node s
 
--- A patch: its input type and its node; and the output type that Check finds for it.
-pub record Patch : Type 0 where
-  pub input : Ty
-  pub node : Node
-
+-- A patch, and the output type that Check finds for it.
 pub record Checked : Type 0 where
   pub patch : Patch
   pub output : Ty

@@ -12,7 +12,8 @@ use Rattle.stream.specs.TypeFiles.{type-section}
 use Rattle.files.specs.Sections.{end-of}
 use Rattle.files.specs.Sections.Laws.{failed, SectionEnds, section-ended, byte-behind, none-behind}
 use Rattle.files.specs.TypeReads.Laws.{TypeSectionEnds, type-section-ended}
-use Rattle.node.specs.PatchFiles.{read-node, node-section, Patch, patch-sections, first-pass}
+use Rattle.node.specs.PatchFiles.{read-node, node-section, patch-sections, first-pass}
+use Rattle.node.specs.Nodes.{Patch}
 
 pub type-failed : (s : List ℕ) (e : Fault) → end-of (length s) (type-section s) ≡ Failed e → first-pass s ≡ refused e
 unfolding first-pass patch-sections

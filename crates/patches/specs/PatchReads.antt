@@ -1,14 +1,14 @@
 -- What the reader of patch files tells its caller: where a patch stands, or the first fault.
 use mathlib.Core.Path.{_≡_}
 use mathlib.Core.List.{List, [], _∷_}
-use Prim.Native.Nat.{ℕ, _+_}
+use Prim.Native.Nat.{ℕ, _+_, _≤_}
 use lib.ListN.{length, getD, drop}
-use Rattle.files.specs.TypeReads.{in-file}
+use Rattle.files.specs.TypeReads.{in-file, TypeAt}
 use Rattle.stream.specs.Types.{size}
 use Rattle.stream.specs.Reading.{Result, accepted, refused}
-use Rattle.node.specs.Nodes.{Node}
-use Rattle.node.specs.Checking.Laws.{Carries}
-use Rattle.node.specs.PatchFiles.{Patch, node-bytes}
+use Rattle.node.specs.Nodes.{Node, Patch, count, node-limit}
+use Rattle.node.specs.Nodes.Functions.{Carries}
+use Rattle.node.specs.PatchFiles.{node-bytes, first-pass}
 use Rattle.patches.specs.declared.PatchPlace.{PatchPlace}
 use Rattle.patches.specs.declared.PatchRead.{PatchRead}
 use Rattle.patches.specs.declared.PatchRead.the-variants.{Whole, Refused}
@@ -36,3 +36,11 @@ pub record NodeAt (bytes : List ℕ) (at : ℕ) (n : Node) : Type 0 where
   pub rest : List ℕ
   pub here : drop at bytes ≡ node-bytes n rest
   pub carries : Carries n
+
+-- A patch file that its reader accepts.
+pub record AcceptedPatch (file : List ℕ) (place : PatchPlace) : Type 0 where
+  pub patch : Patch
+  pub is-accepted : first-pass file ≡ accepted patch
+  pub type-at : TypeAt file (place .input .start) (patch .input)
+  pub node-at : NodeAt file (place .nodes) (patch .node)
+  pub few : count (patch .node) ≤ node-limit

@@ -26,6 +26,9 @@ impl PatchPlace {
     // The nodes of a patch have at most so many bytes: 31 nodes with parts, and 32 silents with the largest type.
     pub const MAX_NODE_BYTES: usize = 8223;
 
+    // No patch file is longer: both counts, and an input type of 255 nodes.
+    pub const MAX_FILE: usize = 8482;
+
     // Only the place: that a patch stands there is for whoever made it to know.
     pub fn new(input: TypePlace, nodes: usize) -> PatchPlace
         ensures { λ r. ⌜ r ≡ record { input = input; nodes = nodes } ⌝ }

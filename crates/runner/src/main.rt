@@ -2,6 +2,7 @@
 // prints a line for each slice. What it prints for what it reads is the library's (`transcript`); here are the reads and writes.
 use libc::STDIN_FILENO;
 use libc::STDOUT_FILENO;
+use patches::PatchPlace;
 use transcript::Line;
 use transcript::Stage;
 use transcript::has_stopped;
@@ -11,6 +12,7 @@ ghost use mathlib.Core.Path.{_≡_};
 ghost use Prim.Native.Nat.{_-_, _≤_};
 ghost use lib.ListN.{length};
 ghost use Rattle.transcript.specs.Playing.{Inside};
+ghost use Rattle.stream.specs.Bounds.{patch-file-limit};
 
 // Where the program stands: its stage, the part of the input that it holds, from one place to another, and whether it goes on.
 struct Progress {
@@ -28,10 +30,10 @@ fn input_buffer() -> [u8; 131072]
     [0; 131072]
 }
 
-fn patch_buffer() -> [u8; 8482]
-    ensures { λ r. ⌜ 8482 ≡ length r ⌝ }
+fn patch_buffer() -> [u8; PatchPlace::MAX_FILE]
+    ensures { λ r. ⌜ patch-file-limit ≡ length r ⌝ }
 {
-    [0; 8482]
+    [0; PatchPlace::MAX_FILE]
 }
 
 // Reads what has come, into room for all that a file can still lack: so it is the end of the input, and no want of room, if
@@ -61,7 +63,7 @@ fn read_more(stage: Stage, from: usize, held: usize, input: &mut [u8]) -> Progre
 
 // Plays what is held and writes its lines. Where there was room for one more line, no whole file is left, and more is read.
 fn turn(progress: Progress, input: &mut [u8], patch: &mut [u8], lines: &mut [u8]) -> Progress
-    requires { ⌜ Inside (progress .stage) (now patch) × (8482 ≤ length (now patch)) × (progress .from ≤ progress .held) × (progress .held ≤ length (now input)) × (131072 ≤ length (now input)) ⌝ }
+    requires { ⌜ Inside (progress .stage) (now patch) × (patch-file-limit ≤ length (now patch)) × (progress .from ≤ progress .held) × (progress .held ≤ length (now input)) × (131072 ≤ length (now input)) ⌝ }
     ensures { λ r. ⌜ Inside (r .stage) (now (patch .exit)) × (r .from ≤ r .held) × (r .held ≤ length (now (input .exit))) ⌝ }
 {
     let before = progress.stage;

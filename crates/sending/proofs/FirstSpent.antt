@@ -10,10 +10,10 @@ use Rattle.stream.specs.Prefixes.Laws.{derivative-size}
 use Rattle.stream.specs.TypeFiles.{type-bytes}
 use Rattle.files.specs.TypeReads.Laws.{type-width}
 use Rattle.node.specs.Nodes.{first}
-use Rattle.node.specs.Feeding.{sends, leaves}
+use Rattle.node.specs.Feeding.Functions.{sends, leaves}
 use Rattle.node.specs.PatchFiles.{node-bytes}
-use Rattle.writing.specs.Writing.{SpentDue, SpentWritten}
-use Rattle.writing.specs.Writing.Laws.{part, back, Begun, begins, goes-on, room-left}
+use Rattle.writing.specs.Writing.{SpentDue, SpentWritten, Begun}
+use Rattle.writing.specs.Writing.Laws.{part, back, begins, goes-on, room-left}
 use Rattle.sending.specs.Sending.{Leaves, LeafDue}
 use Rattle.sending.proofs.PartsSent.{Spent, first-part-at, first-crossed}
 

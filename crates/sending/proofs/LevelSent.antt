@@ -13,7 +13,8 @@ use Rattle.stream.specs.SliceFiles.{prefix-bytes}
 use Rattle.files.specs.SliceReads.{prefix-width}
 use Rattle.node.specs.PatchFiles.{node-bytes}
 use Rattle.patches.specs.PatchReads.Laws.{ends-inside}
-use Rattle.writing.specs.Writing.Laws.{part, back, Begun, begins, goes-on, room-left}
+use Rattle.writing.specs.Writing.Laws.{part, back, begins, goes-on, room-left}
+use Rattle.writing.specs.Writing.{Begun}
 use Rattle.sending.specs.Sending.{LevelDue}
 
 module _ {nodes : List ℕ} {from : ℕ} {out remainder : List ℕ} (due : LevelDue nodes from out remainder) where

@@ -9,7 +9,7 @@ use Rattle.stream.specs.Prefixes.{Prefix, Complete, IsPrefix, of-first, of-cros
 use Rattle.files.specs.SliceReads.{prefix-width, PrefixAt, SomePrefixAt, PrefixEnds}
 use Rattle.files.specs.SliceReads.Laws.{kind-at, in-first-at, crossed-first-at, crossed-second-at, beside-first-at, beside-second-at}
 use Rattle.node.specs.Nodes.{silent, left-side, right-side, first, second, Takes, takes-left, takes-right, takes-first, takes-second}
-use Rattle.node.specs.Feeding.{sends, leaves}
+use Rattle.node.specs.Feeding.Functions.{sends, leaves}
 use Rattle.node.specs.PatchFiles.{node-bytes}
 
 -- First sends a complete part, and stays silent with what that leaves.

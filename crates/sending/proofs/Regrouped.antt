@@ -14,12 +14,13 @@ use Rattle.stream.specs.SliceFiles.Laws.{prefix-length}
 use Rattle.files.specs.SliceReads.{prefix-width, PrefixAt, SomePrefixAt, PrefixEnds}
 use Rattle.files.specs.SliceReads.Laws.{prefix-bytes-length, width-positive, prefix-before, prefix-inside, kind-at, in-first-at, crossed-first-at, crossed-second-at, beside-first-at, beside-second-at}
 use Rattle.node.specs.Nodes.{Node, regroup-right, regroup-left, spread, Takes, takes-regroup-right, takes-regroup-left, takes-spread}
-use Rattle.node.specs.Feeding.{sends, leaves}
+use Rattle.node.specs.Feeding.Functions.{sends, leaves}
 use Rattle.node.specs.PatchFiles.{node-bytes}
 use Rattle.writing.specs.Appending.Laws.{WrittenSoFar}
 use Rattle.sending.specs.declared.Sent.{Sent}
 use Rattle.sending.specs.Sending.{LeavesKind, Delivers, LeafDue}
 use Rattle.sending.specs.Sending.Laws.{delivers-written}
+use Rattle.stream.specs.Bounds.{slice-limit}
 
 -- Some prefix stands there.
 some : {slice : List ℕ} {at : ℕ} {p : Prefix} → PrefixAt slice at p → SomePrefixAt slice at
@@ -39,12 +40,12 @@ between slice from to = take (to - from) (drop from slice)
 pub record Piece (slice : List ℕ) (from to : ℕ) (bytes : List ℕ) : Type 0 where
   pub forward : from ≤ to
   pub inside : to ≤ length slice
-  pub short : length (between slice from to) ≤ 511
+  pub short : length (between slice from to) ≤ slice-limit
   pub taken : between slice from to ≡ bytes
 
 module _ {n : Node} {slice : List ℕ} {place : ℕ} {out remainder : List ℕ} (due : LeafDue n slice place out remainder) where
   -- It is a prefix of a small type.
-  few : prefix-width (due .prefix) ≤ 511
+  few : prefix-width (due .prefix) ≤ slice-limit
   few = omega (arith, prefix-length [] (due .is-prefix), prefix-bytes-length (due .prefix) [], due .small, limit-is)
 
   -- A piece of the bytes of the prefix stands behind those before it.

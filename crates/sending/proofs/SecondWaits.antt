@@ -6,7 +6,7 @@ use lib.ListN.{getD}
 use Rattle.stream.specs.Types.{first-part, second-part}
 use Rattle.files.specs.SliceReads.{PrefixAt, TypeSpans, CompleteWide}
 use Rattle.node.specs.Nodes.{second}
-use Rattle.node.specs.Feeding.{sends, leaves}
+use Rattle.node.specs.Feeding.Functions.{sends, leaves}
 use Rattle.node.specs.PatchFiles.{node-bytes}
 use Rattle.writing.specs.Writing.{EmptyDue, EmptyWritten}
 use Rattle.sending.specs.declared.Sent.{Sent}

@@ -10,7 +10,7 @@ use Rattle.stream.specs.SliceFiles.{prefix-bytes}
 use Rattle.files.specs.TypeReads.{TypeAt}
 use Rattle.files.specs.SliceReads.{PrefixAt, prefix-width}
 use Rattle.node.specs.Nodes.{Node, silent, emit-level, second, Takes, Small}
-use Rattle.node.specs.Feeding.{sends, leaves}
+use Rattle.node.specs.Feeding.Functions.{sends, leaves}
 use Rattle.node.specs.PatchFiles.{node-bytes}
 use Rattle.patches.specs.PatchReads.{node-width, NodeAt}
 use Rattle.sending.specs.declared.Sent.{Sent}

@@ -8,8 +8,9 @@ use Rattle.stream.specs.Types.{Ty, kind, first-part, second-part, type-limit}
 use Rattle.stream.specs.Reading.{accepted}
 use Rattle.files.specs.TypeReads.{TypeAt, SomeTypeAt, TypeEnds}
 use Rattle.files.specs.TypeReads.Laws.{first-at, second-at, second-behind}
-use Rattle.node.specs.Nodes.{second, Takes, takes-second, output-type, count, node-limit}
-use Rattle.node.specs.Feeding.{sends, leaves}
+use Rattle.node.specs.Nodes.{second, Takes, takes-second, count, node-limit}
+use Rattle.node.specs.Nodes.Functions.{output-type}
+use Rattle.node.specs.Feeding.Functions.{sends, leaves}
 use Rattle.node.specs.Checking.{gives}
 use Rattle.node.specs.Checking.Laws.{gives-small}
 use Rattle.patches.specs.PatchReads.{node-width}

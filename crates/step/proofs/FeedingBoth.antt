@@ -8,8 +8,9 @@ use lib.ListN.{getD}
 use Rattle.stream.specs.Types.{Ty, size}
 use Rattle.stream.specs.Prefixes.{Prefix}
 use Rattle.files.specs.SliceReads.{prefix-width}
-use Rattle.node.specs.Nodes.{Node, both, Takes, takes-both, output-type, count}
-use Rattle.node.specs.Feeding.{sends, leaves}
+use Rattle.node.specs.Nodes.{Node, both, Takes, takes-both, count}
+use Rattle.node.specs.Nodes.Functions.{output-type}
+use Rattle.node.specs.Feeding.Functions.{sends, leaves}
 use Rattle.patches.specs.PatchReads.Laws.{both-forks, Parts, parts-at}
 use Rattle.step.specs.declared.Step.{Step}
 use Rattle.step.specs.Steps.{Feedable, Room, FeedDue, FeedsNode, FeedPartsDue, FeedsParts}

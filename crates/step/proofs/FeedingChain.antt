@@ -11,9 +11,10 @@ use Rattle.stream.specs.SliceFiles.Laws.{prefix-length}
 use Rattle.files.specs.SliceReads.{prefix-width}
 use Rattle.files.specs.SliceReads.Laws.{prefix-bytes-length}
 use Rattle.writing.specs.Writing.Laws.{part, back}
-use Rattle.node.specs.Nodes.{Node, chain, Takes, takes-chain, output-type, count, Small}
+use Rattle.node.specs.Nodes.{Node, chain, Takes, takes-chain, count, Small}
+use Rattle.node.specs.Nodes.Functions.{output-type}
 use Rattle.node.specs.Nodes.Laws.{output-type-is, output-small}
-use Rattle.node.specs.Feeding.{sends, leaves}
+use Rattle.node.specs.Feeding.Functions.{sends, leaves}
 use Rattle.node.specs.Feeding.Laws.{preserved}
 use Rattle.node.specs.PatchFiles.{node-bytes}
 use Rattle.patches.specs.PatchReads.{node-width, NodeAt}
@@ -22,6 +23,7 @@ use Rattle.step.specs.declared.Step.{Step}
 use Rattle.step.specs.Steps.{nodes-below, Leads, Feedable, FeedDue, Steps, FeedsNode}
 use Rattle.step.specs.Steps.Laws.{byte-leads, leads-inside, leads-room, leads-on, left-width, type-stands, prefix-stands}
 use Rattle.step.proofs.Below.{below-one, chain-count, parts-count}
+use Rattle.stream.specs.Bounds.{slice-file-limit}
 
 -- How the parts of chain are typed.
 record Typings (s : Ty) (n m : Node) : Type 0 where
@@ -35,7 +37,7 @@ chain-typings (takes-chain d e) = record { middle = _; output = _; first-types =
 
 -- The first node has been fed: each list is as long as it was, and what is left of the node has room.
 pub record FirstFed (between middle remainder remainder-now : List ℕ) (step : Step) : Type 0 where
-  pub between-kept : length between ≡ 513
+  pub between-kept : length between ≡ slice-file-limit
   pub middle-kept : length middle ≡ 255
   pub remainder-kept : length remainder-now ≡ length remainder
   pub left-inside : 1 + step .left ≤ length remainder
@@ -114,7 +116,7 @@ module _ {types : List ℕ} {at : ℕ} {nodes : List ℕ} {from : ℕ} {slice : 
   middle-small : Small middle-type
   middle-small = rw (output-type-is (typings .first-types)) (output-small (typings .first-types) (feedable .fits .0))
 
-  sent-short : prefix-width sent ≤ 513
+  sent-short : prefix-width sent ≤ slice-file-limit
   unfolding type-limit
   sent-short = omega (arith, prefix-length [] is-sent, prefix-bytes-length sent [], middle-small)
 
@@ -131,7 +133,7 @@ module _ {types : List ℕ} {at : ℕ} {nodes : List ℕ} {from : ℕ} {slice : 
   first-below =
       omega (arith, below-one (due .stand .node-at) (due .feedable .few), below-one (parts .first-at) (first-feedable .few), counted)
 
-  module _ {between middle : List ℕ} (between-long : length between ≡ 513) (middle-long : length middle ≡ 255) where
+  module _ {between middle : List ℕ} (between-long : length between ≡ slice-file-limit) (middle-long : length middle ≡ 255) where
     -- What the first node is asked.
     pub first-due : FeedDue types at nodes (from + 1) slice place between (part 1 (set remainder 0 10)) middle
     unfolding type-limit

@@ -9,7 +9,7 @@ use Rattle.stream.specs.Types.{Ty, Nullable, type-limit}
 use Rattle.stream.specs.Prefixes.{cue-come}
 use Rattle.files.specs.SliceReads.{prefix-width}
 use Rattle.node.specs.Nodes.{Node, silent, emit-cue, emit-level, second, Takes, takes-silent}
-use Rattle.node.specs.Feeding.{sends, leaves}
+use Rattle.node.specs.Feeding.Functions.{sends, leaves}
 use Rattle.node.specs.PatchFiles.{node-bytes}
 use Rattle.patches.specs.PatchReads.{node-arity}
 use Rattle.patches.specs.PatchReads.Laws.{Case, by-byte, silent-at, kind-listed}

@@ -13,8 +13,9 @@ use Rattle.files.specs.TypeReads.Laws.{type-before, type-width}
 use Rattle.files.specs.SliceReads.{type-kind-of, prefix-width}
 use Rattle.files.specs.SliceReads.Laws.{prefix-before, prefix-bytes-length}
 use Rattle.writing.specs.Writing.Laws.{part, back}
-use Rattle.node.specs.Nodes.{Node, output-type, count}
-use Rattle.node.specs.Feeding.{sends, leaves}
+use Rattle.node.specs.Nodes.{Node, count}
+use Rattle.node.specs.Nodes.Functions.{output-type}
+use Rattle.node.specs.Feeding.Functions.{sends, leaves}
 use Rattle.node.specs.PatchFiles.{node-bytes}
 use Rattle.patches.specs.PatchReads.{node-width}
 use Rattle.patches.specs.PatchReads.Laws.{node-before}

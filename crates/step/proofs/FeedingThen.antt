@@ -18,8 +18,9 @@ use Rattle.files.specs.TypeReads.Laws.{first-at, second-behind, type-before, ty
 use Rattle.files.specs.SliceReads.{PrefixAt, TypeSpans, CompleteWide, prefix-width}
 use Rattle.files.specs.SliceReads.Laws.{prefix-bytes-length, width-positive, prefix-kind, prefix-inside, kind-at, in-first-at, crossed-first-at, crossed-second-at}
 use Rattle.writing.specs.Writing.Laws.{part, back}
-use Rattle.node.specs.Nodes.{Node, then, Takes, takes-then, output-type, count}
-use Rattle.node.specs.Feeding.{sends, leaves}
+use Rattle.node.specs.Nodes.{Node, then, Takes, takes-then, count}
+use Rattle.node.specs.Nodes.Functions.{output-type}
+use Rattle.node.specs.Feeding.Functions.{sends, leaves}
 use Rattle.node.specs.PatchFiles.{node-bytes}
 use Rattle.node.specs.PatchFiles.Laws.{node-length}
 use Rattle.patches.specs.PatchReads.{node-width, NodeAt}
@@ -32,6 +33,7 @@ use Rattle.step.specs.Steps.{Leads, Feedable, Room, FeedDue, Steps, Feed
 use Rattle.step.proofs.Below.{below-one, then-count, parts-count, parts-fewer}
 use Rattle.step.proofs.Giving.{no-fault, gives-type, node-answered}
 use Rattle.step.specs.Steps.Laws.{front-leads, byte-leads, leads-inside, leads-room, leads-on, left-width}
+use Rattle.stream.specs.Bounds.{twice-node-bytes}
 
 -- How the parts of then are typed.
 record Typings (s : Ty) (n m : Node) : Type 0 where
@@ -294,7 +296,7 @@ module _ {types : List ℕ} {at : ℕ} {nodes : List ℕ} {from : ℕ} {slice : 
     -- There is room for one byte in front of each, and for the parts behind it.
     record RoomBehind : Type 0 where
       for-output : 1 + prefix-width sent ≤ length out
-      for-nodes : 257 * (1 + count (parts .first) + count (parts .second)) + 255 ≤ 2 * length remainder
+      for-nodes : twice-node-bytes (1 + count (parts .first) + count (parts .second)) ≤ 2 * length remainder
       for-type : 1 + size first-given + size second-given ≤ length given
 
     room-behind : RoomBehind

@@ -14,7 +14,8 @@ use Rattle.stream.specs.SliceFiles.{prefix-bytes}
 use Rattle.files.specs.TypeReads.Laws.{type-width}
 use Rattle.files.specs.SliceReads.{prefix-width}
 use Rattle.files.specs.SliceReads.Laws.{prefix-bytes-length}
-use Rattle.node.specs.Nodes.{Node, Takes, output-type, Fits}
+use Rattle.node.specs.Nodes.{Node, Takes}
+use Rattle.node.specs.Nodes.Functions.{output-type, Fits}
 use Rattle.node.specs.Nodes.Laws.{output-type-is}
 use Rattle.node.specs.Checking.Laws.{typing-complete}
 use Rattle.node.specs.PatchFiles.{node-bytes}

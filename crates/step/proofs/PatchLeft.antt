@@ -8,15 +8,15 @@ use Rattle.stream.specs.Prefixes.{derivative}
 use Rattle.stream.specs.Reading.{section-bytes}
 use Rattle.stream.specs.TypeFiles.{type-bytes, type-file-bytes}
 use Rattle.stream.specs.Buffers.{at-front}
-use Rattle.node.specs.Nodes.{Node}
+use Rattle.node.specs.Nodes.{Node, patch-of}
 use Rattle.node.specs.PatchFiles.{node-bytes, patch-file-bytes}
-use Rattle.writing.specs.Writing.{LeftFileWritten}
-use Rattle.writing.specs.Writing.Laws.{part, back, Begun, goes-on}
+use Rattle.writing.specs.Writing.{LeftFileWritten, Begun}
+use Rattle.writing.specs.Writing.Laws.{part, back, goes-on}
 use Rattle.writing.specs.Writing.Standing.{type-file-size}
 use Rattle.step.specs.Steps.{PatchLeftDue, PatchLeftWritten}
 
 -- A patch file is its input type's file and then a section with its nodes.
-patch-file-parts : (s : Ty) (n : Node) → type-file-bytes s ++ section-bytes (node-bytes n []) [] ≡ patch-file-bytes s n
+patch-file-parts : (s : Ty) (n : Node) → type-file-bytes s ++ section-bytes (node-bytes n []) [] ≡ patch-file-bytes (patch-of s n)
 unfolding type-file-bytes patch-file-bytes section-bytes
 patch-file-parts s n = rw (append-nil (type-bytes s []))
 
@@ -27,7 +27,7 @@ pub patch-left-written : (types : List ℕ) (at : ℕ) (slice : List ℕ) (left 
 patch-left-written types at slice left nodes lent {now} {after} written more = record { each = go }
   where
     go : (due : PatchLeftDue types at slice left nodes lent)
-        → back (2 + left) now after ≡ at-front (patch-file-bytes (derivative (due .type-due .type) (due .type-due .prefix)) (due .node)) lent
+        → back (2 + left) now after ≡ at-front (patch-file-bytes (patch-of (derivative (due .type-due .type) (due .type-due .prefix)) (due .node))) lent
     go due =
         let s = derivative (due .type-due .type) (due .type-due .prefix) in
         let begun : Begun (type-file-bytes s) lent now (2 + left)

@@ -15,13 +15,15 @@ use Rattle.stream.specs.SliceFiles.{prefix-bytes}
 use Rattle.files.specs.TypeReads.{TypeAt}
 use Rattle.files.specs.SliceReads.{PrefixAt, prefix-width}
 use Rattle.writing.specs.Writing.{LeftFileDue}
-use Rattle.node.specs.Nodes.{Node, both, second, Takes, output-type, count, node-limit, Fits}
-use Rattle.node.specs.Feeding.{sends, leaves}
+use Rattle.node.specs.Nodes.{Node, both, second, Takes, count, node-limit, patch-of}
+use Rattle.node.specs.Nodes.Functions.{output-type, Fits}
+use Rattle.node.specs.Feeding.Functions.{sends, leaves}
 use Rattle.node.specs.PatchFiles.{node-bytes, read-node, patch-file-bytes}
 use Rattle.patches.specs.PatchReads.{node-arity, node-width, NodeAt}
 use Rattle.sending.specs.declared.Sent.{Sent}
 use Rattle.sending.specs.Sending.{LeafDue}
 use Rattle.step.specs.declared.Step.{Step}
+use Rattle.stream.specs.Bounds.{twice-node-bytes}
 pub mod Laws
 
 -- The number of nodes below, on the bytes: as many as stand in the trees that begin there, one behind the other.
@@ -49,11 +51,10 @@ pub record Stand (types : List ℕ) (at : ℕ) (nodes : List ℕ) (from : ℕ) (
   pub node-at : NodeAt nodes from n
   pub prefix-at : PrefixAt slice place p
 
--- Room for what is sent, for every node that is left on the way (a node of c nodes leaves at most (257 c + 255) / 2 bytes), and
--- for the type that is given.
+-- Room for what is sent, for every node that is left on the way, and for the type that is given.
 pub record Room (sent nodes size : ℕ) (out remainder given : List ℕ) : Type 0 where
   pub for-output : sent ≤ length out
-  pub for-nodes : 257 * nodes + 255 ≤ 2 * length remainder
+  pub for-nodes : twice-node-bytes nodes ≤ 2 * length remainder
   pub for-type : size ≤ length given
 
 pub record FeedDue (types : List ℕ) (at : ℕ) (nodes : List ℕ) (from : ℕ) (slice : List ℕ) (place : ℕ) (out remainder given : List ℕ) : Type 0 where
@@ -160,4 +161,4 @@ pub record PatchLeftDue (types : List ℕ) (at : ℕ) (slice : List ℕ) (left :
 
 pub record PatchLeftWritten (types : List ℕ) (at : ℕ) (slice : List ℕ) (left : ℕ) (nodes lent lent-after : List ℕ) : Type 0 where
   pub each : (due : PatchLeftDue types at slice left nodes lent)
-      → lent-after ≡ at-front (patch-file-bytes (derivative (due .type-due .type) (due .type-due .prefix)) (due .node)) lent
+      → lent-after ≡ at-front (patch-file-bytes (patch-of (derivative (due .type-due .type) (due .type-due .prefix)) (due .node))) lent

@@ -1,7 +1,8 @@
 -- One name for the definitions that worked examples compute with: `unfolding stream-definitions` opens them all.
 use Rattle.stream.specs.Types.{nullable, size, type-limit}
 use Rattle.stream.specs.Levels.{value-bytes, read-value}
-use Rattle.stream.specs.Prefixes.{complete, empty-prefix, derivative, concat}
+use Rattle.stream.specs.Prefixes.{empty-prefix, derivative}
+use Rattle.stream.specs.Prefixes.Functions.{complete, concat}
 use Rattle.stream.specs.Reading.{section-bytes, counted, section, forest, tree}
 use Rattle.stream.specs.TypeFiles.{type-bytes, type-file-bytes, type-root, read-type, type-section, type-file}
 use Rattle.stream.specs.SliceFiles.{prefix-bytes, slice-file-bytes, prefix-root, read-prefix, slice-file}

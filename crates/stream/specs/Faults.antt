@@ -1,5 +1,9 @@
 -- The refusals, by the numbers that document 01 gives them (Operations).
+use mathlib.Core.Bool.{Bool, false, true, _||_}
+use mathlib.Core.List.{List, [], _∷_, _++_}
+use mathlib.Core.Path.{_≡_}
 use Prim.Native.Nat.{ℕ}
+use lib.Dec.{eqb}
 use Rattle.stream.specs.declared.Fault.{Fault}
 use Rattle.stream.specs.declared.Fault.the-variants.{CutShort, Unlisted, LeftOver, TypeTooLarge, TooManyNodes, NotNullable, WrongShape, SliceCutShort, SliceUnlisted, SliceLeftOver, SliceMisplaced, NoRoom}
 
@@ -16,3 +20,21 @@ number SliceUnlisted = 12  -- a slice's kind above 7
 number SliceLeftOver = 13  -- bytes left over after a slice
 number SliceMisplaced = 14  -- a slice's kind that does not belong there
 number NoRoom = 20  -- a lent buffer is too short for the answer
+
+-- The numbers that document 01 lists for what is read: a type ("1 to 4"), a slice ("11 .. 14") and a patch ("1" to "7").
+abbrev pub type-numbers : List ℕ
+type-numbers = 1 ∷ 2 ∷ 3 ∷ 4 ∷ []
+
+abbrev pub slice-numbers : List ℕ
+slice-numbers = 11 ∷ 12 ∷ 13 ∷ 14 ∷ []
+
+abbrev pub patch-numbers : List ℕ
+patch-numbers = type-numbers ++ 5 ∷ 6 ∷ 7 ∷ []
+
+abbrev pub contains : List ℕ → ℕ → Bool
+contains [] k = false
+contains (n ∷ ns) k = eqb n k || contains ns k
+
+-- A fault whose number is among these.
+abbrev pub Listed : List ℕ → Fault → Type 0
+Listed numbers e = contains numbers (number e) ≡ true

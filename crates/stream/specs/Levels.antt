@@ -1,4 +1,5 @@
--- The value of a level: its bound and its bytes. What M-109 widens stands here alone.
+-- The value of a level: its bound, and its two bytes. The definitions and laws take the width from here; the code that passes a
+-- value has it by itself (`leaf_width`, `skip_prefix`, `complete_width`, `root_end`, `type_leaf`, `feed_level`), proved equal.
 use mathlib.Core.List.{List, [], _∷_}
 use Prim.Native.Nat.{ℕ, _+_, _*_, _/_, _%_}
 use Rattle.stream.specs.declared.Fault.{Fault}
@@ -17,3 +18,7 @@ unfoldable pub read-value : Fault → List ℕ → Reading ℕ
 read-value cut-short [] = fault cut-short
 read-value cut-short (h ∷ []) = fault cut-short
 read-value cut-short (h ∷ l ∷ r) = read (h * 256 + l) r
+
+-- How many bytes a value takes.
+abbrev pub value-width : ℕ
+value-width = 2

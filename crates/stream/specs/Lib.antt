@@ -4,6 +4,7 @@ pub mod Levels
 pub mod Prefixes
 pub mod Reading
 pub mod Buffers
+pub mod Bounds
 pub mod TypeFiles
 pub mod SliceFiles
 pub mod Computing

@@ -1,9 +1,9 @@
 -- Prefixes: what has come so far of a stream. Document 01 calls one a slice (Files, "Slices" to "Join"). The source's names
 -- for them (its Figure 4) stand behind the kind bytes.
-use mathlib.Core.Bool.{Bool, true, false, _&&_}
 use Prim.Native.Nat.{ℕ, _<_}
 use Rattle.stream.specs.Levels.{level-limit}
 use Rattle.stream.specs.Types.{Ty, empty, cue, level, seq, par, first-part, second-part}
+pub mod Functions
 pub mod Laws
 
 pub data Prefix : Type 0 where
@@ -24,16 +24,6 @@ pub data Complete : Prefix → Type 0 where
   whole-level : {v : ℕ} → Complete (level-come v)
   whole-crossed : {b q : Prefix} → Complete q → Complete (crossed b q)
   whole-beside : {p q : Prefix} → Complete p → Complete q → Complete (beside p q)
-
-unfoldable pub complete : Prefix → Bool
-complete nothing = true
-complete cue-awaited = false
-complete cue-come = true
-complete level-awaited = false
-complete (level-come v) = true
-complete (in-first p) = false
-complete (crossed b q) = complete q
-complete (beside p q) = complete p && complete q
 
 -- The prefixes of a type: "For type 0: 0. For 1: 1 not yet, 2 come. For 2: 3 not yet, 4 come .. For 3: 5 then a slice of
 -- the first part; or 6, crossed, then a complete slice of the first part and a slice of the second. For 4: 7 then both."
@@ -68,36 +58,16 @@ derivative t (in-first p) = seq (derivative (first-part t) p) (second-part t)
 derivative t (crossed b q) = derivative (second-part t) q
 derivative t (beside p q) = par (derivative (first-part t) p) (derivative (second-part t) q)
 
--- A prefix of a sequence by its two cases, and one of a side-by-side type by its one; `other` answers for the rest,
--- which no rule uses.
-abbrev pub on-seq : {A : Type 0} → A → (Prefix → A) → (Prefix → Prefix → A) → Prefix → A
-on-seq other f g nothing = other
-on-seq other f g cue-awaited = other
-on-seq other f g cue-come = other
-on-seq other f g level-awaited = other
-on-seq other f g (level-come v) = other
-on-seq other f g (in-first p) = f p
-on-seq other f g (crossed b q) = g b q
-on-seq other f g (beside p q) = other
-
-abbrev pub on-par : {A : Type 0} → A → (Prefix → Prefix → A) → Prefix → A
-on-par other f nothing = other
-on-par other f cue-awaited = other
-on-par other f cue-come = other
-on-par other f level-awaited = other
-on-par other f (level-come v) = other
-on-par other f (in-first p) = other
-on-par other f (crossed b q) = other
-on-par other f (beside p q) = f p q
-
--- Join (the source's prefix concatenation) of p and a prefix q of what p leaves: "after 0, 2 or 4, p; after 1 or 3, q;
--- 5 p with 5 q is 5 (p joined q); 5 p with 6 b r is 6 (p joined b) r; 6 b p with q is 6 b (p joined q); 7 joins each side."
-unfoldable pub concat : Prefix → Prefix → Prefix
-concat nothing q = nothing
-concat cue-awaited q = q
-concat cue-come q = cue-come
-concat level-awaited q = q
-concat (level-come v) q = level-come v
-concat (in-first p) q = on-seq nothing (λ r. in-first (concat p r)) (λ b r. crossed (concat p b) r) q
-concat (crossed b p) q = crossed b (concat p q)
-concat (beside p r) q = on-par nothing (λ x y. beside (concat p x) (concat r y)) q
+-- Join (the source's prefix concatenation): Concat p q r says that p, joined with a prefix q of what p leaves, is r. "After 0, 2
+-- or 4, p; after 1 or 3, q; 5 p with 5 q is 5 (p joined q); 5 p with 6 b r is 6 (p joined b) r; 6 b p with q is 6 b (p joined
+-- q); 7 joins each side."
+pub data Concat : Prefix → Prefix → Prefix → Type 0 where
+  after-nothing : {q : Prefix} → Concat nothing q nothing
+  after-cue : {q : Prefix} → Concat cue-come q cue-come
+  after-level : {v : ℕ} {q : Prefix} → Concat (level-come v) q (level-come v)
+  cue-awaited-yet : {q : Prefix} → Concat cue-awaited q q
+  level-awaited-yet : {q : Prefix} → Concat level-awaited q q
+  still-in-first : {p q r : Prefix} → Concat p q r → Concat (in-first p) (in-first q) (in-first r)
+  now-crossed : {p b c r : Prefix} → Concat p b c → Concat (in-first p) (crossed b r) (crossed c r)
+  behind-crossing : {b p q r : Prefix} → Concat p q r → Concat (crossed b p) q (crossed b r)
+  each-side : {p q x y u v : Prefix} → Concat p x u → Concat q y v → Concat (beside p q) (beside x y) (beside u v)

@@ -13,6 +13,7 @@ use Rattle.meaning.specs.declared.Fed.{Fed}
 use Rattle.meaning.specs.Answers.{check, feed, FedFiles, with-room, fits-one, fits-both, number-of, written, fed, after}
 use Rattle.meaning.specs.Answers.Laws.{number-bounds, enough-room, both-fit, check-sized, feed-sized-of-bytes}
 use Rattle.meaning.specs.Promises.{CheckPromise, FeedPromise}
+use Rattle.stream.specs.Bounds.{type-file-limit, slice-file-limit, patch-file-limit}
 
 -- No number has more than two digits.
 pub number-short : {A : Type 0} (r : Result A) → number-of r ≤ 20
@@ -25,7 +26,7 @@ unfolding with-room
 roomy fits (accepted a) h = enough-room fits (accepted a) refl (h a refl)
 roomy fits (refused e) h = refl
 
-pub checked : (file lent : List ℕ) {answer : Written} {lent-after : List ℕ} → Bytes file → 257 ≤ length lent
+pub checked : (file lent : List ℕ) {answer : Written} {lent-after : List ℕ} → Bytes file → type-file-limit ≤ length lent
     → CheckPromise file lent answer lent-after → answer .number ≡ number-of (check file)
 unfolding written
 checked file lent b room promise =
@@ -40,7 +41,7 @@ pub record FedBy (outcome : Result FedFiles) (output patch-lent : List ℕ) (ans
   pub patch-buffer : patch-after ≡ after (λ w. w .patch) outcome patch-lent
 
 pub fed-by : (patch slice output patch-lent : List ℕ) {answer : Fed} {output-after patch-after : List ℕ} → Bytes patch → Bytes slice
-    → 513 ≤ length output → 8482 ≤ length patch-lent → FeedPromise patch slice output patch-lent answer output-after patch-after
+    → slice-file-limit ≤ length output → patch-file-limit ≤ length patch-lent → FeedPromise patch slice output patch-lent answer output-after patch-after
     → FedBy (feed patch slice) output patch-lent answer output-after patch-after
 fed-by patch slice output patch-lent b c h k promise =
     let e =

@@ -7,7 +7,8 @@ use lib.ListN.{length, take, drop}
 use lib.Seq.{take-at}
 use Rattle.stream.specs.Reading.{Bytes, Result, accepted, refused}
 use Rattle.stream.specs.Buffers.{at-front}
-use Rattle.writing.specs.Writing.Laws.{Begun, front-length}
+use Rattle.writing.specs.Writing.Laws.{front-length}
+use Rattle.writing.specs.Writing.{Begun}
 use Rattle.node.specs.PatchFiles.Laws.{patch-file-length}
 use Rattle.meaning.specs.Answers.{check, number-of}
 use Rattle.meaning.specs.Answers.Laws.{number-bounds, check-accepted}
@@ -15,12 +16,13 @@ use Rattle.transcript.specs.declared.Stage.the-variants.{Awaiting, Feedi
 use Rattle.transcript.specs.Transcripts.{feeding, number-line, takes}
 use Rattle.transcript.specs.Transcripts.Laws.{number-line-length}
 use Rattle.transcript.specs.Playing.{state-of, Inside, TakesFile}
+use Rattle.stream.specs.Bounds.{patch-file-limit}
 
 -- An accepted patch has room where every patch has.
-pub patch-short : (file : List ℕ) → Bytes file → number-of (check file) ≡ 0 → length file ≤ 8482
+pub patch-short : (file : List ℕ) → Bytes file → number-of (check file) ≡ 0 → length file ≤ patch-file-limit
 patch-short file b none = go (check file) refl none
   where
-    go : (o : Result (List ℕ)) → check file ≡ o → number-of o ≡ 0 → length file ≤ 8482
+    go : (o : Result (List ℕ)) → check file ≡ o → number-of o ≡ 0 → length file ≤ patch-file-limit
     go (accepted type) e n = let f = check-accepted file b .0 (type, e) in rw (← f .bytes) (patch-file-length (f .allowed))
     go (refused f) e n = absurd (omega (arith, number-bounds f .0))
 

@@ -15,20 +15,21 @@ use Rattle.stream.specs.Reading.Laws.{go-on-accepted}
 use Rattle.stream.specs.Buffers.{at-front}
 use Rattle.stream.specs.Types.{Ty}
 use Rattle.stream.specs.Prefixes.{derivative}
-use Rattle.node.specs.Nodes.{Node, Small, Allowed}
-use Rattle.node.specs.Feeding.{sends, leaves}
+use Rattle.node.specs.Nodes.{Node, Small, Allowed, patch-of}
+use Rattle.node.specs.Feeding.Functions.{sends, leaves}
 use Rattle.node.specs.Feeding.Laws.{leaves-allowed}
 use Rattle.node.specs.PatchFiles.{node-bytes, patch-file-bytes}
-use Rattle.writing.specs.Writing.Laws.{Begun, front-length}
+use Rattle.writing.specs.Writing.Laws.{front-length}
+use Rattle.writing.specs.Writing.{Begun}
 use Rattle.meaning.specs.declared.Fed.{Fed}
-use Rattle.meaning.specs.Answers.{feed, FedFiles, number-of, fed, after}
-use Rattle.meaning.specs.Answers.Laws.{number-bounds, fed-files, feed-of-patch, fed-patch, FedSized, feed-sized-of-bytes}
-use Rattle.meaning.specs.Answers.Laws.{first-section-of}
+use Rattle.meaning.specs.Answers.{feed, FedFiles, fed-files, number-of, fed, after}
+use Rattle.meaning.specs.Answers.Laws.{number-bounds, feed-of-patch, fed-patch, FedSized, feed-sized-of-bytes, first-section-of}
 use Rattle.transcript.specs.declared.Stage.the-variants.{Feeding}
 use Rattle.transcript.specs.Transcripts.{number-line, contents, fed-line, line, feeding, patch-after, takes}
 use Rattle.transcript.specs.Transcripts.Laws.{number-line-length, fed-line-length}
 use Rattle.transcript.specs.Playing.{state-of, Inside, TakesFile}
 use Rattle.transcript.proofs.Answered.{FedBy}
+use Rattle.stream.specs.Bounds.{slice-limit, slice-file-limit, patch-file-limit}
 
 section-length : (body r : List ℕ) → length (section-bytes body r) ≡ 2 + length body + length r
 unfolding section-bytes
@@ -45,14 +46,14 @@ pub record FedSections (w : FedFiles) : Type 0 where
   pub nodes : List ℕ
   pub output-is : w .output ≡ section-bytes output []
   pub patch-is : w .patch ≡ section-bytes type nodes
-  pub output-short : length output ≤ 511
+  pub output-short : length output ≤ slice-limit
   pub type-short : length type ≤ 255
-  pub patch-short : length (w .patch) ≤ 8482
+  pub patch-short : length (w .patch) ≤ patch-file-limit
 
 pub fed-sections : (patch slice : List ℕ) (w : FedFiles) → Bytes patch → Bytes slice → feed patch slice ≡ accepted w → FedSections w
 unfolding slice-file-bytes type-file-bytes patch-file-bytes
 fed-sections patch slice w b c e =
-    let f = fed-patch patch slice w b e in go (f .input) (f .node) (f .output) (f .allowed) (rw (← f .bytes) at e)
+    let f = fed-patch patch slice w b e in go (f .patch .input) (f .patch .node) (f .output) (f .allowed) (rw (← f .bytes) at e)
   where
     sized : FedSized w
     sized = feed-sized-of-bytes patch slice b c .sized w e
@@ -60,12 +61,12 @@ fed-sections patch slice w b c e =
     small : (t : Ty) → Small t → length (type-bytes t []) ≤ 255
     small t h = omega (arith, type-file-length t h, section-length (type-bytes t []) [])
 
-    go : (s : Ty) (n : Node) (t : Ty) → Allowed s n t → feed (patch-file-bytes s n) slice ≡ accepted w → FedSections w
+    go : (s : Ty) (n : Node) (t : Ty) → Allowed s n t → feed (patch-file-bytes (patch-of s n)) slice ≡ accepted w → FedSections w
     go s n t a h =
-        let x = go-on-accepted (slice-file s slice) (λ p. accepted (fed-files s n p)) w (sym (feed-of-patch slice a) ∙ h) in
+        let x = go-on-accepted (slice-file s slice) (λ p. accepted (fed-files (patch-of s n) p)) w (sym (feed-of-patch slice a) ∙ h) in
         let p = x .0 in
         let is-prefix = slice-file-sound s slice p c (x .1) .1 in
-        let d : fed-files s n p ≡ w = let z = x .2 in cc in
+        let d : fed-files (patch-of s n) p ≡ w = let z = x .2 in cc in
         let output = prefix-bytes (sends s n p) [] in
         let type = type-bytes (derivative s p) [] in
         let output-is : w .output ≡ section-bytes output [] = ap (λ (v : FedFiles). v .output) (sym d) in
@@ -106,7 +107,7 @@ module _ (patch slice lent : List ℕ) (n : ℕ) where
       go (refused f) e s b = record { inside = inside; long = refl; stands = rw e refl; line = rw e b; short = omega (arith, b .long, number-line-length (number-of {A = FedFiles} (refused f))) }
 
   -- An accepted one leaves the patch that Feed wrote.
-  pub slice-fed : (w : FedFiles) (f : FedSections w) → feed (take n patch) slice ≡ accepted w → 8482 ≤ length patch
+  pub slice-fed : (w : FedFiles) (f : FedSections w) → feed (take n patch) slice ≡ accepted w → patch-file-limit ≤ length patch
       → {patch-left lent-after : List ℕ} {kept written : ℕ} → kept ≡ length (w .patch) → patch-left ≡ at-front (w .patch) patch
       → Begun (fed-line (f .output) (f .type)) lent lent-after written
       → TakesFile (Feeding n) patch slice lent (record { stage = Feeding kept; written = written }) patch-left lent-after
@@ -136,7 +137,7 @@ pub record FedInto (patch slice output patch-lent : List ℕ) (answer : Fed) (ou
   pub patch-long : length patch-after ≡ length patch-lent
 
 pub is-sent : (patch slice output patch-lent : List ℕ) {answer : Fed} {output-after patch-after : List ℕ} → Bytes patch → Bytes slice
-    → 513 ≤ length output → 8482 ≤ length patch-lent → FedBy (feed patch slice) output patch-lent answer output-after patch-after → answer .number ≡ 0
+    → slice-file-limit ≤ length output → patch-file-limit ≤ length patch-lent → FedBy (feed patch slice) output patch-lent answer output-after patch-after → answer .number ≡ 0
     → FedInto patch slice output patch-lent answer output-after patch-after
 unfolding fed after
 is-sent patch slice output patch-lent {answer} {output-after} {patch-after} b c h k by none =

@@ -5,12 +5,13 @@ use mathlib.Core.Bool.{Bool, true, false}
 use mathlib.Core.List.{List, [], _++_}
 use Prim.Native.Nat.{ℕ, _-_, _≤_}
 use lib.ListN.{length, take, drop}
-use Rattle.writing.specs.Writing.Laws.{Begun}
+use Rattle.writing.specs.Writing.{Begun}
 use Rattle.transcript.specs.declared.Stage.{Stage}
 use Rattle.transcript.specs.declared.Stage.the-variants.{Awaiting, Feeding, Stopped}
 use Rattle.transcript.specs.declared.Line.{Line}
 use Rattle.transcript.specs.declared.Played.{Played}
 use Rattle.transcript.specs.Transcripts.{State, awaiting, feeding, stopped, files, takes, prints}
+use Rattle.stream.specs.Bounds.{patch-file-limit}
 pub mod Laws
 
 -- The stage that the code keeps, with the bytes at whose front the patch stands.
@@ -34,7 +35,7 @@ Inside Stopped patch = Unit
 -- number, two spaces and the line feed.
 pub record Ready (stage : Stage) (patch lent : List ℕ) : Type 0 where
   pub inside : Inside stage patch
-  pub patch-room : 8482 ≤ length patch
+  pub patch-room : patch-file-limit ≤ length patch
   pub line-room : 1536 ≤ length lent
 
 -- One file is taken: its line stands at the front of what was lent.

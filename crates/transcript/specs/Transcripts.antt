@@ -6,8 +6,7 @@ use lib.Dec.{leb}
 use lib.ListN.{length, take, drop}
 use Rattle.stream.specs.Faults.{number}
 use Rattle.stream.specs.Reading.{Result, accepted, refused}
-use Rattle.meaning.specs.Answers.{check, feed, FedFiles}
-use Rattle.meaning.specs.Answers.{first-section}
+use Rattle.meaning.specs.Answers.{check, feed, FedFiles, first-section}
 pub mod Laws
 pub mod Examples
 

@@ -1,7 +1,10 @@
 // The program of document 01 without its reads and writes: what it prints for the files of a stream, played as they come.
+use files::prefixes::MAX_FILE;
 use files::sections::TreeEnd;
 use files::sections::count_of;
 use files::sections::section_end;
+use files::types::TypePlace;
+use patches::PatchPlace;
 use wosthile::check;
 use wosthile::feed;
 use writing::copy;
@@ -9,11 +12,11 @@ ghost use mathlib.Core.Path.{_≡_};
 ghost use Prim.Native.Nat.{_*_, _-_, _≤_, _<_};
 ghost use lib.ListN.{length, take, drop};
 ghost use Rattle.stream.specs.Buffers.{at-front};
-ghost use Rattle.writing.specs.Writing.Laws.{Begun};
-ghost use Rattle.transcript.specs.Transcripts.{hexadecimal, number-line, fed-line};
-ghost use Rattle.transcript.specs.Transcripts.{digit as Transcripts·digit};
+ghost use Rattle.writing.specs.Writing.{Begun};
+ghost use Rattle.transcript.specs.Transcripts.{hexadecimal, number-line, fed-line, digit as Transcripts·digit};
 ghost use Rattle.transcript.specs.Playing.{is-stopped, Inside, Ready, TakesFile, PlaysNext, PlaysAll};
 ghost use Rattle.transcript.specs.declared.Stage.the-variants.{Awaiting, Feeding};
+ghost use Rattle.stream.specs.Bounds.{slice-limit, slice-file-limit, patch-file-limit};
 
 // Where the program stands between two files: it awaits the patch, feeds the slices that follow to the patch, which has so
 // many bytes, or has stopped.
@@ -98,7 +101,7 @@ fn put_number(number: u32, out: &mut [u8]) -> usize
 
 // The line of an accepted slice, from the contents of the output's section and of the left type's.
 fn put_fed(output: &[u8], ty: &[u8], out: &mut [u8]) -> usize
-    requires { ⌜ (length (now output) ≤ 511) × (length (now ty) ≤ 255) × (1536 ≤ length (now out)) ⌝ }
+    requires { ⌜ (length (now output) ≤ slice-limit) × (length (now ty) ≤ 255) × (1536 ≤ length (now out)) ⌝ }
     ensures { λ r. ⌜ Begun (fed-line (now (output .entry)) (now (ty .entry))) (now (out .entry)) (now (out .exit)) r ⌝ }
 {
     out[0] = b'0';
@@ -117,7 +120,7 @@ fn take_patch(file: &[u8], patch: &mut [u8], out: &mut [u8]) -> Line
     requires { ⌜ Ready Awaiting (now patch) (now out) ⌝ }
     ensures { λ r. ⌜ TakesFile Awaiting (now (patch .entry)) (now (file .entry)) (now (out .entry)) r (now (patch .exit)) (now (out .exit)) ⌝ }
 {
-    let mut given = [0u8; 257];
+    let mut given = [0u8; TypePlace::MAX_FILE];
     let checked = check(file, &mut given);
     if checked.number != 0 {
         return Line::new(Stage::Stopped, put_number(checked.number, out));
@@ -127,27 +130,27 @@ fn take_patch(file: &[u8], patch: &mut [u8], out: &mut [u8]) -> Line
 }
 
 // Feeds a slice to the patch, which stands in the first `size` bytes; the patch left takes its place. `output` and
-// `patch_left` are work bytes for what Feed writes.
+// `next` are work bytes for what Feed writes.
 fn feed_slice(
     file: &[u8],
     size: usize,
     patch: &mut [u8],
     output: &mut [u8],
-    patch_left: &mut [u8],
+    next: &mut [u8],
     out: &mut [u8],
 ) -> Line
-    requires { ⌜ Ready (Feeding size) (now patch) (now out) × (513 ≤ length (now output)) × (8482 ≤ length (now patch_left)) ⌝ }
+    requires { ⌜ Ready (Feeding size) (now patch) (now out) × (slice-file-limit ≤ length (now output)) × (patch-file-limit ≤ length (now next)) ⌝ }
     ensures { λ r. ⌜ TakesFile (Feeding size) (now (patch .entry)) (now (file .entry)) (now (out .entry)) r (now (patch .exit)) (now (out .exit)) ⌝ }
 {
-    let fed = feed(&patch[..size], file, output, patch_left);
+    let fed = feed(&patch[..size], file, output, next);
     if fed.number != 0 {
         return Line::new(Stage::Feeding(size), put_number(fed.number, out));
     }
     let sent = fed.output;
     let kept = fed.patch;
-    let type_end = 2 + count_of(patch_left[0], patch_left[1]);
-    let written = put_fed(&output[2..sent], &patch_left[2..type_end], out);
-    copy(&patch_left[..kept], patch);
+    let type_end = 2 + count_of(next[0], next[1]);
+    let written = put_fed(&output[2..sent], &next[2..type_end], out);
+    copy(&next[..kept], patch);
     Line::new(Stage::Feeding(kept), written)
 }
 
@@ -156,9 +159,9 @@ fn take_slice(file: &[u8], size: usize, patch: &mut [u8], out: &mut [u8]) -> Lin
     requires { ⌜ Ready (Feeding size) (now patch) (now out) ⌝ }
     ensures { λ r. ⌜ TakesFile (Feeding size) (now (patch .entry)) (now (file .entry)) (now (out .entry)) r (now (patch .exit)) (now (out .exit)) ⌝ }
 {
-    let mut output = [0u8; 513];
-    let mut patch_left = [0u8; 8482];
-    feed_slice(file, size, patch, &mut output, &mut patch_left, out)
+    let mut output = [0u8; MAX_FILE];
+    let mut next = [0u8; PatchPlace::MAX_FILE];
+    feed_slice(file, size, patch, &mut output, &mut next, out)
 }
 
 // Takes one file, if there is a whole one and the program has not stopped.
@@ -201,7 +204,7 @@ fn taken(end: usize, line: Line) -> Played
 
 // Takes one file after the other, while there is a whole one and room for a line.
 pub fn play(input: &[u8], stage: Stage, patch: &mut [u8], out: &mut [u8]) -> Played
-    requires { ⌜ Inside stage (now patch) × (8482 ≤ length (now patch)) ⌝ }
+    requires { ⌜ Inside stage (now patch) × (patch-file-limit ≤ length (now patch)) ⌝ }
     ensures { λ r. ⌜ PlaysAll stage (now (patch .entry)) (now (input .entry)) (now (out .entry)) r (now (patch .exit)) (now (out .exit)) ⌝ }
 {
     let mut reached = stage;

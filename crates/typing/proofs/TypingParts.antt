@@ -16,7 +16,8 @@ use Rattle.writing.specs.Writing.Laws.{part, back}
 use Rattle.writing.specs.Writing.Standing.{written-stands}
 use Rattle.node.specs.Nodes.{Node, both, then, chain}
 use Rattle.node.specs.Checking.{gives, typing}
-use Rattle.node.specs.Checking.Laws.{Carries, gives-small}
+use Rattle.node.specs.Checking.Laws.{gives-small}
+use Rattle.node.specs.Nodes.Functions.{Carries}
 use Rattle.typing.specs.declared.Typed.{Typed}
 use Rattle.typing.specs.declared.Typed.the-variants.{Gives, Failed}
 use Rattle.patches.specs.PatchReads.{node-width, NodeAt}

@@ -18,7 +18,7 @@ use Rattle.node.specs.PatchFiles.{first-pass, second-pass, patch-file}
 use Rattle.patches.specs.declared.PatchPlace.{PatchPlace}
 use Rattle.typing.specs.declared.Typed.{Typed}
 use Rattle.typing.specs.declared.Typed.the-variants.{Gives, Failed}
-use Rattle.patches.specs.PatchReads.Standing.{AcceptedPatch}
+use Rattle.patches.specs.PatchReads.{AcceptedPatch}
 use Rattle.typing.specs.Typing.{Answers}
 use Rattle.typing.specs.Typing.Laws.{IsGiven, is-given, is-refused, typing-small}
 use Rattle.meaning.specs.Answers.{check}

@@ -22,22 +22,23 @@ use Rattle.files.specs.TypeReads.Laws.{type-width}
 use Rattle.files.specs.SliceReads.{prefix-width}
 use Rattle.files.specs.SliceReads.Laws.{prefix-bytes-length}
 use Rattle.writing.specs.Writing.Standing.{slice-file-size}
-use Rattle.node.specs.Nodes.{Node, count, node-limit}
+use Rattle.node.specs.Nodes.{Node, count, node-limit, patch-of}
 use Rattle.node.specs.Nodes.Laws.{output-type-is, output-small}
-use Rattle.node.specs.Feeding.{sends, leaves}
+use Rattle.node.specs.Feeding.Functions.{sends, leaves}
 use Rattle.node.specs.Feeding.Laws.{preserved}
 use Rattle.node.specs.Checking.{typing}
 use Rattle.node.specs.Checking.Laws.{WellTyped, typing-sound}
 use Rattle.node.specs.PatchFiles.{node-bytes, patch-file-bytes, first-pass, second-pass, patch-file}
 use Rattle.patches.specs.declared.PatchPlace.{PatchPlace}
 use Rattle.patches.specs.PatchReads.Laws.{ends-inside, count-within}
-use Rattle.patches.specs.PatchReads.Standing.{AcceptedPatch}
+use Rattle.patches.specs.PatchReads.{AcceptedPatch}
 use Rattle.step.specs.declared.Step.{Step}
 use Rattle.step.specs.Steps.{Feedable, FeedDue, Steps, PatchLeftDue}
 use Rattle.step.specs.Steps.Laws.{leads-inside, leads-taken, left-width}
 use Rattle.meaning.specs.Answers.{FedFiles, feed, with-room, fed as told, after}
 use Rattle.meaning.specs.Promises.{FeedPromise}
 use Rattle.wosthile.specs.FeedReads.{FeedRead}
+use Rattle.stream.specs.Bounds.{slice-limit, slice-file-limit, twice-node-bytes, nodes-limit}
 
 -- How the answers of Feed keep its promise.
 module _ (output patch-lent : List ℕ) {patch slice : List ℕ} where
@@ -105,14 +106,14 @@ module _ {patch : List ℕ} {place : PatchPlace} {slice : List ℕ} {remains : �
   is-typed = typing-sound input node (due .output) (due .read .node-at .carries) (due .is-typed)
 
   abbrev pub files : FedFiles
-  files = record { output = slice-file-bytes (sends input node prefix); patch = patch-file-bytes (derivative input prefix) (leaves input node prefix) }
+  files = record { output = slice-file-bytes (sends input node prefix); patch = patch-file-bytes (patch-of (derivative input prefix) (leaves input node prefix)) }
 
   pub feed-is : feed patch slice ≡ accepted files
   unfolding feed patch-file second-pass
   feed-is = rw (due .read .is-accepted, due .is-typed, due .taken .is-accepted)
 
   -- What is sent has at most 511 bytes, since its type has at most 255 nodes.
-  pub sent-short : prefix-width (sends input node prefix) ≤ 511
+  pub sent-short : prefix-width (sends input node prefix) ≤ slice-limit
   sent-short =
       omega (
         arith,
@@ -130,7 +131,7 @@ module _ {patch : List ℕ} {place : PatchPlace} {slice : List ℕ} {remains : �
   feedable =
       record { output = due .output; types = is-typed .types; fits = is-typed .fits; few = due .read .few; is-prefix = due .taken .is-prefix }
 
-  abbrev pub feed-due : (sent nodes given : List ℕ) → 513 ≡ length sent → 257 * count node + 255 ≤ 2 * length nodes → 255 ≡ length given
+  abbrev pub feed-due : (sent nodes given : List ℕ) → slice-file-limit ≡ length sent → twice-node-bytes (count node) ≤ 2 * length nodes → 255 ≡ length given
       → FeedDue patch (place .input .start) patch (place .nodes) slice 2 sent nodes given
   feed-due sent nodes given a b c =
       record {
@@ -149,10 +150,10 @@ module _ {patch : List ℕ} {place : PatchPlace} {slice : List ℕ} {remains : �
 
   -- Up to 15 nodes leave at most 2,055 bytes, and all of them 8,223.
 
-  pub few-room : length patch - place .nodes < 16 → 257 * count node + 255 ≤ 2 * 2055
+  pub few-room : length patch - place .nodes < 16 → twice-node-bytes (count node) ≤ 2 * 2055
   few-room short = omega (arith, ends-inside (due .read .node-at), count-within node)
 
-  pub nodes-room : 257 * count node + 255 ≤ 2 * 8223
+  pub nodes-room : twice-node-bytes (count node) ≤ 2 * nodes-limit
   nodes-room = omega (arith, few)
 
   pub small-left : remains ≤ 255
@@ -160,8 +161,8 @@ module _ {patch : List ℕ} {place : PatchPlace} {slice : List ℕ} {remains : �
 
   -- What is sent and the node left stand in front of the work arrays, and how long both files are.
   pub record Stepped (sent nodes : List ℕ) (step : Step) : Type 0 where
-    pub sent-small : step .sent ≤ 511
-    pub nodes-small : step .left ≤ 8223
+    pub sent-small : step .sent ≤ slice-limit
+    pub nodes-small : step .left ≤ nodes-limit
     pub sent-inside : step .sent ≤ length sent
     pub nodes-inside : step .left ≤ length nodes
     pub sent-taken : take (step .sent) sent ≡ prefix-bytes (sends input node prefix) []

@@ -9,7 +9,8 @@ use Rattle.stream.specs.Prefixes.{Prefix}
 use Rattle.stream.specs.Reading.{Result, refused, go-on}
 use Rattle.stream.specs.TypeFiles.{type-file}
 use Rattle.stream.specs.SliceFiles.{slice-file}
-use Rattle.writing.specs.Writing.Standing.{AcceptedType, AcceptedSlice}
+use Rattle.files.specs.SliceReads.{AcceptedSlice}
+use Rattle.files.specs.TypeReads.{AcceptedType}
 
 -- Every operation on a type and a slice begins in this way, and goes on as k says.
 abbrev pub with-both : {A : Type 0} → (types file : List ℕ) → (Ty → Prefix → Result A) → Result A

@@ -1,16 +1,17 @@
 -- What Feed knows of its files once it has read them: contracts inside the library, which no demand rests on.
 use mathlib.Core.Path.{_≡_}
 use mathlib.Core.List.{List}
-use Prim.Native.Nat.{ℕ, _+_, _*_, _≤_}
+use Prim.Native.Nat.{ℕ, _*_, _≤_}
 use lib.ListN.{length}
 use Rattle.stream.specs.Types.{Ty}
 use Rattle.stream.specs.Reading.{accepted}
 use Rattle.files.specs.declared.prefixes.Known.{Known}
-use Rattle.writing.specs.Writing.Standing.{AcceptedSlice}
+use Rattle.files.specs.SliceReads.{AcceptedSlice}
 use Rattle.node.specs.Nodes.{count}
 use Rattle.node.specs.Checking.{typing}
 use Rattle.patches.specs.declared.PatchPlace.{PatchPlace}
-use Rattle.patches.specs.PatchReads.Standing.{AcceptedPatch}
+use Rattle.patches.specs.PatchReads.{AcceptedPatch}
+use Rattle.stream.specs.Bounds.{twice-node-bytes}
 
 -- The patch is read and typed, the slice is a prefix of its input type, and leaves a type of `remains` nodes.
 pub record FeedRead (patch : List ℕ) (place : PatchPlace) (slice : List ℕ) (remains : ℕ) : Type 0 where
@@ -24,4 +25,4 @@ pub record FeedRead (patch : List ℕ) (place : PatchPlace) (slice : List ℕ) (
 -- And the work bytes for the nodes left have room for every patch of as many nodes.
 pub record SendDue (patch : List ℕ) (place : PatchPlace) (slice : List ℕ) (remains : ℕ) (nodes : List ℕ) : Type 0 where
   pub reads : FeedRead patch place slice remains
-  pub room : 257 * count (reads .read .patch .node) + 255 ≤ 2 * length nodes
+  pub room : twice-node-bytes (count (reads .read .patch .node)) ≤ 2 * length nodes

@@ -38,8 +38,8 @@ pub extern "C" fn wosthile_join(ty: &[u8], first: &[u8], second: &[u8], out: &mu
 }
 
 #[no_mangle]
-pub extern "C" fn wosthile_feed(patch: &[u8], slice: &[u8], out: &mut [u8], patch_left: &mut [u8]) -> Fed
-    ensures { λ r. ⌜ FeedPromise (now (patch .entry)) (now (slice .entry)) (now (out .entry)) (now (patch_left .entry)) r (now (out .exit)) (now (patch_left .exit)) ⌝ }
+pub extern "C" fn wosthile_feed(patch: &[u8], slice: &[u8], out: &mut [u8], next: &mut [u8]) -> Fed
+    ensures { λ r. ⌜ FeedPromise (now (patch .entry)) (now (slice .entry)) (now (out .entry)) (now (next .entry)) r (now (out .exit)) (now (next .exit)) ⌝ }
 {
-    feed(patch, slice, out, patch_left)
+    feed(patch, slice, out, next)
 }

@@ -1,5 +1,6 @@
 // The operations on files, for the frame loop: any bytes may be handed to them. What each promises stands in
 // Promises.antt of the crate `meaning`; `exports` has their names for C.
+use files::prefixes::MAX_FILE;
 use files::prefixes::SliceRead;
 use files::prefixes::read_slice_file;
 use files::types::TypeRead;
@@ -164,12 +165,12 @@ fn send(
     remains: usize,
     nodes: &mut [u8],
     out: &mut [u8],
-    patch_left: &mut [u8],
+    next: &mut [u8],
 ) -> Fed
     requires { ⌜ SendDue (now patch) place (now slice) remains (now nodes) ⌝ }
-    ensures { λ r. ⌜ FeedPromise (now (patch .entry)) (now (slice .entry)) (now (out .entry)) (now (patch_left .entry)) r (now (out .exit)) (now (patch_left .exit)) ⌝ }
+    ensures { λ r. ⌜ FeedPromise (now (patch .entry)) (now (slice .entry)) (now (out .entry)) (now (next .entry)) r (now (out .exit)) (now (next .exit)) ⌝ }
 {
-    let mut sent = [0u8; 513];
+    let mut sent = [0u8; MAX_FILE];
     let mut given = [0u8; 255];
     let start = place.input.start;
     let step = feed_node(
@@ -188,11 +189,11 @@ fn send(
     if out.len() < output {
         return refuse_feed(Fault::NoRoom);
     }
-    if patch_left.len() < kept {
+    if next.len() < kept {
         return refuse_feed(Fault::NoRoom);
     }
     write_section(&sent[..step.sent], out);
-    write_patch_left(patch, start, slice, remains, &nodes[..step.left], patch_left);
+    write_patch_left(patch, start, slice, remains, &nodes[..step.left], next);
     Fed {
         number: 0,
         output,
@@ -208,22 +209,22 @@ fn send_on(
     slice: &[u8],
     remains: usize,
     out: &mut [u8],
-    patch_left: &mut [u8],
+    next: &mut [u8],
 ) -> Fed
     requires { ⌜ FeedRead (now patch) place (now slice) remains ⌝ }
-    ensures { λ r. ⌜ FeedPromise (now (patch .entry)) (now (slice .entry)) (now (out .entry)) (now (patch_left .entry)) r (now (out .exit)) (now (patch_left .exit)) ⌝ }
+    ensures { λ r. ⌜ FeedPromise (now (patch .entry)) (now (slice .entry)) (now (out .entry)) (now (next .entry)) r (now (out .exit)) (now (next .exit)) ⌝ }
 {
     if patch.len() - place.nodes < 16 {
         let mut nodes = [0u8; 2055];
-        return send(patch, place, slice, remains, &mut nodes, out, patch_left);
+        return send(patch, place, slice, remains, &mut nodes, out, next);
     }
     let mut nodes = [0u8; PatchPlace::MAX_NODE_BYTES];
-    send(patch, place, slice, remains, &mut nodes, out, patch_left)
+    send(patch, place, slice, remains, &mut nodes, out, next)
 }
 
 // The file of what the patch sends on the slice, and that of the patch left.
-pub fn feed(patch: &[u8], slice: &[u8], out: &mut [u8], patch_left: &mut [u8]) -> Fed
-    ensures { λ r. ⌜ FeedPromise (now (patch .entry)) (now (slice .entry)) (now (out .entry)) (now (patch_left .entry)) r (now (out .exit)) (now (patch_left .exit)) ⌝ }
+pub fn feed(patch: &[u8], slice: &[u8], out: &mut [u8], next: &mut [u8]) -> Fed
+    ensures { λ r. ⌜ FeedPromise (now (patch .entry)) (now (slice .entry)) (now (out .entry)) (now (next .entry)) r (now (out .exit)) (now (next .exit)) ⌝ }
 {
     match read_patch_file(patch) {
         PatchRead::Refused(fault) => refuse_feed(fault),
@@ -239,7 +240,7 @@ pub fn feed(patch: &[u8], slice: &[u8], out: &mut [u8], patch_left: &mut [u8]) -
                         slice,
                         prefix.remains,
                         out,
-                        patch_left,
+                        next,
                     ),
                 },
             }

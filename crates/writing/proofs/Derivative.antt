@@ -14,8 +14,8 @@ use Rattle.files.specs.TypeReads.Laws.{type-before, type-width, starts-inside, 
 use Rattle.files.specs.SliceReads.{prefix-width, leaf-width, PrefixAt, SomePrefixAt, PrefixEnds}
 use Rattle.files.specs.SliceReads.Laws.{prefix-kind, width-positive, prefix-inside, kind-at, in-first-at, crossed-first-at, crossed-second-at, beside-first-at, beside-second-at}
 use Rattle.stream.specs.Buffers.{at-front}
-use Rattle.writing.specs.Writing.{leaf-left, Stands, DerivativeDue, Moves, DerivativeWritten}
-use Rattle.writing.specs.Writing.Laws.{part, back, byte, front-length, Begun, begins, goes-on, room-left, length-kept}
+use Rattle.writing.specs.Writing.{leaf-left, Stands, DerivativeDue, Moves, DerivativeWritten, Begun}
+use Rattle.writing.specs.Writing.Laws.{part, back, byte, front-length, begins, goes-on, room-left, length-kept}
 use Rattle.writing.proofs.PrefixKinds.{Case, by-kind, leaf-is}
 
 -- The first byte of type and prefix can be read, and one be written.

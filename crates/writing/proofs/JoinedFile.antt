@@ -4,7 +4,7 @@ use mathlib.Core.List.{List, []}
 use Prim.Native.Nat.{ℕ}
 use native.Mathlib.Omega.{arith}
 use Rattle.writing.specs.declared.Moved.{Moved}
-use Rattle.stream.specs.Prefixes.{concat}
+use Rattle.stream.specs.Prefixes.Functions.{concat}
 use Rattle.stream.specs.SliceFiles.{prefix-bytes, slice-file-bytes}
 use Rattle.files.specs.SliceReads.Laws.{prefix-bytes-length}
 use Rattle.stream.specs.Buffers.{at-front}

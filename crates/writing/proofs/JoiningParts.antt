@@ -6,12 +6,13 @@ use native.Mathlib.Omega.{arith}
 use lib.ListN.{length, getD, set}
 use Rattle.writing.specs.declared.Moved.{Moved}
 use Rattle.stream.specs.Types.{Ty}
-use Rattle.stream.specs.Prefixes.{Prefix, in-first, crossed, beside, IsPrefix, of-empty, of-cue-awaited, of-cue-come, of-level-awaited, of-level-come, of-first, of-crossed, of-beside, derivative, concat}
+use Rattle.stream.specs.Prefixes.{Prefix, in-first, crossed, beside, IsPrefix, of-empty, of-cue-awaited, of-cue-come, of-level-awaited, of-level-come, of-first, of-crossed, of-beside, derivative}
+use Rattle.stream.specs.Prefixes.Functions.{concat}
 use Rattle.stream.specs.SliceFiles.{prefix-bytes}
 use Rattle.files.specs.SliceReads.{prefix-width, PrefixAt}
 use Rattle.files.specs.SliceReads.Laws.{prefix-bytes-length, width-positive, prefix-before, prefix-inside, kind-at, in-first-at, crossed-first-at, crossed-second-at, beside-first-at, beside-second-at}
-use Rattle.writing.specs.Writing.{PrefixDue, PrefixWritten, Moves, Follows, ConcatDue, ConcatWritten}
-use Rattle.writing.specs.Writing.Laws.{part, back, front-length, Begun, begins, goes-on, room-left, length-kept}
+use Rattle.writing.specs.Writing.{PrefixDue, PrefixWritten, Moves, Follows, ConcatDue, ConcatWritten, Begun}
+use Rattle.writing.specs.Writing.Laws.{part, back, front-length, begins, goes-on, room-left, length-kept}
 
 -- How two prefixes meet, if the first has parts.
 data Meets (first : List ℕ) (at : ℕ) (second : List ℕ) (from : ℕ) : Prefix → Prefix → Type 0 where

@@ -6,13 +6,19 @@ use lib.ListN.{length, getD}
 use Rattle.writing.specs.declared.Moved.{Moved}
 use Rattle.stream.specs.Types.{Ty, size}
 use Rattle.stream.specs.Buffers.{at-front}
-use Rattle.stream.specs.Prefixes.{Prefix, Complete, IsPrefix, empty-prefix, derivative, concat}
+use Rattle.stream.specs.Prefixes.{Prefix, Complete, IsPrefix, empty-prefix, derivative}
+use Rattle.stream.specs.Prefixes.Functions.{concat}
 use Rattle.stream.specs.TypeFiles.{type-bytes, type-file-bytes}
 use Rattle.stream.specs.SliceFiles.{prefix-bytes, slice-file-bytes}
 use Rattle.files.specs.TypeReads.{TypeAt}
 use Rattle.files.specs.SliceReads.{prefix-width, PrefixAt}
 pub mod Laws
 pub mod Standing
+
+-- The first `written` bytes of what was lent, which is `now` by now.
+pub record Begun (bytes lent now : List ℕ) (written : ℕ) : Type 0 where
+  pub long : written ≡ length bytes
+  pub buffer : now ≡ at-front bytes lent
 
 -- The prefix at `at` is to be copied onto `lent`, which has room for it.
 pub record PrefixDue (bytes : List ℕ) (at : ℕ) (lent : List ℕ) : Type 0 where

@@ -9,7 +9,8 @@ use lib.Seq.{drop-drop, getD-drop, take-at}
 use Rattle.stream.specs.Types.{Ty}
 use Rattle.stream.specs.Levels.{value-bytes}
 use Rattle.stream.specs.Levels.Laws.{value-length}
-use Rattle.stream.specs.Prefixes.{Prefix, nothing, cue-awaited, cue-come, level-awaited, level-come, in-first, crossed, beside, IsPrefix, of-empty, of-cue-awaited, of-cue-come, of-level-awaited, of-level-come, of-first, of-crossed, of-beside, derivative, concat}
+use Rattle.stream.specs.Prefixes.{Prefix, nothing, cue-awaited, cue-come, level-awaited, level-come, in-first, crossed, beside, IsPrefix, of-empty, of-cue-awaited, of-cue-come, of-level-awaited, of-level-come, of-first, of-crossed, of-beside, derivative}
+use Rattle.stream.specs.Prefixes.Functions.{concat}
 use Rattle.stream.specs.Reading.Laws.{_&_, past, every}
 use Rattle.stream.specs.SliceFiles.{prefix-bytes}
 use Rattle.files.specs.SliceReads.{prefix-width, overlap, leaf-width, PrefixAt}

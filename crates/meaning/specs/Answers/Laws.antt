@@ -2,7 +2,7 @@
 use mathlib.Core.Path.{_≡_, refl, sym, ap, _∙_}
 use mathlib.Core.Logic.{_↔_}
 use mathlib.Core.Bool.{Bool, true, false}
-use mathlib.Core.List.{List, [], append-nil}
+use mathlib.Core.List.{List, [], _++_, append-nil}
 use Prim.Native.Nat.{ℕ, _+_, _*_, _/_, _%_, _≤_}
 use native.Mathlib.Omega.{arith}
 use native.Mathlib.Nat.{le-trans}
@@ -11,25 +11,26 @@ use lib.Seq.{take-append-seam}
 use borrow.Author.Tests.{le-leb}
 use Rattle.stream.specs.declared.Fault.{Fault}
 use Rattle.stream.specs.declared.Fault.the-variants.{CutShort, Unlisted, LeftOver, TypeTooLarge, TooManyNodes, NotNullable, WrongShape, SliceCutShort, SliceUnlisted, SliceLeftOver, SliceMisplaced, NoRoom}
-use Rattle.stream.specs.Faults.{number}
+use Rattle.stream.specs.Bounds.{type-file-limit, slice-file-limit, patch-file-limit}
+use Rattle.stream.specs.Faults.{number, type-numbers, slice-numbers, patch-numbers, Listed, contains}
 use Rattle.stream.specs.Types.{Ty, par}
 use Rattle.stream.specs.Types.Laws.{and-both}
-use Rattle.stream.specs.Prefixes.{Prefix, beside, IsPrefix, of-beside, complete, empty-prefix, derivative, concat}
-use Rattle.stream.specs.Prefixes.Laws.{derivative-size, concat-is-prefix, empty-prefix-is-prefix, left-lane-first, right-lane-first, right-lane-after, left-lane-after}
+use Rattle.stream.specs.Prefixes.{Prefix, beside, IsPrefix, of-beside, empty-prefix, derivative, Concat}
+use Rattle.stream.specs.Prefixes.Functions.{complete, concat}
+use Rattle.stream.specs.Prefixes.Laws.{derivative-size, concat-is-prefix, empty-prefix-is-prefix, left-lane-first, right-lane-first, right-lane-after, left-lane-after, concat-only, concats}
 use Rattle.stream.specs.Reading.{Bytes, Result, accepted, refused, IsAccepted, go-on, require, section-bytes}
 use Rattle.stream.specs.Reading.Laws.{bytes-nil, go-on-accepted, require-accepted}
-use Rattle.stream.specs.Reading.Refusals.{Refusals, go-on-refusals, require-refusals}
+use Rattle.stream.specs.Reading.Refusals.{Refusals, go-on-refusals, require-refusals, refusals-too, listed-first, listed-second}
 use Rattle.stream.specs.TypeFiles.{type-bytes, type-file, type-file-bytes, TypeFile}
 use Rattle.stream.specs.TypeFiles.Laws.{type-file-complete, type-file-sound, type-file-length, type-section-is-bytes, type-file-refusals}
 use Rattle.stream.specs.SliceFiles.{slice-file, slice-file-bytes, SliceFile}
 use Rattle.stream.specs.SliceFiles.Laws.{slice-file-complete, slice-file-sound, slice-file-accepted, slice-file-length, slice-file-is-bytes, slice-file-refusals}
-use Rattle.node.specs.Nodes.{Node, Small, Allowed}
-use Rattle.node.specs.Nodes.Laws.{output-small}
-use Rattle.node.specs.Feeding.{sends, leaves}
+use Rattle.node.specs.Nodes.{Node, Small, Allowed, patch-of}
+use Rattle.node.specs.Nodes.Laws.{output-small, allowed-fits}
 use Rattle.node.specs.Feeding.Laws.{preserved, leaves-allowed}
 use Rattle.node.specs.PatchFiles.{Checked, node-bytes, patch-file, patch-file-bytes, PatchFile}
 use Rattle.node.specs.PatchFiles.Laws.{patch-file-complete, patch-file-sound, patch-file-accepted, patch-file-length, patch-file-is-bytes, patch-file-refusals}
-use Rattle.meaning.specs.Answers.{check, admit, left, join, FedFiles, feed, with-room, fits-both, patch-numbers, admit-numbers, feed-numbers, contains, Listed, first-section}
+use Rattle.meaning.specs.Answers.{check, admit, left, join, FedFiles, feed, with-room, fits-both, admit-numbers, feed-numbers, first-section, fed-files}
 
 -- No refusal has the number 0, and none has more than two digits.
 pub number-bounds : (e : Fault) → (1 ≤ number e) × (number e ≤ 20)
@@ -51,7 +52,7 @@ number-positive e = number-bounds e .0
 
 -- What the operations make of files that the rules allow
 
-pub check-answers : {s t : Ty} {n : Node} → Allowed s n t → check (patch-file-bytes s n) ≡ accepted (type-file-bytes t)
+pub check-answers : {s t : Ty} {n : Node} → Allowed s n t → check (patch-file-bytes (patch-of s n)) ≡ accepted (type-file-bytes t)
 unfolding check
 check-answers a = rw (patch-file-complete a)
 
@@ -83,16 +84,13 @@ lanes-join {s} {t} w h k = (
 )
 
 -- Feed on an allowed patch is decided by the slice.
-abbrev pub fed-files : Ty → Node → Prefix → FedFiles
-fed-files s n p = record { output = slice-file-bytes (sends s n p); patch = patch-file-bytes (derivative s p) (leaves s n p) }
-
 pub feed-of-patch : {s t : Ty} {n : Node} (slice : List ℕ) → Allowed s n t
-    → feed (patch-file-bytes s n) slice ≡ go-on (slice-file s slice) (λ p. accepted (fed-files s n p))
+    → feed (patch-file-bytes (patch-of s n)) slice ≡ go-on (slice-file s slice) (λ p. accepted (fed-files (patch-of s n) p))
 unfolding feed
 feed-of-patch slice a = rw (patch-file-complete a)
 
 pub feed-answers : {s t : Ty} {n : Node} {p : Prefix} → Allowed s n t → IsPrefix s p
-    → feed (patch-file-bytes s n) (slice-file-bytes p) ≡ accepted (fed-files s n p)
+    → feed (patch-file-bytes (patch-of s n)) (slice-file-bytes p) ≡ accepted (fed-files (patch-of s n) p)
 feed-answers {p = p} a h = feed-of-patch (slice-file-bytes p) a ∙ rw (slice-file-complete h (a .input-small))
 
 -- What is accepted, 20 aside
@@ -136,12 +134,12 @@ admit-accepted type slice b c = (
       (complete (p .prefix), rw (t .bytes, p .bytes) at (admit-answers (t .small) (p .is-prefix)))),
 )
 
-pub feed-accepted : {patch : List ℕ} (slice : List ℕ) (f : PatchFile patch) → Bytes slice → IsAccepted (feed patch slice) ↔ SliceFile (f .input) slice
-feed-accepted slice f b = rw (← f .bytes) (go (f .input) (f .node) (f .output) (f .allowed))
+pub feed-accepted : {patch : List ℕ} (slice : List ℕ) (f : PatchFile patch) → Bytes slice → IsAccepted (feed patch slice) ↔ SliceFile (f .patch .input) slice
+feed-accepted slice f b = rw (← f .bytes) (go (f .patch .input) (f .patch .node) (f .output) (f .allowed))
   where
-    go : (s : Ty) (n : Node) (t : Ty) → Allowed s n t → IsAccepted (feed (patch-file-bytes s n) slice) ↔ SliceFile s slice
+    go : (s : Ty) (n : Node) (t : Ty) → Allowed s n t → IsAccepted (feed (patch-file-bytes (patch-of s n)) slice) ↔ SliceFile s slice
     go s n t a = (
-      (λ w. let x = go-on-accepted (slice-file s slice) (λ p. accepted (fed-files s n p)) (w .0) (sym (feed-of-patch slice a) ∙ w .1) in
+      (λ w. let x = go-on-accepted (slice-file s slice) (λ p. accepted (fed-files (patch-of s n) p)) (w .0) (sym (feed-of-patch slice a) ∙ w .1) in
           slice-file-accepted s slice (a .input-small) b .0 (x .0, x .1)),
       (λ g. (_, rw (g .bytes) at (feed-answers a (g .is-prefix)))),
     )
@@ -155,9 +153,12 @@ left-accepted type slice b c = (
 )
 
 -- Join of files that are what they should be.
-pub joins : {type first second : List ℕ} (t : TypeFile type) (p : SliceFile (t .type) first) (q : SliceFile (derivative (t .type) (p .prefix)) second)
-    → join type first second ≡ accepted (slice-file-bytes (concat (p .prefix) (q .prefix)))
-joins t p q = rw (t .bytes, p .bytes, q .bytes) at (join-answers (q .prefix) (t .small) (p .is-prefix) (q .is-prefix))
+pub joins : {type first second : List ℕ} {both : Prefix} (t : TypeFile type) (p : SliceFile (t .type) first)
+    (q : SliceFile (derivative (t .type) (p .prefix)) second) → Concat (p .prefix) (q .prefix) both
+    → join type first second ≡ accepted (slice-file-bytes both)
+joins t p q c =
+    rw (t .bytes, p .bytes, q .bytes) at (join-answers (q .prefix) (t .small) (p .is-prefix) (q .is-prefix))
+    ∙ ap (λ x. accepted (slice-file-bytes x)) (concat-only c)
 
 pub join-accepted : (type first second : List ℕ) → Bytes type → Bytes first → Bytes second
     → IsAccepted (join type first second)
@@ -170,7 +171,7 @@ join-accepted type first second b c d = (
       let y = go-on-accepted (slice-file (derivative t p) second) (λ q. accepted (slice-file-bytes (concat p q))) (a .0) (x .made) in
       let q = slice-file-sound (derivative t p) second (y .0) d (y .1) in
       (x .typed, x .sliced, record { prefix = y .0; is-prefix = q .1; bytes = q .0 })),
-  (λ x. (_, joins (x .0) (x .1) (x .2))),
+  (λ x. (_, joins (x .0) (x .1) (x .2) (concats _ (x .1 .is-prefix) (x .2 .is-prefix)))),
 )
 
 -- What Check refuses, Feed refuses too, whatever the slice.
@@ -179,7 +180,7 @@ unfolding check feed
 check-refused-feed patch slice {e} d = go (patch-file patch) d
   where
     go : (r : Result Checked) → go-on r (λ c. accepted (type-file-bytes (c .output))) ≡ refused e
-        → go-on r (λ c. go-on (slice-file (c .patch .input) slice) (λ p. accepted (fed-files (c .patch .input) (c .patch .node) p))) ≡ refused e
+        → go-on r (λ c. go-on (slice-file (c .patch .input) slice) (λ p. accepted (fed-files (c .patch) p))) ≡ refused e
     go (accepted c) h = let z : _≡_ {A = ℕ} 0 1 = cc in absurd (omega arith)
     go (refused x) h = let z : x ≡ e = cc in ap (λ y. refused y) z
 
@@ -215,38 +216,34 @@ pub record Refuses {A : Type 0} (ns : List ℕ) (r : Result A) : Type 0 where
 pub check-refuses : (patch : List ℕ) → Refuses patch-numbers (check patch)
 unfolding check
 check-refuses patch =
-    record {
-      only = go-on-refusals (Listed patch-numbers) (patch-file patch) _
-          (patch-file-refusals (Listed patch-numbers) refl refl refl refl refl refl refl patch) (λ c. tt);
-      not-20 = refl;
-    }
+    record { only = go-on-refusals (Listed patch-numbers) (patch-file patch) _ (patch-file-refusals patch) (λ c. tt); not-20 = refl }
 
 -- A slice after something else with the numbers ns.
-module _ (ns : List ℕ) (cut : Listed ns SliceCutShort) (unlisted : Listed ns SliceUnlisted) (misplaced : Listed ns SliceMisplaced) (over : Listed ns SliceLeftOver) where
-  then-slice : {A : Type 0} (t : Ty) (slice : List ℕ) (f : Prefix → Result A) → ((p : Prefix) → Refusals (Listed ns) (f p))
-      → Refusals (Listed ns) (go-on (slice-file t slice) f)
-  then-slice t slice f h = go-on-refusals (Listed ns) (slice-file t slice) f (slice-file-refusals (Listed ns) cut unlisted misplaced over t slice) h
+then-slice : (ns : List ℕ) {A : Type 0} (t : Ty) (slice : List ℕ) (f : Prefix → Result A) → ((p : Prefix) → Refusals (Listed (ns ++ slice-numbers)) (f p))
+    → Refusals (Listed (ns ++ slice-numbers)) (go-on (slice-file t slice) f)
+then-slice ns t slice f h =
+    go-on-refusals (Listed (ns ++ slice-numbers)) (slice-file t slice) f
+    (refusals-too (listed-second ns slice-numbers) (slice-file t slice) (slice-file-refusals t slice)) h
 
 after-type : {A : Type 0} (type : List ℕ) (f : Ty → Result A) → ((t : Ty) → Refusals (Listed admit-numbers) (f t))
     → Refusals (Listed admit-numbers) (go-on (type-file type) f)
-after-type type f h = go-on-refusals (Listed admit-numbers) (type-file type) f (type-file-refusals (Listed admit-numbers) refl refl refl refl type) h
+after-type type f h =
+    go-on-refusals (Listed admit-numbers) (type-file type) f
+    (refusals-too (listed-first type-numbers slice-numbers) (type-file type) (type-file-refusals type)) h
 
 pub admit-refuses : (type slice : List ℕ) → Refuses admit-numbers (admit type slice)
 unfolding admit
-admit-refuses type slice =
-    record { only = after-type type _ (λ t. then-slice admit-numbers refl refl refl refl t slice _ (λ p. tt)); not-20 = refl }
+admit-refuses type slice = record { only = after-type type _ (λ t. then-slice type-numbers t slice _ (λ p. tt)); not-20 = refl }
 
 pub left-refuses : (type slice : List ℕ) → Refuses admit-numbers (left type slice)
 unfolding left
-left-refuses type slice =
-    record { only = after-type type _ (λ t. then-slice admit-numbers refl refl refl refl t slice _ (λ p. tt)); not-20 = refl }
+left-refuses type slice = record { only = after-type type _ (λ t. then-slice type-numbers t slice _ (λ p. tt)); not-20 = refl }
 
 pub join-refuses : (type first second : List ℕ) → Refuses admit-numbers (join type first second)
 unfolding join
 join-refuses type first second =
     record {
-      only = after-type type _ (λ t. then-slice admit-numbers refl refl refl refl t first _
-          (λ p. then-slice admit-numbers refl refl refl refl (derivative t p) second _ (λ q. tt)));
+      only = after-type type _ (λ t. then-slice type-numbers t first _ (λ p. then-slice type-numbers (derivative t p) second _ (λ q. tt)));
       not-20 = refl;
     }
 
@@ -255,8 +252,8 @@ unfolding feed
 feed-refuses patch slice =
     record {
       only = go-on-refusals (Listed feed-numbers) (patch-file patch) _
-          (patch-file-refusals (Listed feed-numbers) refl refl refl refl refl refl refl patch)
-          (λ c. then-slice feed-numbers refl refl refl refl (c .patch .input) slice _ (λ p. tt));
+          (refusals-too (listed-first patch-numbers slice-numbers) (patch-file patch) (patch-file-refusals patch))
+          (λ c. then-slice patch-numbers (c .patch .input) slice _ (λ p. tt));
       not-20 = refl;
     }
 
@@ -266,31 +263,31 @@ pub record Sized (n : ℕ) (file : List ℕ) : Type 0 where
   pub short : length file ≤ n
   pub bytes : Bytes file
 
-type-sized : (t : Ty) → Small t → Sized 257 (type-file-bytes t)
+type-sized : (t : Ty) → Small t → Sized type-file-limit (type-file-bytes t)
 unfolding type-file-bytes
 type-sized t w = record { short = type-file-length t w; bytes = type-section-is-bytes t [] w bytes-nil }
 
-slice-sized : {t : Ty} {p : Prefix} → IsPrefix t p → Small t → Sized 513 (slice-file-bytes p)
+slice-sized : {t : Ty} {p : Prefix} → IsPrefix t p → Small t → Sized slice-file-limit (slice-file-bytes p)
 slice-sized h w = record { short = slice-file-length h w; bytes = slice-file-is-bytes h w }
 
-patch-sized : {s t : Ty} {n : Node} → Allowed s n t → Sized 8482 (patch-file-bytes s n)
+patch-sized : {s t : Ty} {n : Node} → Allowed s n t → Sized patch-file-limit (patch-file-bytes (patch-of s n))
 patch-sized a = record { short = patch-file-length a; bytes = patch-file-is-bytes a }
 
 pub record WritesSized (n : ℕ) (r : Result (List ℕ)) : Type 0 where
   pub sized : (file : List ℕ) → r ≡ accepted file → Sized n file
 
-check-file : (patch file : List ℕ) → Bytes patch → check patch ≡ accepted file → Sized 257 file
+check-file : (patch file : List ℕ) → Bytes patch → check patch ≡ accepted file → Sized type-file-limit file
 unfolding check
 check-file patch file b e =
     let x = go-on-accepted (patch-file patch) (λ c. accepted (type-file-bytes (c .output))) file e in
     let a = (patch-file-sound patch (x .0) b (x .1)) .allowed in
     let d : type-file-bytes (x .0 .output) ≡ file = let y = x .2 in cc in
-    rw (← d) (type-sized (x .0 .output) (output-small (a .types) (a .fits)))
+    rw (← d) (type-sized (x .0 .output) (output-small (a .types) (allowed-fits a)))
 
-pub check-sized : (patch : List ℕ) → Bytes patch → WritesSized 257 (check patch)
+pub check-sized : (patch : List ℕ) → Bytes patch → WritesSized type-file-limit (check patch)
 check-sized patch b = record { sized = λ file e. check-file patch file b e }
 
-left-file : (type slice file : List ℕ) → Bytes type → Bytes slice → left type slice ≡ accepted file → Sized 257 file
+left-file : (type slice file : List ℕ) → Bytes type → Bytes slice → left type slice ≡ accepted file → Sized type-file-limit file
 unfolding left
 left-file type slice file b c e =
     let x = type-and-slice type slice (λ t p. accepted (type-file-bytes (derivative t p))) file b c e in
@@ -299,49 +296,49 @@ left-file type slice file b c e =
     let d : type-file-bytes (derivative t p) ≡ file = let z = x .made in cc in
     rw (← d) (type-sized (derivative t p) (le-trans (derivative-size (x .sliced .is-prefix)) (x .typed .small)))
 
-pub left-sized : (type slice : List ℕ) → Bytes type → Bytes slice → WritesSized 257 (left type slice)
+pub left-sized : (type slice : List ℕ) → Bytes type → Bytes slice → WritesSized type-file-limit (left type slice)
 left-sized type slice b c = record { sized = λ file e. left-file type slice file b c e }
 
 joined-file : {t : Ty} {p : Prefix} (second file : List ℕ) → Small t → IsPrefix t p → Bytes second
-    → go-on (slice-file (derivative t p) second) (λ q. accepted (slice-file-bytes (concat p q))) ≡ accepted file → Sized 513 file
+    → go-on (slice-file (derivative t p) second) (λ q. accepted (slice-file-bytes (concat p q))) ≡ accepted file → Sized slice-file-limit file
 joined-file {t} {p} second file w h b e =
     let x = go-on-accepted (slice-file (derivative t p) second) (λ q. accepted (slice-file-bytes (concat p q))) file e in
     let k = slice-file-sound (derivative t p) second (x .0) b (x .1) .1 in
     let d : slice-file-bytes (concat p (x .0)) ≡ file = let z = x .2 in cc in
     rw (← d) (slice-sized (concat-is-prefix (x .0) h k) w)
 
-join-file : (type first second file : List ℕ) → Bytes type → Bytes first → Bytes second → join type first second ≡ accepted file → Sized 513 file
+join-file : (type first second file : List ℕ) → Bytes type → Bytes first → Bytes second → join type first second ≡ accepted file → Sized slice-file-limit file
 unfolding join
 join-file type first second file b c o e =
     let x = type-and-slice type first (λ t p. go-on (slice-file (derivative t p) second) (λ q. accepted (slice-file-bytes (concat p q)))) file b c e in
     joined-file second file (x .typed .small) (x .sliced .is-prefix) o (x .made)
 
-pub join-sized : (type first second : List ℕ) → Bytes type → Bytes first → Bytes second → WritesSized 513 (join type first second)
+pub join-sized : (type first second : List ℕ) → Bytes type → Bytes first → Bytes second → WritesSized slice-file-limit (join type first second)
 join-sized type first second b c d = record { sized = λ file e. join-file type first second file b c d e }
 
 pub record FedSized (w : FedFiles) : Type 0 where
-  pub output : Sized 513 (w .output)
-  pub patch : Sized 8482 (w .patch)
+  pub output : Sized slice-file-limit (w .output)
+  pub patch : Sized patch-file-limit (w .patch)
 
 pub record FeedsSized (r : Result FedFiles) : Type 0 where
   pub sized : (w : FedFiles) → r ≡ accepted w → FedSized w
 
 pub feed-sized : {patch : List ℕ} (slice : List ℕ) → PatchFile patch → Bytes slice → FeedsSized (feed patch slice)
-feed-sized slice f b = record { sized = λ w e. go w (f .input) (f .node) (f .output) (f .allowed) (rw (← f .bytes) at e) }
+feed-sized slice f b = record { sized = λ w e. go w (f .patch .input) (f .patch .node) (f .output) (f .allowed) (rw (← f .bytes) at e) }
   where
-    go : (w : FedFiles) (s : Ty) (n : Node) (t : Ty) → Allowed s n t → feed (patch-file-bytes s n) slice ≡ accepted w → FedSized w
+    go : (w : FedFiles) (s : Ty) (n : Node) (t : Ty) → Allowed s n t → feed (patch-file-bytes (patch-of s n)) slice ≡ accepted w → FedSized w
     go w s n t a e =
-        let x = go-on-accepted (slice-file s slice) (λ p. accepted (fed-files s n p)) w (sym (feed-of-patch slice a) ∙ e) in
+        let x = go-on-accepted (slice-file s slice) (λ p. accepted (fed-files (patch-of s n) p)) w (sym (feed-of-patch slice a) ∙ e) in
         let h = slice-file-sound s slice (x .0) b (x .1) .1 in
-        let d : fed-files s n (x .0) ≡ w = let z = x .2 in cc in
+        let d : fed-files (patch-of s n) (x .0) ≡ w = let z = x .2 in cc in
         rw (← d)
-        (record { output = slice-sized ((preserved (a .types) h) .sent) (output-small (a .types) (a .fits)); patch = patch-sized (leaves-allowed a h) })
+        (record { output = slice-sized ((preserved (a .types) h) .sent) (output-small (a .types) (allowed-fits a)); patch = patch-sized (leaves-allowed a h) })
 
 -- An accepted feed was of a patch file.
 pub fed-patch : (patch slice : List ℕ) (w : FedFiles) → Bytes patch → feed patch slice ≡ accepted w → PatchFile patch
 unfolding feed
 fed-patch patch slice w b e =
-    let x = go-on-accepted (patch-file patch) (λ c. go-on (slice-file (c .patch .input) slice) (λ p. accepted (fed-files (c .patch .input) (c .patch .node) p))) w e in
+    let x = go-on-accepted (patch-file patch) (λ c. go-on (slice-file (c .patch .input) slice) (λ p. accepted (fed-files (c .patch) p))) w e in
     patch-file-accepted patch b .0 (x .0, x .1)
 
 pub feed-sized-of-bytes : (patch slice : List ℕ) → Bytes patch → Bytes slice → FeedsSized (feed patch slice)
@@ -349,7 +346,7 @@ feed-sized-of-bytes patch slice b c = record { sized = λ w e. (feed-sized slice
 
 -- Feed accepts exactly a patch file with a slice file of its input type.
 pub feed-accepted-of-bytes : (patch slice : List ℕ) → Bytes patch → Bytes slice
-    → IsAccepted (feed patch slice) ↔ ((f : PatchFile patch) × SliceFile (f .input) slice)
+    → IsAccepted (feed patch slice) ↔ ((f : PatchFile patch) × SliceFile (f .patch .input) slice)
 feed-accepted-of-bytes patch slice b c = (
   (λ a. let f = fed-patch patch slice (a .0) b (a .1) in (f, feed-accepted slice f c .0 a)),
   (λ x. feed-accepted slice (x .0) c .1 (x .1)),
@@ -363,6 +360,6 @@ first-section-of body r =
     let e : length body / 256 * 256 + length body % 256 ≡ length body = omega arith in
     rw (e, take-append-seam body r, append-nil body)
 
-pub first-section-of-patch : (s : Ty) (n : Node) → first-section (patch-file-bytes s n) ≡ type-file-bytes s
+pub first-section-of-patch : (s : Ty) (n : Node) → first-section (patch-file-bytes (patch-of s n)) ≡ type-file-bytes s
 unfolding patch-file-bytes type-file-bytes
 first-section-of-patch s n = first-section-of (type-bytes s []) (section-bytes (node-bytes n []) [])

@@ -1,38 +1,20 @@
 -- The second pass accepts exactly what the typing rules and the limit allow.
-use mathlib.Core.Path.{_≡_}
+use mathlib.Core.Path.{_≡_, refl}
 use mathlib.Core.Bool.{Bool, true, _&&_}
-use Prim.Native.Nat.{_<_}
 use lib.Dec.{leb}
 use borrow.Author.Tests.{leb-true, le-leb}
 use Rattle.stream.specs.declared.Fault.{Fault}
 use Rattle.stream.specs.declared.Fault.the-variants.{TypeTooLarge, NotNullable, WrongShape}
 use Rattle.stream.specs.Types.{Ty, empty, cue, level, seq, par, nullable, size, type-limit, first-part, second-part, has-kind}
 use Rattle.stream.specs.Types.Laws.{and-left, and-right, nullable-sound, nullable-complete, made-of}
-use Rattle.stream.specs.Levels.{level-limit}
+use Rattle.stream.specs.Faults.{patch-numbers, Listed}
 use Rattle.stream.specs.Reading.{Result, accepted, require, go-on}
 use Rattle.stream.specs.Reading.Refusals.{Refusals, go-on-refusals, require-refusals}
 use Rattle.stream.specs.Reading.Laws.{go-on-accepted, require-accepted}
-use Rattle.node.specs.Nodes.{Node, pass, silent, emit-cue, emit-level, both, left-side, right-side, first, second, then, chain, regroup-right, regroup-left, spread, front, Takes, takes-pass, takes-silent, takes-cue, takes-level, takes-both, takes-left, takes-right, takes-first, takes-second, takes-then, takes-chain, takes-regroup-right, takes-regroup-left, takes-spread, takes-front, output-type, Small, Fits}
+use Rattle.node.specs.Nodes.{Node, pass, silent, emit-cue, emit-level, both, left-side, right-side, first, second, then, chain, regroup-right, regroup-left, spread, front, Takes, takes-pass, takes-silent, takes-cue, takes-level, takes-both, takes-left, takes-right, takes-first, takes-second, takes-then, takes-chain, takes-regroup-right, takes-regroup-left, takes-spread, takes-front, Small}
+use Rattle.node.specs.Nodes.Functions.{output-type, Fits, Carries}
 use Rattle.node.specs.Nodes.Laws.{output-type-is}
 use Rattle.node.specs.Checking.{gives, typing}
-
--- What nodes carry is within its limits, as the reader of nodes sees to.
-abbrev pub Carries : Node → Type 0
-Carries pass = Unit
-Carries (silent n) = Small n
-Carries emit-cue = Unit
-Carries (emit-level v) = v < level-limit
-Carries (both n m) = Carries n × Carries m
-Carries left-side = Unit
-Carries right-side = Unit
-Carries first = Unit
-Carries second = Unit
-Carries (then n m) = Carries n × Carries m
-Carries (chain n m) = Carries n × Carries m
-Carries regroup-right = Unit
-Carries regroup-left = Unit
-Carries spread = Unit
-Carries front = Unit
 
 pub types-carries : {s t : Ty} {n : Node} → Takes s n t → Fits s n → Carries n
 types-carries takes-pass f = tt
@@ -174,36 +156,39 @@ typing-complete takes-regroup-left f = gives-small f
 typing-complete takes-spread f = gives-small f
 typing-complete takes-front f = gives-small f
 
--- The refusals of the pass are 4, 6 and 7.
-module _ (P : Fault → Type 0) (large : P TypeTooLarge) (null : P NotNullable) (shape : P WrongShape) where
-  gives-refusals : (t : Ty) → Refusals P (gives t)
-  unfolding gives
-  gives-refusals t = require-refusals P (leb (size t) type-limit) TypeTooLarge (accepted t) large tt
+-- The refusals of the pass are a patch's: 4, 6 and 7.
 
-  shaped : (b : Bool) (r : Result Ty) → Refusals P r → Refusals P (require b WrongShape r)
-  shaped b r h = require-refusals P b WrongShape r shape h
+abbrev TypingFault : Fault → Type 0
+TypingFault = Listed patch-numbers
 
-  pub typing-refusals : (s : Ty) (n : Node) → Refusals P (typing s n)
-  unfolding typing
-  typing-refusals s pass = gives-refusals s
-  typing-refusals s (silent n) = require-refusals P (nullable n) NotNullable (gives n) null (gives-refusals n)
-  typing-refusals s emit-cue = gives-refusals cue
-  typing-refusals s (emit-level v) = gives-refusals level
-  typing-refusals s (both n m) =
-      go-on-refusals P (typing s n) _ (typing-refusals s n)
-      (λ t. go-on-refusals P (typing s m) _ (typing-refusals s m) (λ r. gives-refusals (par t r)))
-  typing-refusals s left-side = shaped (has-kind 4 s) _ (gives-refusals (first-part s))
-  typing-refusals s right-side = shaped (has-kind 4 s) _ (gives-refusals (second-part s))
-  typing-refusals s first = shaped (has-kind 3 s) _ (gives-refusals (first-part s))
-  typing-refusals s second = shaped (has-kind 3 s) _ (gives-refusals (second-part s))
-  typing-refusals s (then n m) =
-      shaped (has-kind 3 s) _
-      (go-on-refusals P (typing (first-part s) n) _ (typing-refusals (first-part s) n)
-      (λ t. go-on-refusals P (typing (second-part s) m) _ (typing-refusals (second-part s) m) (λ r. gives-refusals (seq t r))))
-  typing-refusals s (chain n m) =
-      go-on-refusals P (typing s n) _ (typing-refusals s n)
-      (λ t. go-on-refusals P (typing t m) _ (typing-refusals t m) (λ r. gives-refusals r))
-  typing-refusals s regroup-right = shaped (has-kind 3 s && has-kind 3 (first-part s)) _ (gives-refusals _)
-  typing-refusals s regroup-left = shaped (has-kind 3 s && has-kind 3 (second-part s)) _ (gives-refusals _)
-  typing-refusals s spread = shaped (has-kind 3 s && has-kind 4 (second-part s)) _ (gives-refusals _)
-  typing-refusals s front = gives-refusals (seq empty s)
+gives-refusals : (t : Ty) → Refusals TypingFault (gives t)
+unfolding gives
+gives-refusals t = require-refusals TypingFault (leb (size t) type-limit) TypeTooLarge (accepted t) refl tt
+
+shaped : (b : Bool) (r : Result Ty) → Refusals TypingFault r → Refusals TypingFault (require b WrongShape r)
+shaped b r h = require-refusals TypingFault b WrongShape r refl h
+
+pub typing-refusals : (s : Ty) (n : Node) → Refusals (Listed patch-numbers) (typing s n)
+unfolding typing
+typing-refusals s pass = gives-refusals s
+typing-refusals s (silent n) = require-refusals TypingFault (nullable n) NotNullable (gives n) refl (gives-refusals n)
+typing-refusals s emit-cue = gives-refusals cue
+typing-refusals s (emit-level v) = gives-refusals level
+typing-refusals s (both n m) =
+    go-on-refusals TypingFault (typing s n) _ (typing-refusals s n)
+    (λ t. go-on-refusals TypingFault (typing s m) _ (typing-refusals s m) (λ r. gives-refusals (par t r)))
+typing-refusals s left-side = shaped (has-kind 4 s) _ (gives-refusals (first-part s))
+typing-refusals s right-side = shaped (has-kind 4 s) _ (gives-refusals (second-part s))
+typing-refusals s first = shaped (has-kind 3 s) _ (gives-refusals (first-part s))
+typing-refusals s second = shaped (has-kind 3 s) _ (gives-refusals (second-part s))
+typing-refusals s (then n m) =
+    shaped (has-kind 3 s) _
+    (go-on-refusals TypingFault (typing (first-part s) n) _ (typing-refusals (first-part s) n)
+    (λ t. go-on-refusals TypingFault (typing (second-part s) m) _ (typing-refusals (second-part s) m) (λ r. gives-refusals (seq t r))))
+typing-refusals s (chain n m) =
+    go-on-refusals TypingFault (typing s n) _ (typing-refusals s n)
+    (λ t. go-on-refusals TypingFault (typing t m) _ (typing-refusals t m) (λ r. gives-refusals r))
+typing-refusals s regroup-right = shaped (has-kind 3 s && has-kind 3 (first-part s)) _ (gives-refusals _)
+typing-refusals s regroup-left = shaped (has-kind 3 s && has-kind 3 (second-part s)) _ (gives-refusals _)
+typing-refusals s spread = shaped (has-kind 3 s && has-kind 4 (second-part s)) _ (gives-refusals _)
+typing-refusals s front = gives-refusals (seq empty s)

@@ -4,7 +4,7 @@ use mathlib.Core.List.{List, [], _∷_}
 use Rattle.stream.specs.Types.{Ty, empty, cue, level, seq, par}
 use Rattle.stream.specs.Prefixes.{Prefix, nothing, cue-awaited, cue-come, level-awaited, level-come, in-first, crossed, beside}
 use Rattle.node.specs.Nodes.{Node, pass, silent, emit-cue, emit-level, both, left-side, right-side, first, second, then, chain, regroup-right, regroup-left, spread, front}
-use Rattle.node.specs.Feeding.{sends, leaves}
+use Rattle.node.specs.Feeding.Functions.{sends, leaves}
 use Rattle.node.specs.Computing.{node-definitions}
 
 -- A row: the input type, the node and the prefix fed; then the prefix sent and the node left.

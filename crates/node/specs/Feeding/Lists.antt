@@ -2,10 +2,11 @@
 use mathlib.Core.Path.{_≡_, refl, ap, _∙_}
 use mathlib.Core.List.{List, [], _∷_}
 use Rattle.stream.specs.Types.{Ty}
-use Rattle.stream.specs.Prefixes.{Prefix, IsPrefix, derivative, concat}
+use Rattle.stream.specs.Prefixes.{Prefix, IsPrefix, derivative}
+use Rattle.stream.specs.Prefixes.Functions.{concat}
 use Rattle.stream.specs.Prefixes.Laws.{concat-is-prefix, derivative-concat}
 use Rattle.node.specs.Nodes.{Node, Takes, Allowed}
-use Rattle.node.specs.Feeding.{sends, leaves}
+use Rattle.node.specs.Feeding.Functions.{sends, leaves}
 use Rattle.node.specs.Feeding.Laws.{preserved, feed-concat, leaves-allowed}
 
 -- Each is a prefix of what the earlier ones leave.

@@ -6,24 +6,28 @@ use Prim.Native.Nat.{ℕ, suc, _+_, _*_, _≤_}
 use native.Mathlib.Omega.{arith}
 use lib.ListN.{length, getD, length-append}
 use Rattle.stream.specs.declared.Fault.{Fault}
-use Rattle.stream.specs.declared.Fault.the-variants.{CutShort, Unlisted, LeftOver, TypeTooLarge, TooManyNodes, NotNullable, WrongShape}
+use Rattle.stream.specs.declared.Fault.the-variants.{CutShort, Unlisted, LeftOver, TooManyNodes}
 use Rattle.stream.specs.Types.{Ty, type-limit}
+use Rattle.stream.specs.Bounds.{twice-node-bytes, nodes-limit, patch-file-limit}
+use Rattle.stream.specs.Faults.{type-numbers, patch-numbers, Listed}
 use Rattle.stream.specs.Levels.{value-bytes, read-value}
 use Rattle.stream.specs.Levels.Laws.{value-length, value-is-bytes, value-reads, value-sound, value-faults}
 use Rattle.stream.specs.Reading.{Bytes, Reading, read, fault, accepted, IsAccepted, read-on, section-bytes, Root, leaf, two-parts}
 use Rattle.stream.specs.Reading.Laws.{Reads, reads-leaf, reads-two, tree-reads, RootIs, leaf-is, two-is, tree-sound, section-reads, section-sound, whole-sound, _&_, past, every, bytes-tail, bytes-nil, bytes-cons, section-is-bytes, read-on-read, go-on-accepted}
-use Rattle.stream.specs.Reading.Refusals.{Faults, Refusals, read-on-faults, go-on-refusals, section-faults, tree-faults, whole-refusals}
+use Rattle.stream.specs.Reading.Refusals.{Faults, Refusals, read-on-faults, go-on-refusals, section-faults, tree-faults, whole-refusals, faults-too, listed-first}
 use Rattle.stream.specs.TypeFiles.{type-bytes, read-type, type-section}
 use Rattle.stream.specs.TypeFiles.Laws.{type-length, type-is-bytes, type-section-is-bytes, read-type-reads, read-type-sound, type-section-reads, type-section-sound, read-type-faults, type-section-faults}
-use Rattle.node.specs.Nodes.{Node, pass, silent, emit-cue, emit-level, both, left-side, right-side, first, second, then, chain, regroup-right, regroup-left, spread, front, count, node-limit, Small, Allowed}
+use Rattle.node.specs.Nodes.{Node, pass, silent, emit-cue, emit-level, both, left-side, right-side, first, second, then, chain, regroup-right, regroup-left, spread, front, count, node-limit, Small, Allowed, Patch, patch-of}
+use Rattle.node.specs.Nodes.Laws.{allowed as is-allowed, allowed-fits}
 use Rattle.node.specs.Checking.{typing}
-use Rattle.node.specs.Checking.Laws.{Carries, types-carries, typing-sound, typing-complete, typing-refusals}
-use Rattle.node.specs.PatchFiles.{node-bytes, patch-file-bytes, PatchFile, node-kinds, node-root, read-node, node-section, Patch, Checked, patch-sections, first-pass, second-pass, patch-file}
+use Rattle.node.specs.Checking.Laws.{types-carries, typing-sound, typing-complete, typing-refusals}
+use Rattle.node.specs.Nodes.Functions.{Carries}
+use Rattle.node.specs.PatchFiles.{node-bytes, patch-file-bytes, PatchFile, node-kinds, node-root, read-node, node-section, Checked, patch-sections, first-pass, second-pass, patch-file}
 
 -- Lengths
 
 -- A silent takes at most 256 bytes and every other node at most three; of c nodes at most (c + 1) / 2 have no parts.
-pub node-length : (n : Node) (r : List ℕ) → Carries n → 2 * length (node-bytes n r) ≤ 257 * count n + 255 + 2 * length r
+pub node-length : (n : Node) (r : List ℕ) → Carries n → 2 * length (node-bytes n r) ≤ twice-node-bytes (count n) + 2 * length r
 unfolding node-bytes count type-limit
 node-length pass r f = omega arith
 node-length (silent n) r f = omega (arith, type-length n r)
@@ -41,16 +45,16 @@ node-length regroup-left r f = omega arith
 node-length spread r f = omega arith
 node-length front r f = omega arith
 
-nodes-short : (n : Node) → Carries n → count n ≤ node-limit → length (node-bytes n []) ≤ 8223
+pub nodes-length : (n : Node) → Carries n → count n ≤ node-limit → length (node-bytes n []) ≤ nodes-limit
 unfolding node-limit
-nodes-short n f h = omega (arith, node-length n [] f)
+nodes-length n f h = omega (arith, node-length n [] f)
 
 -- "No file is longer than 8,482 bytes."
-pub patch-file-length : {s t : Ty} {n : Node} → Allowed s n t → length (patch-file-bytes s n) ≤ 8482
+pub patch-file-length : {s t : Ty} {n : Node} → Allowed s n t → length (patch-file-bytes (patch-of s n)) ≤ patch-file-limit
 unfolding patch-file-bytes section-bytes type-limit
 patch-file-length {s} {t} {n} a =
     rw (append-nil (node-bytes n []), length-append (type-bytes s []) _)
-    (omega (arith, type-length s [], nodes-short n (types-carries (a .types) (a .fits)) (a .few), a .input-small))
+    (omega (arith, type-length s [], nodes-length n (types-carries (a .types) (allowed-fits a)) (a .few), a .input-small))
 
 -- What is written are bytes
 
@@ -72,12 +76,12 @@ node-is-bytes regroup-left r f b = bytes-cons 12 r (omega arith) b
 node-is-bytes spread r f b = bytes-cons 13 r (omega arith) b
 node-is-bytes front r f b = bytes-cons 14 r (omega arith) b
 
-pub patch-file-is-bytes : {s t : Ty} {n : Node} → Allowed s n t → Bytes (patch-file-bytes s n)
+pub patch-file-is-bytes : {s t : Ty} {n : Node} → Allowed s n t → Bytes (patch-file-bytes (patch-of s n))
 unfolding patch-file-bytes
 patch-file-is-bytes {s} {t} {n} a =
-    let f = types-carries (a .types) (a .fits) in
+    let f = types-carries (a .types) (allowed-fits a) in
     type-section-is-bytes s (section-bytes (node-bytes n []) []) (a .input-small)
-    (section-is-bytes (node-bytes n []) [] (omega (arith, nodes-short n f (a .few))) (node-is-bytes n [] f bytes-nil) bytes-nil)
+    (section-is-bytes (node-bytes n []) [] (omega (arith, nodes-length n f (a .few))) (node-is-bytes n [] f bytes-nil) bytes-nil)
 
 -- Reading what was written
 
@@ -109,11 +113,11 @@ node-section-reads n r f h =
     section-reads CutShort LeftOver read-node (node-bytes n []) r n (read-node-reads n [] f h)
 
 pub patch-file-complete : {s t : Ty} {n : Node} → Allowed s n t
-    → patch-file (patch-file-bytes s n) ≡ accepted (record { patch = record { input = s; node = n }; output = t })
+    → patch-file (patch-file-bytes (patch-of s n)) ≡ accepted (record { patch = patch-of s n; output = t })
 unfolding patch-file first-pass patch-sections second-pass patch-file-bytes
 patch-file-complete {s} {t} {n} a =
     rw (type-section-reads s (section-bytes (node-bytes n []) []) (a .input-small))
-    (rw (node-section-reads n [] (types-carries (a .types) (a .fits)) (a .few)) (rw (typing-complete (a .types) (a .fits))))
+    (rw (node-section-reads n [] (types-carries (a .types) (allowed-fits a)) (a .few)) (rw (typing-complete (a .types) (allowed-fits a))))
 
 -- What was read was written
 
@@ -192,7 +196,7 @@ node-section-sound s n r b e =
     record { bytes = rw (g .bytes) (f .bytes); carries = g .is; few = g .few }
 
 pub record FoundPatch (s : List ℕ) (p : Patch) : Type 0 where
-  pub bytes : patch-file-bytes (p .input) (p .node) ≡ s
+  pub bytes : patch-file-bytes p ≡ s
   pub input-small : Small (p .input)
   pub carries : Carries (p .node)
   pub few : count (p .node) ≤ node-limit
@@ -213,7 +217,7 @@ first-pass-sound s p b e =
 
 -- The trees of an accepted patch file, its bytes, and that they are allowed.
 pub record Accepted (s : List ℕ) (c : Checked) : Type 0 where
-  pub bytes : patch-file-bytes (c .patch .input) (c .patch .node) ≡ s
+  pub bytes : patch-file-bytes (c .patch) ≡ s
   pub allowed : Allowed (c .patch .input) (c .patch .node) (c .output)
 
 pub patch-file-sound : (s : List ℕ) (c : Checked) → Bytes s → patch-file s ≡ accepted c → Accepted s c
@@ -224,9 +228,9 @@ patch-file-sound s c b e =
     let f = first-pass-sound s (x .0) b (x .1) in
     let g = typing-sound (x .0 .input) (x .0 .node) (y .0) (f .carries) (y .1) in
     go (x .0) (y .0) (let d = y .2 in cc) (f .bytes)
-    (record { types = g .types; input-small = f .input-small; few = f .few; fits = g .fits })
+    (is-allowed (g .types) (f .input-small) (f .few) (g .fits))
   where
-    go : (p : Patch) (t : Ty) → _≡_ {A = Checked} (record { patch = p; output = t }) c → patch-file-bytes (p .input) (p .node) ≡ s
+    go : (p : Patch) (t : Ty) → _≡_ {A = Checked} (record { patch = p; output = t }) c → patch-file-bytes p ≡ s
         → Allowed (p .input) (p .node) t → Accepted s c
     go p t h e a = rw (← h) (record { bytes = e; allowed = a })
 
@@ -235,43 +239,50 @@ patch-file-accepted s b = (
   (λ a.
       let f = patch-file-sound s (a .0) b (a .1) in
       let c = a .0 in
-      record { input = c .patch .input; node = c .patch .node; output = c .output; allowed = f .allowed; bytes = f .bytes }),
+      record { patch = c .patch; output = c .output; allowed = f .allowed; bytes = f .bytes }),
   (λ f. (_, rw (f .bytes) at (patch-file-complete (f .allowed)))),
 )
 
 -- The refusals of a patch file are 1 to 7.
-module _ (P : Fault → Type 0) (cut : P CutShort) (unlisted : P Unlisted) (over : P LeftOver) (large : P TypeTooLarge) (many : P TooManyNodes) where
-  kinds-faults : (s : List ℕ) (k : ℕ) → Faults P (getD node-kinds k (λ r. fault Unlisted) s)
-  kinds-faults s =
-      every (λ k f. Faults P (f s)) (λ r. fault Unlisted) node-kinds
-      (tt
-      & read-on-faults P (read-type s) _ (read-type-faults P cut unlisted large s) (λ n r. tt)
-      & tt
-      & read-on-faults P (read-value CutShort s) _ (value-faults P CutShort cut s) (λ v r. tt)
-      & tt & tt & tt & tt & tt & tt & tt & tt & tt & tt & tt
-      & past (λ k h. unlisted))
 
-  root-faults : (w : Unit {0}) (s : List ℕ) → Faults P (node-root w s)
-  unfolding node-root
-  root-faults w [] = cut
-  root-faults w (k ∷ s) = kinds-faults s k
+abbrev PatchFault : Fault → Type 0
+PatchFault = Listed patch-numbers
 
-  read-node-faults : (s : List ℕ) → Faults P (read-node s)
-  unfolding read-node
-  read-node-faults s = tree-faults P TooManyNodes node-root many root-faults node-limit tt s
+-- A type's refusals are a patch's.
+type-fault : (e : Fault) → Listed type-numbers e → PatchFault e
+type-fault e h = listed-first type-numbers (5 ∷ 6 ∷ 7 ∷ []) e h
 
-  sections-faults : (s : List ℕ) → Faults P (patch-sections s)
-  unfolding patch-sections node-section
-  sections-faults s =
-      read-on-faults P (type-section s) _ (type-section-faults P cut unlisted large over s)
-      (λ t r. read-on-faults P (node-section r) _ (section-faults P CutShort LeftOver read-node cut over read-node-faults r) (λ n x. tt))
+kinds-faults : (s : List ℕ) (k : ℕ) → Faults PatchFault (getD node-kinds k (λ r. fault Unlisted) s)
+kinds-faults s =
+    every (λ k f. Faults PatchFault (f s)) (λ r. fault Unlisted) node-kinds
+    (tt
+    & read-on-faults PatchFault (read-type s) _ (faults-too type-fault (read-type s) (read-type-faults s)) (λ n r. tt)
+    & tt
+    & read-on-faults PatchFault (read-value CutShort s) _ (value-faults PatchFault CutShort refl s) (λ v r. tt)
+    & tt & tt & tt & tt & tt & tt & tt & tt & tt & tt & tt
+    & past (λ k h. refl))
 
-  first-pass-refusals : (s : List ℕ) → Refusals P (first-pass s)
-  unfolding first-pass
-  first-pass-refusals s = whole-refusals P LeftOver (patch-sections s) over (sections-faults s)
+root-faults : (w : Unit {0}) (s : List ℕ) → Faults PatchFault (node-root w s)
+unfolding node-root
+root-faults w [] = refl
+root-faults w (k ∷ s) = kinds-faults s k
 
-  pub patch-file-refusals : P NotNullable → P WrongShape → (s : List ℕ) → Refusals P (patch-file s)
-  unfolding patch-file second-pass
-  patch-file-refusals null shape s =
-      go-on-refusals P (first-pass s) _ (first-pass-refusals s)
-      (λ p. go-on-refusals P (typing (p .input) (p .node)) _ (typing-refusals P large null shape (p .input) (p .node)) (λ t. tt))
+read-node-faults : (s : List ℕ) → Faults PatchFault (read-node s)
+unfolding read-node
+read-node-faults s = tree-faults PatchFault TooManyNodes node-root refl root-faults node-limit tt s
+
+sections-faults : (s : List ℕ) → Faults PatchFault (patch-sections s)
+unfolding patch-sections node-section
+sections-faults s =
+    read-on-faults PatchFault (type-section s) _ (faults-too type-fault (type-section s) (type-section-faults s))
+    (λ t r. read-on-faults PatchFault (node-section r) _ (section-faults PatchFault CutShort LeftOver read-node refl refl read-node-faults r) (λ n x. tt))
+
+first-pass-refusals : (s : List ℕ) → Refusals PatchFault (first-pass s)
+unfolding first-pass
+first-pass-refusals s = whole-refusals PatchFault LeftOver (patch-sections s) refl (sections-faults s)
+
+pub patch-file-refusals : (s : List ℕ) → Refusals (Listed patch-numbers) (patch-file s)
+unfolding patch-file second-pass
+patch-file-refusals s =
+    go-on-refusals PatchFault (first-pass s) _ (first-pass-refusals s)
+    (λ p. go-on-refusals PatchFault (typing (p .input) (p .node)) _ (typing-refusals (p .input) (p .node)) (λ t. tt))

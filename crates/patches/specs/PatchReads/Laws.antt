@@ -13,7 +13,7 @@ use Rattle.stream.specs.TypeFiles.{type-bytes}
 use Rattle.files.specs.TypeReads.{TypeAt}
 use Rattle.files.specs.TypeReads.Laws.{type-before, type-width}
 use Rattle.node.specs.Nodes.{Node, pass, silent, emit-cue, emit-level, both, left-side, right-side, first, second, then, chain, regroup-right, regroup-left, spread, front, count}
-use Rattle.node.specs.Checking.Laws.{Carries}
+use Rattle.node.specs.Nodes.Functions.{Carries}
 use Rattle.node.specs.PatchFiles.{node-bytes}
 use Rattle.patches.specs.PatchReads.{node-arity, node-width, NodeAt}
 

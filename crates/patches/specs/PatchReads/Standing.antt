@@ -2,7 +2,7 @@
 -- hands on to the second pass.
 use mathlib.Core.Path.{_≡_, refl, sym, ap, _∙_}
 use mathlib.Core.List.{List, [], append-nil}
-use Prim.Native.Nat.{ℕ, _+_, _≤_}
+use Prim.Native.Nat.{ℕ, _+_}
 use native.Mathlib.Omega.{arith}
 use lib.ListN.{drop}
 use lib.Seq.{drop-drop}
@@ -10,15 +10,14 @@ use Rattle.stream.specs.declared.Fault.{Fault}
 use Rattle.stream.specs.Types.{Ty, size}
 use Rattle.stream.specs.Reading.{Bytes, Result, accepted, refused, section-bytes}
 use Rattle.stream.specs.TypeFiles.{type-bytes}
-use Rattle.files.specs.TypeReads.{TypeAt}
 use Rattle.files.specs.TypeReads.Laws.{type-before, type-drop}
-use Rattle.node.specs.Nodes.{Node, count, node-limit}
-use Rattle.node.specs.PatchFiles.{Patch, node-bytes, patch-file-bytes, first-pass}
+use Rattle.node.specs.Nodes.{Node, Patch, patch-of}
+use Rattle.node.specs.PatchFiles.{node-bytes, patch-file-bytes, first-pass}
 use Rattle.node.specs.PatchFiles.Laws.{first-pass-sound}
 use Rattle.patches.specs.declared.PatchPlace.{PatchPlace}
 use Rattle.patches.specs.declared.PatchRead.{PatchRead}
 use Rattle.patches.specs.declared.PatchRead.the-variants.{Whole, Refused}
-use Rattle.patches.specs.PatchReads.{in-patch-file, patch-read, NodeAt}
+use Rattle.patches.specs.PatchReads.{in-patch-file, patch-read, AcceptedPatch}
 
 -- Behind the two bytes of its count stands the type, and behind those of theirs stand the nodes.
 
@@ -26,24 +25,16 @@ module _ (s : Ty) (n : Node) where
   abbrev nodes-section : List ℕ
   nodes-section = section-bytes (node-bytes n []) []
 
-  type-there : drop 2 (patch-file-bytes s n) ≡ type-bytes s nodes-section
+  type-there : drop 2 (patch-file-bytes (patch-of s n)) ≡ type-bytes s nodes-section
   unfolding patch-file-bytes section-bytes
   type-there = sym (type-before s nodes-section)
 
-  nodes-there : drop (2 + size s + 2) (patch-file-bytes s n) ≡ node-bytes n []
+  nodes-there : drop (2 + size s + 2) (patch-file-bytes (patch-of s n)) ≡ node-bytes n []
   unfolding section-bytes
   nodes-there =
-      sym (drop-drop 2 (2 + size s) (patch-file-bytes s n))
-      ∙ ap (drop 2) (sym (drop-drop (size s) 2 (patch-file-bytes s n)) ∙ ap (drop (size s)) type-there ∙ type-drop s nodes-section)
+      sym (drop-drop 2 (2 + size s) (patch-file-bytes (patch-of s n)))
+      ∙ ap (drop 2) (sym (drop-drop (size s) 2 (patch-file-bytes (patch-of s n))) ∙ ap (drop (size s)) type-there ∙ type-drop s nodes-section)
       ∙ append-nil (node-bytes n [])
-
--- A patch file that its reader accepts.
-pub record AcceptedPatch (file : List ℕ) (place : PatchPlace) : Type 0 where
-  pub patch : Patch
-  pub is-accepted : first-pass file ≡ accepted patch
-  pub type-at : TypeAt file (place .input .start) (patch .input)
-  pub node-at : NodeAt file (place .nodes) (patch .node)
-  pub few : count (patch .node) ≤ node-limit
 
 stands : (file : List ℕ) (p : Patch) → Bytes file → first-pass file ≡ accepted p → AcceptedPatch file (in-patch-file p)
 stands file p bytes e =

@@ -6,10 +6,11 @@ use lib.ListN.{length}
 use Rattle.transcript.specs.Playing.{Inside}
 use Rattle.runner.proofs.main.Statement.{statement}
 use Rattle.runner.proofs.main.Tie as tie
+use Rattle.stream.specs.Bounds.{patch-file-limit}
 
 abbrev Inv-loop : tie.InvT-loop
 Inv-loop input₀ patch₀ lines₀ progress₀ turns₀ input patch lines progress turns =
-    Inside (progress .stage) patch × (8482 ≡ length patch) × (progress .from ≤ progress .held) × (progress .held ≤ length input) × (131072 ≡ length input) × (65536 ≡ length lines)
+    Inside (progress .stage) patch × (patch-file-limit ≡ length patch) × (progress .from ≤ progress .held) × (progress .held ≤ length input) × (131072 ≡ length input) × (65536 ≡ length lines)
 
 abbrev μ-loop : tie.MeasureT-loop
 μ-loop input₀ patch₀ lines₀ progress₀ turns₀ input patch lines progress turns = turns

@@ -8,7 +8,7 @@ use Rattle.stream.specs.SliceFiles.{prefix-bytes}
 use Rattle.files.specs.SliceReads.{prefix-width}
 use Rattle.files.specs.SliceReads.Laws.{prefix-bytes-length, prefix-inside, prefix-taken}
 use Rattle.node.specs.Nodes.{pass}
-use Rattle.node.specs.Feeding.{sends, leaves}
+use Rattle.node.specs.Feeding.Functions.{sends, leaves}
 use Rattle.node.specs.PatchFiles.{node-bytes}
 use Rattle.writing.specs.Appending.Laws.{nothing-written, written-on}
 use Rattle.sending.specs.Sending.Laws.{delivers-written}

@@ -1,7 +1,7 @@
 -- `feed_pass` meets its contract: what it sends is the prefix itself.
 use borrow.Author.Needs.{needs}
 use mathlib.Core.Path.{refl}
-use Rattle.node.specs.Feeding.{sends, leaves}
+use Rattle.node.specs.Feeding.Functions.{sends, leaves}
 use Rattle.node.specs.PatchFiles.{node-bytes}
 use Rattle.sending.specs.Sending.Laws.{copy-due, copied}
 use Rattle.sending.proofs.feed_pass.Statement.{statement}

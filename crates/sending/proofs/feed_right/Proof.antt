@@ -2,7 +2,7 @@
 use borrow.Author.Needs.{needs}
 use mathlib.Core.Path.{refl}
 use native.Mathlib.Omega.{arith}
-use Rattle.node.specs.Feeding.{leaves}
+use Rattle.node.specs.Feeding.Functions.{leaves}
 use Rattle.node.specs.PatchFiles.{node-bytes}
 use Rattle.sending.specs.Sending.Laws.{leaf-inside, copy-due, copied}
 use Rattle.sending.proofs.PartsSent.{right-before, right-part-at}

@@ -10,7 +10,7 @@ use Rattle.stream.specs.SliceFiles.{prefix-bytes}
 use Rattle.files.specs.SliceReads.{prefix-width, PrefixAt}
 use Rattle.files.specs.SliceReads.Laws.{prefix-bytes-length, width-positive, prefix-inside}
 use Rattle.node.specs.Nodes.{Node}
-use Rattle.node.specs.Feeding.{sends, leaves}
+use Rattle.node.specs.Feeding.Functions.{sends, leaves}
 use Rattle.node.specs.PatchFiles.{node-bytes}
 use Rattle.writing.specs.Writing.{PrefixDue, PrefixWritten}
 use Rattle.writing.specs.Appending.Laws.{WrittenSoFar}

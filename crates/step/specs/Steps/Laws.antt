@@ -18,11 +18,12 @@ use Rattle.writing.specs.Writing.Laws.{part, back, byte, front-length}
 use Rattle.writing.specs.Appending.Laws.{part-length, back-length}
 use Rattle.node.specs.Nodes.{Node, Small, count}
 use Rattle.node.specs.Checking.Laws.{types-carries}
-use Rattle.node.specs.Feeding.{leaves}
+use Rattle.node.specs.Feeding.Functions.{leaves}
 use Rattle.node.specs.Feeding.Laws.{preserved, leaves-count, leaves-fits}
 use Rattle.node.specs.PatchFiles.Laws.{node-length}
 use Rattle.patches.specs.PatchReads.{node-width}
 use Rattle.step.specs.Steps.{Leads, Feedable}
+use Rattle.stream.specs.Bounds.{twice-node-bytes}
 
 pub front-leads : (bytes lent : List ℕ) {now : List ℕ} → now ≡ at-front bytes lent → length bytes ≤ length lent → Leads bytes lent now
 front-leads bytes lent e room = record { rest = drop (length bytes) lent; begins = e; long = ap length e ∙ front-length bytes lent room }
@@ -71,7 +72,7 @@ pub prefix-stands : {p : Prefix} {lent now : List ℕ} → Leads (prefix-bytes p
 prefix-stands {p} leads = record { rest = leads .rest; here = leads .begins ∙ sym (prefix-before p (leads .rest)) }
 
 -- How many bytes the node left takes.
-pub left-width : {s : Ty} {n : Node} {p : Prefix} → Feedable s n p → 2 * node-width (leaves s n p) ≤ 257 * count n + 255
+pub left-width : {s : Ty} {n : Node} {p : Prefix} → Feedable s n p → 2 * node-width (leaves s n p) ≤ twice-node-bytes (count n)
 left-width {s} {n} {p} f =
     let carries = types-carries (preserved (f .types) (f .is-prefix) .types) (leaves-fits (f .types) (f .is-prefix) (f .fits)) in
     omega (arith, node-length (leaves s n p) [] carries, leaves-count (f .types) (f .is-prefix))

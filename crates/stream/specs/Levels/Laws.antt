@@ -8,11 +8,7 @@ use Rattle.stream.specs.declared.Fault.{Fault}
 use Rattle.stream.specs.Reading.{Bytes, read}
 use Rattle.stream.specs.Reading.Laws.{bytes-cons}
 use Rattle.stream.specs.Reading.Refusals.{Faults}
-use Rattle.stream.specs.Levels.{level-limit, value-bytes, read-value}
-
--- A value takes two bytes.
-abbrev pub value-width : ℕ
-value-width = 2
+use Rattle.stream.specs.Levels.{level-limit, value-bytes, read-value, value-width}
 
 pub value-length : (v : ℕ) (r : List ℕ) → length (value-bytes v r) ≡ value-width + length r
 unfolding value-bytes

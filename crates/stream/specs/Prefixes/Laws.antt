@@ -5,7 +5,8 @@ use Prim.Native.Nat.{_≤_}
 use native.Mathlib.Omega.{arith}
 use Rattle.stream.specs.Types.{Ty, empty, cue, level, seq, par, Nullable, null-empty, null-par, size}
 use Rattle.stream.specs.Types.Laws.{and-left, and-right, and-both}
-use Rattle.stream.specs.Prefixes.{Prefix, nothing, cue-awaited, cue-come, level-awaited, level-come, in-first, crossed, beside, Complete, whole-nothing, whole-cue, whole-level, whole-crossed, whole-beside, complete, IsPrefix, of-empty, of-cue-awaited, of-cue-come, of-level-awaited, of-level-come, of-first, of-crossed, of-beside, empty-prefix, derivative, concat}
+use Rattle.stream.specs.Prefixes.{Prefix, nothing, cue-awaited, cue-come, level-awaited, level-come, in-first, crossed, beside, Complete, whole-nothing, whole-cue, whole-level, whole-crossed, whole-beside, IsPrefix, of-empty, of-cue-awaited, of-cue-come, of-level-awaited, of-level-come, of-first, of-crossed, of-beside, empty-prefix, derivative, Concat, after-nothing, after-cue, after-level, cue-awaited-yet, level-awaited-yet, still-in-first, now-crossed, behind-crossing, each-side}
+use Rattle.stream.specs.Prefixes.Functions.{complete, concat}
 
 -- Complete: the test is the rule
 
@@ -95,7 +96,31 @@ derivative-size (of-first h) = omega (arith, derivative-size h)
 derivative-size (of-crossed h c k) = omega (arith, derivative-size k)
 derivative-size (of-beside h k) = omega (arith, derivative-size h, derivative-size k)
 
--- Concatenation
+-- Concatenation: the function is the rule. It gives what the rules give, and they give nothing else.
+
+pub concat-only : {p q r : Prefix} → Concat p q r → concat p q ≡ r
+unfolding concat
+concat-only after-nothing = refl
+concat-only after-cue = refl
+concat-only after-level = refl
+concat-only cue-awaited-yet = refl
+concat-only level-awaited-yet = refl
+concat-only (still-in-first c) = ap in-first (concat-only c)
+concat-only (now-crossed {r = r} c) = ap (λ x. crossed x r) (concat-only c)
+concat-only (behind-crossing {b = b} c) = ap (crossed b) (concat-only c)
+concat-only (each-side c d) = ap₂ beside (concat-only c) (concat-only d)
+
+pub concats : {t : Ty} {p : Prefix} (q : Prefix) → IsPrefix t p → IsPrefix (derivative t p) q → Concat p q (concat p q)
+unfolding derivative concat
+concats q of-empty k = after-nothing
+concats q of-cue-awaited k = cue-awaited-yet
+concats q of-cue-come k = after-cue
+concats q of-level-awaited k = level-awaited-yet
+concats q (of-level-come v) k = after-level
+concats q (of-first h) (of-first k) = still-in-first (concats _ h k)
+concats q (of-first h) (of-crossed i d k) = now-crossed (concats _ h i)
+concats q (of-crossed h d i) k = behind-crossing (concats q i k)
+concats q (of-beside h i) (of-beside k l) = each-side (concats _ h k) (concats _ i l)
 
 pub concat-complete : {t : Ty} {p : Prefix} (q : Prefix) → IsPrefix t p → IsPrefix (derivative t p) q → Complete q → Complete (concat p q)
 unfolding derivative concat

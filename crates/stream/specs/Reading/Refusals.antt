@@ -1,10 +1,12 @@
 -- Which faults a reading can give: those that its parts can.
-use mathlib.Core.Bool.{Bool, true, false}
+use mathlib.Core.Path.{_≡_, refl}
+use mathlib.Core.Bool.{Bool, true, false, _||_, or-true, false≢true}
 use mathlib.Core.List.{List, [], _∷_, _++_}
 use Prim.Native.Nat.{ℕ, zero, suc}
-use lib.Dec.{leb}
+use lib.Dec.{leb, eqb}
 use lib.ListN.{length, take, drop}
 use Rattle.stream.specs.declared.Fault.{Fault}
+use Rattle.stream.specs.Faults.{number, contains, Listed}
 use Rattle.stream.specs.Reading.{Reading, read, fault, Result, accepted, refused, read-on, go-on, require, whole, followed-by, counted, section, Root, forest, only, tree}
 
 -- Every fault has the property P.
@@ -74,3 +76,33 @@ module _ (P : Fault → Type 0) where
     pub tree-faults : (budget : ℕ) (w : W) (s : List ℕ) → Faults (tree over root budget w s)
     unfolding tree
     tree-faults budget w s = read-on-faults (forest over root budget (w ∷ []) s) _ (forest-faults budget (w ∷ []) s) only-faults
+
+-- What has a property has a weaker one.
+module _ {P Q : Fault → Type 0} (weaker : (e : Fault) → P e → Q e) where
+  pub faults-too : {A : Type 0} (g : Reading A) → Faults P g → Faults Q g
+  faults-too (read a r) h = tt
+  faults-too (fault e) h = weaker e h
+
+  pub refusals-too : {A : Type 0} (g : Result A) → Refusals P g → Refusals Q g
+  refusals-too (accepted a) h = tt
+  refusals-too (refused e) h = weaker e h
+
+-- What is listed is listed in a longer list.
+
+either-or : (b : Bool) {c d : Bool} → (c ≡ true → d ≡ true) → (b || c) ≡ true → (b || d) ≡ true
+either-or true f h = refl
+either-or false f h = f h
+
+contains-first : (ns ms : List ℕ) (k : ℕ) → contains ns k ≡ true → contains (ns ++ ms) k ≡ true
+contains-first [] ms k h = absurd (false≢true h)
+contains-first (n ∷ ns) ms k h = either-or (eqb n k) (contains-first ns ms k) h
+
+contains-second : (ns ms : List ℕ) (k : ℕ) → contains ms k ≡ true → contains (ns ++ ms) k ≡ true
+contains-second [] ms k h = h
+contains-second (n ∷ ns) ms k h = rw (contains-second ns ms k h) (or-true (eqb n k))
+
+pub listed-first : (ns ms : List ℕ) (e : Fault) → Listed ns e → Listed (ns ++ ms) e
+listed-first ns ms e h = contains-first ns ms (number e) h
+
+pub listed-second : (ns ms : List ℕ) (e : Fault) → Listed ms e → Listed (ns ++ ms) e
+listed-second ns ms e h = contains-second ns ms (number e) h

@@ -4,7 +4,8 @@ use mathlib.Core.Bool.{true, false}
 use mathlib.Core.List.{List, [], _∷_, map}
 use Prim.Native.Nat.{ℕ}
 use Rattle.stream.specs.Types.{Ty, empty, cue, level, seq, par}
-use Rattle.stream.specs.Prefixes.{nothing, cue-awaited, cue-come, level-awaited, level-come, in-first, crossed, beside, complete, derivative, concat}
+use Rattle.stream.specs.Prefixes.{nothing, cue-awaited, cue-come, level-awaited, level-come, in-first, crossed, beside, derivative}
+use Rattle.stream.specs.Prefixes.Functions.{complete, concat}
 use Rattle.stream.specs.Reading.Examples.{verdict, section-of, numbers, verdicts}
 use Rattle.stream.specs.SliceFiles.{slice-file}
 use Rattle.stream.specs.Computing.{stream-definitions}

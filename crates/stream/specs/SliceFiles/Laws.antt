@@ -8,11 +8,13 @@ use native.Mathlib.Omega.{arith}
 use lib.ListN.{length, getD}
 use borrow.Author.Tests.{not-true}
 use Rattle.stream.specs.declared.Fault.{Fault}
-use Rattle.stream.specs.declared.Fault.the-variants.{SliceCutShort, SliceUnlisted, SliceLeftOver, SliceMisplaced}
+use Rattle.stream.specs.declared.Fault.the-variants.{SliceCutShort, SliceUnlisted, SliceLeftOver}
 use Rattle.stream.specs.Types.{Ty, size, type-limit, first-part, second-part, has-kind}
 use Rattle.stream.specs.Types.Laws.{and-left, and-right, made-of, parts-size, size-positive}
-use Rattle.stream.specs.Levels.{value-bytes, read-value}
-use Rattle.stream.specs.Levels.Laws.{value-width, value-length, value-is-bytes, value-reads, value-sound, value-faults}
+use Rattle.stream.specs.Levels.{value-bytes, read-value, value-width}
+use Rattle.stream.specs.Bounds.{slice-limit, slice-file-limit}
+use Rattle.stream.specs.Faults.{slice-numbers, Listed}
+use Rattle.stream.specs.Levels.Laws.{value-length, value-is-bytes, value-reads, value-sound, value-faults}
 use Rattle.stream.specs.Prefixes.{Prefix, nothing, cue-awaited, cue-come, level-awaited, level-come, in-first, crossed, beside, Complete, whole-nothing, whole-cue, whole-level, whole-crossed, whole-beside, IsPrefix, of-empty, of-cue-awaited, of-cue-come, of-level-awaited, of-level-come, of-first, of-crossed, of-beside}
 use Rattle.stream.specs.Prefixes.Laws.{crossed-second, beside-first, beside-second}
 use Rattle.stream.specs.Reading.{Bytes, Reading, read, fault, accepted, IsAccepted, read-on, whole, section-bytes, section, Root, forest, leaf}
@@ -56,8 +58,12 @@ prefix-length r (of-first {t = t} h) = omega (arith, prefix-length r h, size-pos
 prefix-length r (of-crossed {q = q} h c k) = omega (arith, prefix-length (prefix-bytes q r) h, prefix-length r k)
 prefix-length r (of-beside {q = q} h k) = omega (arith, prefix-length (prefix-bytes q r) h, prefix-length r k)
 
+pub slice-length : {t : Ty} {p : Prefix} → IsPrefix t p → size t ≤ type-limit → length (prefix-bytes p []) ≤ slice-limit
+unfolding type-limit
+slice-length h w = omega (arith, prefix-length [] h)
+
 -- "So a slice file has at most 513 bytes."
-pub slice-file-length : {t : Ty} {p : Prefix} → IsPrefix t p → size t ≤ type-limit → length (slice-file-bytes p) ≤ 513
+pub slice-file-length : {t : Ty} {p : Prefix} → IsPrefix t p → size t ≤ type-limit → length (slice-file-bytes p) ≤ slice-file-limit
 unfolding slice-file-bytes section-bytes type-limit
 slice-file-length {p = p} h w = rw (append-nil (prefix-bytes p [])) (omega (arith, prefix-length [] h))
 
@@ -246,35 +252,38 @@ limit-not-met e d t s h =
     same-forest owed-size prefix-root owed-positive root-lighter e d type-limit type-limit (owed t false ∷ []) s (omega arith) (omega arith)
 
 -- The refusals of a slice file are 11 to 14.
-module _ (P : Fault → Type 0) (cut : P SliceCutShort) (unlisted : P SliceUnlisted) (misplaced : P SliceMisplaced) (over : P SliceLeftOver) where
-  belongs-faults : (b : Bool) (root : List ℕ → Reading (Root Owed Prefix)) (s : List ℕ) → Faults P (root s) → Faults P (belongs b root s)
-  belongs-faults true root s h = h
-  belongs-faults false root s h = misplaced
 
-  kinds-faults : (t : Ty) (c : Bool) (s : List ℕ) (k : ℕ) → Faults P (getD prefix-kinds k (λ u d r. fault SliceUnlisted) t c s)
-  kinds-faults t c s =
-      every (λ k f. Faults P (f t c s)) (λ u d r. fault SliceUnlisted) prefix-kinds
-      (belongs-faults (has-kind 0 t) _ s tt
-      & belongs-faults (has-kind 1 t && not c) _ s tt
-      & belongs-faults (has-kind 1 t) _ s tt
-      & belongs-faults (has-kind 2 t && not c) _ s tt
-      & belongs-faults (has-kind 2 t) _ s (read-on-faults P (read-value SliceCutShort s) _ (value-faults P SliceCutShort cut s) (λ v r. tt))
-      & belongs-faults (has-kind 3 t && not c) _ s tt
-      & belongs-faults (has-kind 3 t) _ s tt
-      & belongs-faults (has-kind 4 t) _ s tt
-      & past (λ k h. unlisted))
+abbrev SliceFault : Fault → Type 0
+SliceFault = Listed slice-numbers
 
-  root-faults : (o : Owed) (s : List ℕ) → Faults P (prefix-root o s)
-  unfolding prefix-root
-  root-faults o [] = cut
-  root-faults o (k ∷ s) = kinds-faults (o .type) (o .must-complete) s k
+belongs-faults : (b : Bool) (root : List ℕ → Reading (Root Owed Prefix)) (s : List ℕ) → Faults SliceFault (root s) → Faults SliceFault (belongs b root s)
+belongs-faults true root s h = h
+belongs-faults false root s h = refl
 
-  read-prefix-faults : (t : Ty) (s : List ℕ) → Faults P (read-prefix t s)
-  unfolding read-prefix
-  read-prefix-faults t s = tree-faults P SliceCutShort prefix-root cut root-faults type-limit (owed t false) s
+kinds-faults : (t : Ty) (c : Bool) (s : List ℕ) (k : ℕ) → Faults SliceFault (getD prefix-kinds k (λ u d r. fault SliceUnlisted) t c s)
+kinds-faults t c s =
+    every (λ k f. Faults SliceFault (f t c s)) (λ u d r. fault SliceUnlisted) prefix-kinds
+    (belongs-faults (has-kind 0 t) _ s tt
+    & belongs-faults (has-kind 1 t && not c) _ s tt
+    & belongs-faults (has-kind 1 t) _ s tt
+    & belongs-faults (has-kind 2 t && not c) _ s tt
+    & belongs-faults (has-kind 2 t) _ s (read-on-faults SliceFault (read-value SliceCutShort s) _ (value-faults SliceFault SliceCutShort refl s) (λ v r. tt))
+    & belongs-faults (has-kind 3 t && not c) _ s tt
+    & belongs-faults (has-kind 3 t) _ s tt
+    & belongs-faults (has-kind 4 t) _ s tt
+    & past (λ k h. refl))
 
-  pub slice-file-refusals : (t : Ty) (s : List ℕ) → Refusals P (slice-file t s)
-  unfolding slice-file
-  slice-file-refusals t s =
-      whole-refusals P SliceLeftOver (section SliceCutShort SliceLeftOver (read-prefix t) s) over
-      (section-faults P SliceCutShort SliceLeftOver (read-prefix t) cut over (read-prefix-faults t) s)
+root-faults : (o : Owed) (s : List ℕ) → Faults SliceFault (prefix-root o s)
+unfolding prefix-root
+root-faults o [] = refl
+root-faults o (k ∷ s) = kinds-faults (o .type) (o .must-complete) s k
+
+read-prefix-faults : (t : Ty) (s : List ℕ) → Faults SliceFault (read-prefix t s)
+unfolding read-prefix
+read-prefix-faults t s = tree-faults SliceFault SliceCutShort prefix-root refl root-faults type-limit (owed t false) s
+
+pub slice-file-refusals : (t : Ty) (s : List ℕ) → Refusals (Listed slice-numbers) (slice-file t s)
+unfolding slice-file
+slice-file-refusals t s =
+    whole-refusals SliceFault SliceLeftOver (section SliceCutShort SliceLeftOver (read-prefix t) s) refl
+    (section-faults SliceFault SliceCutShort SliceLeftOver (read-prefix t) refl refl (read-prefix-faults t) s)

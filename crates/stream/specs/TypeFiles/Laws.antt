@@ -8,6 +8,8 @@ use lib.ListN.{length}
 use Rattle.stream.specs.declared.Fault.{Fault}
 use Rattle.stream.specs.declared.Fault.the-variants.{CutShort, Unlisted, LeftOver, TypeTooLarge}
 use Rattle.stream.specs.Types.{Ty, empty, cue, level, seq, par, size, type-limit}
+use Rattle.stream.specs.Bounds.{type-file-limit}
+use Rattle.stream.specs.Faults.{type-numbers, Listed}
 use Rattle.stream.specs.Reading.{Bytes, read, fault, accepted, IsAccepted, section-bytes}
 use Rattle.stream.specs.Reading.Laws.{Reads, reads-leaf, reads-two, tree-reads, RootIs, leaf-is, two-is, tree-sound, section-reads, section-sound, whole-sound, _&_, past, every, bytes-tail, bytes-nil, bytes-cons, section-is-bytes}
 use Rattle.stream.specs.Reading.Refusals.{Faults, Refusals, section-faults, tree-faults, whole-refusals}
@@ -21,7 +23,7 @@ type-length level r = omega arith
 type-length (seq s t) r = omega (arith, type-length s (type-bytes t r), type-length t r)
 type-length (par s t) r = omega (arith, type-length s (type-bytes t r), type-length t r)
 
-pub type-file-length : (t : Ty) → size t ≤ type-limit → length (type-file-bytes t) ≤ 257
+pub type-file-length : (t : Ty) → size t ≤ type-limit → length (type-file-bytes t) ≤ type-file-limit
 unfolding type-file-bytes section-bytes type-limit
 type-file-length t w = rw (append-nil (type-bytes t [])) (omega (arith, type-length t []))
 
@@ -118,23 +120,25 @@ type-file-accepted s b = (
   (λ f. (f .type, rw (← f .bytes) (type-file-complete (f .type) (f .small)))),
 )
 
--- The refusals of a type file are 1 to 4.
-module _ (P : Fault → Type 0) (cut : P CutShort) (unlisted : P Unlisted) (large : P TypeTooLarge) where
-  root-faults : (w : Unit {0}) (s : List ℕ) → Faults P (type-root w s)
-  unfolding type-root
-  root-faults w [] = cut
-  root-faults w (k ∷ s) =
-      every (λ j f. Faults P (f s)) (λ r. fault Unlisted) type-kinds (tt & tt & tt & tt & tt & past (λ j h. unlisted)) k
+-- The refusals of a type are 1 to 4.
 
-  pub read-type-faults : (s : List ℕ) → Faults P (read-type s)
-  unfolding read-type
-  read-type-faults s = tree-faults P TypeTooLarge type-root large root-faults type-limit tt s
+abbrev TypeFault : Fault → Type 0
+TypeFault = Listed type-numbers
 
-  module _ (over : P LeftOver) where
-    pub type-section-faults : (s : List ℕ) → Faults P (type-section s)
-    unfolding type-section
-    type-section-faults s = section-faults P CutShort LeftOver read-type cut over read-type-faults s
+root-faults : (w : Unit {0}) (s : List ℕ) → Faults TypeFault (type-root w s)
+unfolding type-root
+root-faults w [] = refl
+root-faults w (k ∷ s) =
+    every (λ j f. Faults TypeFault (f s)) (λ r. fault Unlisted) type-kinds (tt & tt & tt & tt & tt & past (λ j h. refl)) k
 
-    pub type-file-refusals : (s : List ℕ) → Refusals P (type-file s)
-    unfolding type-file
-    type-file-refusals s = whole-refusals P LeftOver (type-section s) over (type-section-faults s)
+pub read-type-faults : (s : List ℕ) → Faults (Listed type-numbers) (read-type s)
+unfolding read-type
+read-type-faults s = tree-faults TypeFault TypeTooLarge type-root refl root-faults type-limit tt s
+
+pub type-section-faults : (s : List ℕ) → Faults (Listed type-numbers) (type-section s)
+unfolding type-section
+type-section-faults s = section-faults TypeFault CutShort LeftOver read-type refl refl read-type-faults s
+
+pub type-file-refusals : (s : List ℕ) → Refusals (Listed type-numbers) (type-file s)
+unfolding type-file
+type-file-refusals s = whole-refusals TypeFault LeftOver (type-section s) refl (type-section-faults s)

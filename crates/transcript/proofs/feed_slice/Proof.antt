@@ -55,7 +55,7 @@ abbrev patch-left-of : tie.After-feed → List ℕ
 patch-left-of c = c .feed .last .1 .1 .1 .0
 
 outcome : (c : tie.After-feed)
-    → FedBy (feed (patch-of c) (slice-of c)) (start c .args .output .now) (start c .args .patch-left .now) (c .feed .result) (output-of c) (patch-left-of c)
+    → FedBy (feed (patch-of c) (slice-of c)) (start c .args .output .now) (start c .args .next .now) (c .feed .result) (output-of c) (patch-left-of c)
 outcome c = fed-by _ _ _ _ (patch-bytes c) (slice-bytes c) (start c .pre .1) (start c .pre .2) (c .feed .ensures)
 
 number-is : (c : tie.After-feed) → c .feed .result .number ≡ number-of (feed (patch-of c) (slice-of c))
@@ -106,7 +106,7 @@ call c = c .before .before .before .before .before .before .before .before .befo
 
 sent : (c : tie.After-count-of)
     → (let f = call c in
-    FedInto (patch-of f) (slice-of f) (start f .args .output .now) (start f .args .patch-left .now) (f .feed .result) (output-of f) (patch-left-of f))
+    FedInto (patch-of f) (slice-of f) (start f .args .output .now) (start f .args .next .now) (f .feed .result) (output-of f) (patch-left-of f))
 sent c = let f = call c in is-sent _ _ _ _ (patch-bytes f) (slice-bytes f) (start f .pre .1) (start f .pre .2) (outcome f) (omega arith)
 
 type-counted : (c : tie.After-count-of) → c .count-of .result ≡ length (sent c .sections .type)
@@ -122,7 +122,7 @@ type-field c = body-stands _ _ _ _ (sent c .patch-stands) {n = 2 + c .count-of .
 patch-field : (c : tie.After-count-of) → take (call c .feed .result .patch) (patch-left-of (call c)) ≡ sent c .written .patch
 patch-field c =
     let s = sent c in
-    ap (take (call c .feed .result .patch)) (s .patch-stands ∙ ap (λ l. at-front l (start (call c) .args .patch-left .now)) (sym (s .sections .patch-is)))
+    ap (take (call c .feed .result .patch)) (s .patch-stands ∙ ap (λ l. at-front l (start (call c) .args .next .now)) (sym (s .sections .patch-is)))
     ∙ take-at (s .written .patch) _ (call c .feed .result .patch) (sym (s .kept))
 
 sub-put-fed : tie.Need-sub-put-fed

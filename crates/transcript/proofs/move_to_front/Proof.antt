@@ -6,7 +6,8 @@ use native.Mathlib.Omega.{arith}
 use native.Mathlib.Numerals.{add-one}
 use lib.ListN.{length, getD, take, drop, length-drop}
 use lib.Seq.{take-suc, getD-drop, getD-append-add}
-use Rattle.writing.specs.Writing.Laws.{Begun, length-kept, byte-on}
+use Rattle.writing.specs.Writing.Laws.{length-kept, byte-on}
+use Rattle.writing.specs.Writing.{Begun}
 use Rattle.transcript.proofs.move_to_front.Statement.{statement}
 use Rattle.transcript.proofs.move_to_front.Tie as tie
 

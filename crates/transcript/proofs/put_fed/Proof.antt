@@ -5,7 +5,8 @@ use mathlib.Core.List.{List, [], _∷_, _++_}
 use Prim.Native.Nat.{ℕ, _+_, _*_, _≤_}
 use native.Mathlib.Omega.{arith}
 use lib.ListN.{length, set, length-set}
-use Rattle.writing.specs.Writing.Laws.{back, Begun, begins, goes-on, room-left, length-kept, byte-on}
+use Rattle.writing.specs.Writing.Laws.{back, begins, goes-on, room-left, length-kept, byte-on}
+use Rattle.writing.specs.Writing.{Begun}
 use Rattle.transcript.specs.Transcripts.{hexadecimal, fed-line}
 use Rattle.transcript.specs.Transcripts.Laws.{hexadecimal-length}
 use Rattle.transcript.proofs.put_fed.Statement.{statement}

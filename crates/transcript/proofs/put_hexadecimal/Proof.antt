@@ -5,7 +5,8 @@ use native.Mathlib.Omega.{arith}
 use lib.ListN.{length, take, length-set}
 use lib.Seq.{take-length}
 use Rattle.transcript.specs.Transcripts.{digit, hexadecimal}
-use Rattle.writing.specs.Writing.Laws.{Begun, byte-on}
+use Rattle.writing.specs.Writing.Laws.{byte-on}
+use Rattle.writing.specs.Writing.{Begun}
 use Rattle.transcript.specs.Transcripts.Laws.{hexadecimal-more}
 use Rattle.transcript.proofs.put_hexadecimal.Statement.{statement}
 use Rattle.transcript.proofs.put_hexadecimal.Tie as tie

@@ -5,8 +5,7 @@ use Prim.Native.Nat.{ℕ}
 use Rattle.stream.specs.Reading.Examples.{section-of}
 use Rattle.node.specs.Computing.{node-definitions}
 use Rattle.node.specs.PatchFiles.Examples.{sections}
-use Rattle.meaning.specs.Answers.{check, feed}
-use Rattle.meaning.specs.Answers.{first-section}
+use Rattle.meaning.specs.Answers.{check, feed, first-section}
 use Rattle.transcript.specs.Transcripts.{files-within, files, digit, hexadecimal, number-line, line, patch-after, takes, prints, transcript}
 
 -- Prepend, after its length; a slice file, after its own.

@@ -18,7 +18,8 @@ use Rattle.writing.specs.Appending.Laws.{WrittenSoFar}
 use Rattle.node.specs.Nodes.{Node, Small}
 use Rattle.node.specs.Nodes.Laws.{output-small}
 use Rattle.node.specs.Checking.{gives, typing}
-use Rattle.node.specs.Checking.Laws.{Carries, gives-accepted, typing-sound}
+use Rattle.node.specs.Checking.Laws.{gives-accepted, typing-sound}
+use Rattle.node.specs.Nodes.Functions.{Carries}
 use Rattle.typing.specs.declared.Typed.{Typed}
 use Rattle.typing.specs.declared.Typed.the-variants.{Gives, Failed}
 use Rattle.typing.specs.Typing.{typed, limited, Answers}

@@ -3,7 +3,8 @@ use borrow.Author.Needs.{needs}
 use mathlib.Core.List.{List}
 use Prim.Native.Nat.{ℕ}
 use native.Mathlib.Omega.{arith}
-use Rattle.writing.specs.Writing.Standing.{AcceptedType, type-accepted, type-refused, slice-accepted, slice-refused}
+use Rattle.writing.specs.Writing.Standing.{type-accepted, type-refused, slice-accepted, slice-refused}
+use Rattle.files.specs.TypeReads.{AcceptedType}
 use Rattle.meaning.specs.Answers.{admit}
 use Rattle.wosthile.proofs.Keeping.{turned-down, taken-in}
 use Rattle.wosthile.proofs.Opening.{no-type, no-slice, goes-on}

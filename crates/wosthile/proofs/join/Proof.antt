@@ -9,18 +9,21 @@ use native.Mathlib.Omega.{arith}
 use native.Mathlib.Nat.{le-trans}
 use lib.ListN.{length}
 use Rattle.stream.specs.Types.{Ty}
-use Rattle.stream.specs.Prefixes.{derivative, concat}
+use Rattle.stream.specs.Prefixes.{derivative}
+use Rattle.stream.specs.Prefixes.Functions.{concat}
 use Rattle.stream.specs.Prefixes.Laws.{derivative-size}
 use Rattle.stream.specs.declared.Fault.{Fault}
 use Rattle.stream.specs.Reading.{accepted, refused}
 use Rattle.stream.specs.SliceFiles.{slice-file, slice-file-bytes}
-use Rattle.files.specs.TypeReads.{TypeAt}
-use Rattle.writing.specs.Writing.Standing.{AcceptedType, AcceptedSlice, type-accepted, type-refused, slice-accepted, slice-refused, slice-file-size, written-stands, derivative-due, slice-short, joined-width, overlap-less, joined-file-due}
+use Rattle.files.specs.TypeReads.{TypeAt, AcceptedType}
+use Rattle.writing.specs.Writing.Standing.{type-accepted, type-refused, slice-accepted, slice-refused, slice-file-size, written-stands, derivative-due, slice-short, joined-width, overlap-less, joined-file-due}
+use Rattle.files.specs.SliceReads.{AcceptedSlice}
 use Rattle.meaning.specs.Answers.{join}
 use Rattle.wosthile.proofs.Keeping.{refusal-keeps, shortage-keeps, file-keeps}
 use Rattle.wosthile.proofs.Opening.{no-type, no-slice, goes-on}
 use Rattle.wosthile.proofs.join.Statement.{statement}
 use Rattle.wosthile.proofs.join.Tie as tie
+use Rattle.stream.specs.Bounds.{slice-file-limit}
 
 read-type-file-requires : tie.Need-read-type-file-requires
 read-type-file-requires c κs = search needs
@@ -129,8 +132,8 @@ unfolding join
 join-is c = goes-on _ _ _ (type-of (type-read (first-read c))) (first-slice (first-read c)) ∙ rw (second-slice c .is-accepted)
 
 record Measured (c : tie.After-enum-told) : Type 0 where
-  first-short : length (first-file-of (type-read (first-read c) .before .before .before)) ≤ 513
-  second-short : length (second-file-of (type-read (first-read c) .before .before .before)) ≤ 513
+  first-short : length (first-file-of (type-read (first-read c) .before .before .before)) ≤ slice-file-limit
+  second-short : length (second-file-of (type-read (first-read c) .before .before .before)) ≤ slice-file-limit
   overlapping : first-read c .before .prefix .given .0 .0 .overlap ≤ length (first-file-of (type-read (first-read c) .before .before .before)) - 2
   joined : 2 + (length (first-file-of (type-read (first-read c) .before .before .before)) - 2 + (length (second-file-of (type-read (first-read c) .before .before .before)) - 2)
       - first-read c .before .prefix .given .0 .0 .overlap) ≡ length (joined-file c)

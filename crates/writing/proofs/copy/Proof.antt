@@ -6,7 +6,8 @@ use native.Mathlib.Omega.{arith}
 use native.Mathlib.Numerals.{add-one}
 use lib.ListN.{length, getD, take, length-set}
 use lib.Seq.{take-suc, take-length}
-use Rattle.writing.specs.Writing.Laws.{Begun, byte-on}
+use Rattle.writing.specs.Writing.Laws.{byte-on}
+use Rattle.writing.specs.Writing.{Begun}
 use Rattle.writing.proofs.copy.Statement.{statement}
 use Rattle.writing.proofs.copy.Tie as tie
 

@@ -7,6 +7,7 @@ use lib.ListN.{length, getD, drop, take, set, length-drop, length-append, drop-o
 use lib.Seq.{drop-cons, append-snoc, drop-drop, take-all, take-at, drop-at, set-at, set-split}
 use Rattle.stream.specs.Reading.{section-bytes}
 use Rattle.stream.specs.Buffers.{at-front}
+use Rattle.writing.specs.Writing.{Begun}
 
 -- The part of x from a on, as it is lent; and x after the part has come back as y.
 abbrev pub part : ℕ → List ℕ → List ℕ
@@ -50,11 +51,6 @@ module _ (e x y : List ℕ) (a : ℕ) (long : length e ≡ a) (written : y ≡ a
     where
       sum : a + length f ≡ length (e ++ f)
       sum = omega (arith, length-append e f)
-
--- The first `written` bytes of what was lent, which is `now` by now.
-pub record Begun (bytes lent now : List ℕ) (written : ℕ) : Type 0 where
-  pub long : written ≡ length bytes
-  pub buffer : now ≡ at-front bytes lent
 
 pub begins : {lent : List ℕ} (k : ℕ) → 0 < length lent → Begun (k ∷ []) lent (set lent 0 k) 1
 begins {lent} k h = record { long = refl; buffer = byte lent k h }

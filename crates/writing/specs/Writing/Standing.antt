@@ -13,19 +13,21 @@ use Rattle.files.specs.declared.prefixes.Known.{Known}
 use Rattle.files.specs.declared.prefixes.SliceRead.{SliceRead}
 use Rattle.files.specs.declared.prefixes.SliceRead.the-variants.{Whole, Refused}
 use Rattle.stream.specs.Types.{Ty, size, type-limit}
-use Rattle.stream.specs.Prefixes.{Prefix, IsPrefix, complete, derivative, concat}
+use Rattle.stream.specs.Prefixes.{Prefix, derivative}
+use Rattle.stream.specs.Prefixes.Functions.{complete, concat}
 use Rattle.stream.specs.Prefixes.Laws.{derivative-size, concat-is-prefix}
 use Rattle.stream.specs.Reading.{Bytes, Result, accepted, refused, section-bytes}
 use Rattle.stream.specs.TypeFiles.{type-bytes, type-file-bytes, type-file}
 use Rattle.stream.specs.TypeFiles.Laws.{type-length, type-file-sound}
 use Rattle.stream.specs.SliceFiles.{prefix-bytes, slice-file-bytes, slice-file}
 use Rattle.stream.specs.SliceFiles.Laws.{prefix-length, slice-file-sound}
-use Rattle.files.specs.TypeReads.{type-read, TypeAt}
+use Rattle.files.specs.TypeReads.{type-read, TypeAt, AcceptedType}
 use Rattle.files.specs.TypeReads.Laws.{type-before}
-use Rattle.files.specs.SliceReads.{prefix-width, overlap as overlap-of, known, slice-read, ReadsSlice, PrefixAt}
+use Rattle.files.specs.SliceReads.{prefix-width, known, slice-read, ReadsSlice, AcceptedSlice}
 use Rattle.files.specs.SliceReads.Laws.{prefix-bytes-length, overlap-within, concat-width}
 use Rattle.stream.specs.Buffers.{at-front}
 use Rattle.writing.specs.Writing.{Stands, DerivativeDue, LeftFileDue, JoinedFileDue}
+use Rattle.stream.specs.Bounds.{slice-file-limit}
 
 -- Behind the two bytes of the count stands the tree.
 
@@ -38,12 +40,6 @@ unfolding type-file-bytes
 type-stands file t b e =
     let f = type-file-sound file t b e in
     record { rest = []; here = rw (← f .0) (behind-count (type-bytes t [])); small = f .1 }
-
--- A type file that its reader accepts.
-pub record AcceptedType (file : List ℕ) (start : ℕ) : Type 0 where
-  pub type : Ty
-  pub is-accepted : type-file file ≡ accepted type
-  pub stands : TypeAt file start type
 
 module _ (file : List ℕ) {answer : TypeRead} (told : answer ≡ type-read (type-file file)) where
   pub type-accepted : Bytes file → (place : TypePlace) → answer ≡ WholeType place → AcceptedType file (place .start)
@@ -73,17 +69,6 @@ type-file-size t = rw (append-nil (type-bytes t [])) (omega (arith, type-length 
 pub slice-file-size : (p : Prefix) → length (slice-file-bytes p) ≡ 2 + prefix-width p
 unfolding slice-file-bytes section-bytes
 slice-file-size p = rw (append-nil (prefix-bytes p [])) (omega (arith, prefix-bytes-length p []))
-
--- A slice file that its reader accepts.
-pub record AcceptedSlice (t : Ty) (file : List ℕ) (about : Known) : Type 0 where
-  pub prefix : Prefix
-  pub is-accepted : slice-file t file ≡ accepted prefix
-  pub is-prefix : IsPrefix t prefix
-  pub completeness : about .complete ≡ complete prefix
-  pub remains : about .remains ≡ size (derivative t prefix)
-  pub overlap : about .overlap ≡ overlap-of prefix
-  pub stands : PrefixAt file 2 prefix
-  pub fills : length file ≡ 2 + prefix-width prefix
 
 slice-stands : (t : Ty) (file : List ℕ) (about : Known) (p : Prefix) → Bytes file → slice-file t file ≡ accepted p → about ≡ known t p
     → AcceptedSlice t file about
@@ -123,8 +108,8 @@ module _ {types : List ℕ} {at : ℕ} {file : List ℕ} {answer : SliceRead} (t
 pub written-stands : (t : Ty) (lent : List ℕ) {bytes : List ℕ} → bytes ≡ at-front (type-bytes t []) lent → size t ≤ type-limit → TypeAt bytes 0 t
 written-stands t lent e small = record { rest = drop (length (type-bytes t [])) lent; here = e ∙ sym (type-before t _); small = small }
 
--- An accepted slice file has at most 513 bytes.
-pub slice-short : {t : Ty} {file : List ℕ} {about : Known} → size t ≤ type-limit → AcceptedSlice t file about → length file ≤ 513
+-- An accepted slice file is no longer than any.
+pub slice-short : {t : Ty} {file : List ℕ} {about : Known} → size t ≤ type-limit → AcceptedSlice t file about → length file ≤ slice-file-limit
 unfolding type-limit
 slice-short small p = omega (arith, p .fills, prefix-length [] (p .is-prefix), prefix-bytes-length (p .prefix) [])
 

@@ -1,0 +1,25 @@
+-- How long a file can get, and the trees in it (document 01, Bounds; the mission). That none is longer is proved where the bytes
+-- are defined: type-file-length, slice-length, slice-file-length, node-length, nodes-length and patch-file-length.
+use Prim.Native.Nat.{ℕ, _+_, _*_}
+
+-- A type file: the count, and a byte for each of 255 nodes.
+abbrev pub type-file-limit : ℕ
+type-file-limit = 257
+
+-- A slice: a byte for each of 255 nodes, and the values of at most 128 levels. "So a slice file has at most 513 bytes."
+abbrev pub slice-limit : ℕ
+slice-limit = 511
+
+abbrev pub slice-file-limit : ℕ
+slice-file-limit = 513
+
+-- Twice as many bytes as c nodes have at most: every other one is silent, or will be, and carries a type of 255 nodes.
+abbrev pub twice-node-bytes : ℕ → ℕ
+twice-node-bytes c = 257 * c + 255
+
+-- The nodes of a patch, and a patch file: both counts, and a type of 255 nodes. "No file is longer than 8,482 bytes."
+abbrev pub nodes-limit : ℕ
+nodes-limit = 8223
+
+abbrev pub patch-file-limit : ℕ
+patch-file-limit = 8482

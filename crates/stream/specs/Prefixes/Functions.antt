@@ -1,0 +1,48 @@
+-- What the rules of prefixes say, as functions that compute. They are proved to agree with the rules, both ways (Laws:
+-- complete-sound and complete-complete, concat-only and concats), so that nobody has to believe them.
+use mathlib.Core.Bool.{Bool, true, false, _&&_}
+use Rattle.stream.specs.Prefixes.{Prefix, nothing, cue-awaited, cue-come, level-awaited, level-come, in-first, crossed, beside}
+
+-- Complete
+unfoldable pub complete : Prefix → Bool
+complete nothing = true
+complete cue-awaited = false
+complete cue-come = true
+complete level-awaited = false
+complete (level-come v) = true
+complete (in-first p) = false
+complete (crossed b q) = complete q
+complete (beside p q) = complete p && complete q
+
+-- A prefix of a sequence by its two cases, and one of a side-by-side type by its one; `other` answers for the rest,
+-- which no rule uses.
+abbrev pub on-seq : {A : Type 0} → A → (Prefix → A) → (Prefix → Prefix → A) → Prefix → A
+on-seq other f g nothing = other
+on-seq other f g cue-awaited = other
+on-seq other f g cue-come = other
+on-seq other f g level-awaited = other
+on-seq other f g (level-come v) = other
+on-seq other f g (in-first p) = f p
+on-seq other f g (crossed b q) = g b q
+on-seq other f g (beside p q) = other
+
+abbrev pub on-par : {A : Type 0} → A → (Prefix → Prefix → A) → Prefix → A
+on-par other f nothing = other
+on-par other f cue-awaited = other
+on-par other f cue-come = other
+on-par other f level-awaited = other
+on-par other f (level-come v) = other
+on-par other f (in-first p) = other
+on-par other f (crossed b q) = other
+on-par other f (beside p q) = f p q
+
+-- Concat
+unfoldable pub concat : Prefix → Prefix → Prefix
+concat nothing q = nothing
+concat cue-awaited q = q
+concat cue-come q = cue-come
+concat level-awaited q = q
+concat (level-come v) q = level-come v
+concat (in-first p) q = on-seq nothing (λ r. in-first (concat p r)) (λ b r. crossed (concat p b) r) q
+concat (crossed b p) q = crossed b (concat p q)
+concat (beside p r) q = on-par nothing (λ x y. beside (concat p x) (concat r y)) q
