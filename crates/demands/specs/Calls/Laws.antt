@@ -1,37 +1,40 @@
 -- What follows from a promise: a call is decided, it says 20 exactly if a buffer is too short, and no answer is longer than
 -- what the call has to write.
 use mathlib.Core.Path.{_≡_, refl, sym, ap, ap₂, _∙_}
-use mathlib.Core.Logic.{_↔_, Iff·trans}
-use mathlib.Core.Bool.{Bool, true, false, true≢false, or-true}
+use mathlib.Core.Logic.{_↔_, Iff·trans, _⊎_, inl, inr, ⊎-elim}
+use mathlib.Core.Bool.{Bool, true, false, true≢false, or-true, _&&_}
 use mathlib.Core.List.{List, [], _∷_}
-use Prim.Native.Nat.{ℕ, _≤_}
+use Prim.Native.Nat.{ℕ, _≤_, _<_}
 use native.Mathlib.Omega.{arith}
 use native.Mathlib.Nat.{le-trans}
-use lib.Dec.{eqb}
+use lib.Dec.{eqb, leb}
 use lib.ListN.{length, take, drop}
 use lib.Seq.{take-append-seam}
-use borrow.Author.Tests.{le-leb}
+use borrow.Author.Tests.{le-leb, leb-false}
 use Rattle.stream.specs.declared.Fault.{Fault}
 use Rattle.stream.specs.declared.Fault.the-variants.{NoRoom}
-use Rattle.stream.specs.Faults.{number}
-use Rattle.stream.specs.Prefixes.{Prefix, Complete, complete}
-use Rattle.stream.specs.Prefixes.Laws.{complete-sound, complete-complete}
-use Rattle.stream.specs.Reading.{Bytes, Result, accepted, refused, IsAccepted, require}
+use Rattle.stream.specs.Faults.{number, contains, Listed}
+use Rattle.stream.specs.Prefixes.{Prefix, Complete, Concat, derivative}
+use Rattle.stream.specs.Prefixes.Functions.{complete, concat}
+use Rattle.stream.specs.Prefixes.Laws.{complete-sound, complete-complete, concat-only}
+use Rattle.stream.specs.Reading.{Bytes, Result, accepted, refused, IsAccepted, require, go-on}
 use Rattle.stream.specs.Reading.Laws.{bytes-append, bytes-drop}
-use Rattle.stream.specs.Reading.Refusals.{Refusals}
+use Rattle.stream.specs.Reading.Refusals.{Refusals, refusals-too}
 use Rattle.meaning.specs.declared.Written.{Written}
 use Rattle.meaning.specs.declared.Admitted.{Admitted}
 use Rattle.meaning.specs.declared.Fed.{Fed}
-use Rattle.meaning.specs.Answers.{with-room, number-of, value-of, as-number, after, contains, Listed, fits-one, fits-both, written, admitted, fed, FedFiles, check, left, join, feed}
+use Rattle.stream.specs.Bounds.{slice-file-limit, patch-file-limit}
+use Rattle.meaning.specs.Answers.{with-room, number-of, value-of, as-number, after, fits-one, fits-both, written, admitted, fed, FedFiles, check, left, join, feed, admit, fed-files, into-both}
 use Rattle.meaning.specs.Answers.Laws.{number-positive, enough-room, room-accepted, room-refusals, both-fit, check-refused-feed, Refuses, WritesSized, FeedsSized}
 use Rattle.meaning.specs.Promises.{Writes, Admits, CheckPromise, AdmitPromise, LeftPromise, JoinPromise, FeedPromise}
-use Rattle.demands.specs.Calls.{Wrote, Sent, Decided, is-accepted, is-refused, TooShort}
-
--- Faults with a listed number
-
-listed-more : (n : ℕ) (ns : List ℕ) {A : Type 0} (r : Result A) → Refusals (Listed ns) r → Refusals (Listed (n ∷ ns)) r
-listed-more n ns (accepted a) h = tt
-listed-more n ns (refused e) h = rw (h, or-true (eqb n (number e)))
+use Rattle.demands.specs.Calls.{type-and-slice, two-slices, patch-and-slice, Wrote, WroteBoth, Decided, is-accepted, is-refused, is-short, TooShortFor, Ty}
+use Rattle.stream.specs.TypeFiles.{type-file, type-file-bytes}
+use Rattle.stream.specs.SliceFiles.{slice-file, slice-file-bytes}
+use Rattle.node.specs.PatchFiles.{patch-file, patch-file-bytes}
+use Rattle.node.specs.Nodes.{Patch}
+use Rattle.node.specs.Feeding.{FeedsPatch}
+use Rattle.node.specs.Feeding.Laws.{feeds-only}
+use Rattle.stream.specs.Types.{Ty}
 
 abbrev NotRoom : Fault → Type 0
 NotRoom e = number e ≡ 20 → ⊥
@@ -41,12 +44,13 @@ not-room : {A : Type 0} {ns : List ℕ} (r : Result A) → Refuses ns r → Refu
 not-room (accepted a) h = tt
 not-room {ns = ns} (refused e) h = λ d. true≢false (sym (h .only) ∙ ap (contains ns) d ∙ h .not-20)
 
--- A call is decided, by its outcome with room taken in.
-module _ {A : Type 0} (listed : List ℕ) (answered : ℕ) (lent lent-after : List (List ℕ)) where
-  decided : (o : Result A) → Refusals (Listed listed) o → answered ≡ number-of o
-      → ((e : Fault) → o ≡ refused e → lent-after ≡ lent) → Decided o listed answered lent lent-after
-  decided (accepted a) r n u = is-accepted a refl n
-  decided (refused e) r n u = is-refused e refl n r (u e refl)
+-- The number is 0, or one that is listed.
+number-listed : {A : Type 0} (ns : List ℕ) (o : Result A) → Refusals (Listed ns) o → contains (0 ∷ ns) (number-of o) ≡ true
+number-listed ns (accepted a) h = refl
+number-listed ns (refused e) h = rw h (or-true (eqb 0 (number e)))
+
+listed-more : (n : ℕ) (ns : List ℕ) (e : Fault) → Listed ns e → Listed (n ∷ ns) e
+listed-more n ns e h = rw h (or-true (eqb n (number e)))
 
 -- A refused call leaves its buffer as it was.
 unaltered : {A : Type 0} (file : A → List ℕ) (o : Result A) (lent lent-after : List ℕ) (e : Fault)
@@ -64,16 +68,16 @@ zero-accepted (refused e) = (
 
 -- 20 exactly if a buffer is too short.
 
-twenty : {A : Type 0} (fits : A → Bool) (r : Result A) → Refusals NotRoom r → number-of (with-room fits r) ≡ 20 ↔ TooShort fits r
+twenty : {A : Type 0} (fits : A → Bool) (r : Result A) → Refusals NotRoom r → number-of (with-room fits r) ≡ 20 ↔ TooShortFor fits r
 unfolding with-room
 twenty fits (refused e) n = ((λ h. absurd (n h)), (λ t. let z : _≡_ {A = ℕ} 0 1 = let d = t .due in cc in absurd (omega arith)))
 twenty {A} fits (accepted a) n = ((λ h. there (fits a) refl h), back)
   where
-    there : (b : Bool) → fits a ≡ b → number-of (require b NoRoom (accepted a)) ≡ 20 → TooShort fits (accepted a)
+    there : (b : Bool) → fits a ≡ b → number-of (require b NoRoom (accepted a)) ≡ 20 → TooShortFor fits (accepted a)
     there true e h = absurd (omega arith)
     there false e h = record { answer = a; due = refl; too-short = e }
 
-    back : TooShort fits (accepted a) → number-of (require (fits a) NoRoom (accepted a)) ≡ 20
+    back : TooShortFor fits (accepted a) → number-of (require (fits a) NoRoom (accepted a)) ≡ 20
     back t =
         let e : a ≡ t .answer = let d = t .due in cc in
         rw (ap fits e ∙ t .too-short)
@@ -118,14 +122,13 @@ module _ {outcome : Result (List ℕ)} {lent : List ℕ} {answer : Written} {len
   all-fit : {most : ℕ} → WritesSized most outcome → most ≤ length lent → (file : List ℕ) → outcome ≡ accepted file → fits-one (length lent) file ≡ true
   all-fit l h file e = le-leb (length file) (length lent) (le-trans ((l .sized file e) .short) h)
 
-  pub writes-decided : {ns : List ℕ} → Refuses ns outcome
-      → Decided (with-room (fits-one (length lent)) outcome) (20 ∷ ns) (answer .number) (lent ∷ []) (lent-after ∷ [])
-  writes-decided {ns} r =
-      decided (20 ∷ ns) (answer .number) (lent ∷ []) (lent-after ∷ []) (with-room (fits-one (length lent)) outcome)
-      (room-refusals (fits-one (length lent)) (Listed (20 ∷ ns)) outcome refl (listed-more 20 ns outcome (r .only))) told
-      (λ e h. ap (λ l. l ∷ []) (unaltered (λ file. file) (with-room (fits-one (length lent)) outcome) lent lent-after e (promise .buffer) h))
+  pub writes-listed : {ns : List ℕ} → Refuses ns outcome → contains (0 ∷ 20 ∷ ns) (answer .number) ≡ true
+  writes-listed {ns} r =
+      rw told
+      (number-listed (20 ∷ ns) (with-room (fits-one (length lent)) outcome)
+      (room-refusals (fits-one (length lent)) (Listed (20 ∷ ns)) outcome refl (refusals-too (listed-more 20 ns) outcome (r .only))))
 
-  pub writes-twenty : {ns : List ℕ} → Refuses ns outcome → answer .number ≡ 20 ↔ TooShort (fits-one (length lent)) outcome
+  pub writes-twenty : {ns : List ℕ} → Refuses ns outcome → answer .number ≡ 20 ↔ TooShortFor (fits-one (length lent)) outcome
   writes-twenty r = rw told (twenty (fits-one (length lent)) outcome (not-room outcome r))
 
   pub writes-bounded : {most : ℕ} → WritesSized most outcome → answer .written ≤ most
@@ -153,62 +156,59 @@ module _ {outcome : Result (List ℕ)} {lent : List ℕ} {answer : Written} {len
 
 -- Feed
 
-module _ {patch slice output left : List ℕ} {answer : Fed} {output-after patch-after : List ℕ}
-    (promise : FeedPromise patch slice output left answer output-after patch-after) where
+module _ {patch slice output-lent patch-lent : List ℕ} {answer : Fed} {output-after patch-after : List ℕ}
+    (promise : FeedPromise patch slice output-lent patch-lent answer output-after patch-after) where
   abbrev fits : FedFiles → Bool
-  fits w = fits-both (length output) (length left) w
+  fits w = fits-both (length output-lent) (length patch-lent) w
 
   fed-told : answer .number ≡ number-of (with-room fits (feed patch slice))
   unfolding fed
   fed-told = ap (λ (a : Fed). a .number) (promise .answers)
 
-  both-fits : FeedsSized (feed patch slice) → 513 ≤ length output → 8482 ≤ length left → (w : FedFiles) → feed patch slice ≡ accepted w → fits w ≡ true
+  both-fits : FeedsSized (feed patch slice) → slice-file-limit ≤ length output-lent → patch-file-limit ≤ length patch-lent → (w : FedFiles) → feed patch slice ≡ accepted w → fits w ≡ true
   both-fits l h k w e = let n = l .sized w e in both-fit w (le-trans (n .output .short) h) (le-trans (n .patch .short) k)
 
-  pub feeds-decided : {ns : List ℕ} → Refuses ns (feed patch slice)
-      → Decided (with-room (fits-both (length output) (length left)) (feed patch slice)) (20 ∷ ns) (answer .number)
-      (output ∷ left ∷ []) (output-after ∷ patch-after ∷ [])
-  feeds-decided {ns} r =
-      decided (20 ∷ ns) (answer .number) (output ∷ left ∷ []) (output-after ∷ patch-after ∷ []) (with-room fits (feed patch slice))
-      (room-refusals fits (Listed (20 ∷ ns)) (feed patch slice) refl (listed-more 20 ns (feed patch slice) (r .only))) fed-told
-      (λ e h. ap₂ (λ x y. x ∷ y ∷ []) (unaltered (λ w. w .output) (with-room fits (feed patch slice)) output output-after e (promise .output-buffer) h)
-      (unaltered (λ w. w .patch) (with-room fits (feed patch slice)) left patch-after e (promise .patch-buffer) h))
+  pub feeds-listed : {ns : List ℕ} → Refuses ns (feed patch slice) → contains (0 ∷ 20 ∷ ns) (answer .number) ≡ true
+  feeds-listed {ns} r =
+      rw fed-told
+      (number-listed (20 ∷ ns) (with-room fits (feed patch slice))
+      (room-refusals fits (Listed (20 ∷ ns)) (feed patch slice) refl (refusals-too (listed-more 20 ns) (feed patch slice) (r .only))))
 
   pub feeds-twenty : {ns : List ℕ} → Refuses ns (feed patch slice)
-      → answer .number ≡ 20 ↔ TooShort (fits-both (length output) (length left)) (feed patch slice)
+      → answer .number ≡ 20 ↔ TooShortFor (fits-both (length output-lent) (length patch-lent)) (feed patch slice)
   feeds-twenty r = rw fed-told (twenty fits (feed patch slice) (not-room (feed patch slice) r))
 
-  pub feeds-bounded : FeedsSized (feed patch slice) → (answer .output ≤ 513) × (answer .patch ≤ 8482)
+  pub feeds-bounded : FeedsSized (feed patch slice) → (answer .output ≤ slice-file-limit) × (answer .patch ≤ patch-file-limit)
   unfolding fed
   feeds-bounded l = (
     rw (ap (λ (a : Fed). a .output) (promise .answers))
-        (bounded fits (feed patch slice) (λ w. length (w .output)) 513 (λ w e. (l .sized w e) .output .short)),
+        (bounded fits (feed patch slice) (λ w. length (w .output)) slice-file-limit (λ w e. (l .sized w e) .output .short)),
     rw (ap (λ (a : Fed). a .patch) (promise .answers))
-        (bounded fits (feed patch slice) (λ w. length (w .patch)) 8482 (λ w e. (l .sized w e) .patch .short)),
+        (bounded fits (feed patch slice) (λ w. length (w .patch)) patch-file-limit (λ w e. (l .sized w e) .patch .short)),
   )
 
   pub feeds-never-twenty : {ns : List ℕ} → Refuses ns (feed patch slice) → FeedsSized (feed patch slice)
-      → 513 ≤ length output → 8482 ≤ length left → answer .number ≡ 20 → ⊥
+      → slice-file-limit ≤ length output-lent → patch-file-limit ≤ length patch-lent → answer .number ≡ 20 → ⊥
   feeds-never-twenty r l h k e = never-twenty fits (feed patch slice) (not-room (feed patch slice) r) (both-fits l h k) (sym fed-told ∙ e)
 
-  pub feeds-bytes : FeedsSized (feed patch slice) → Bytes output → Bytes left → Bytes output-after × Bytes patch-after
+  pub feeds-bytes : FeedsSized (feed patch slice) → Bytes output-lent → Bytes patch-lent → Bytes output-after × Bytes patch-after
   feeds-bytes l b c = (
-    rw (promise .output-buffer) (still-bytes fits (feed patch slice) (λ w. w .output) output (λ w e. (l .sized w e) .output .bytes) b),
-    rw (promise .patch-buffer) (still-bytes fits (feed patch slice) (λ w. w .patch) left (λ w e. (l .sized w e) .patch .bytes) c),
+    rw (promise .output-buffer) (still-bytes fits (feed patch slice) (λ w. w .output) output-lent (λ w e. (l .sized w e) .output .bytes) b),
+    rw (promise .patch-buffer) (still-bytes fits (feed patch slice) (λ w. w .patch) patch-lent (λ w e. (l .sized w e) .patch .bytes) c),
   )
 
-  pub feeds-zero : FeedsSized (feed patch slice) → 513 ≤ length output → 8482 ≤ length left → answer .number ≡ 0 ↔ IsAccepted (feed patch slice)
+  pub feeds-zero : FeedsSized (feed patch slice) → slice-file-limit ≤ length output-lent → patch-file-limit ≤ length patch-lent → answer .number ≡ 0 ↔ IsAccepted (feed patch slice)
   feeds-zero l h k = rw fed-told (zero-with-room fits (feed patch slice) (both-fits l h k))
 
   -- With room for its files, the call writes exactly these.
-  pub feeds-exactly : {w : FedFiles} → feed patch slice ≡ accepted w → length (w .output) ≤ length output → length (w .patch) ≤ length left
-      → Sent (w .output) (w .patch) output left answer output-after patch-after
+  pub feeds-exactly : {w : FedFiles} → feed patch slice ≡ accepted w → length (w .output) ≤ length output-lent → length (w .patch) ≤ length patch-lent
+      → WroteBoth (w .output) (w .patch) output-lent patch-lent answer output-after patch-after
   unfolding fed after
   feeds-exactly {w} e h k =
       let o = enough-room fits (feed patch slice) e (both-fit w h k) in (
         promise .answers ∙ ap fed o,
-        promise .output-buffer ∙ ap (λ r. after (λ f. f .output) r output) o,
-        promise .patch-buffer ∙ ap (λ r. after (λ f. f .patch) r left) o,
+        promise .output-buffer ∙ ap (λ r. after (λ f. f .output) r output-lent) o,
+        promise .patch-buffer ∙ ap (λ r. after (λ f. f .patch) r patch-lent) o,
       )
 
   -- An accepted call has written the two files that it had to.
@@ -227,10 +227,10 @@ module _ {patch slice output left : List ℕ} {answer : Fed} {output-after patch
       record {
         files = w;
         due = room-accepted fits (feed patch slice) w (a .1) .0;
-        output-file = ap₂ take (ap (λ (f : Fed). f .output) told) (promise .output-buffer ∙ ap (λ r. after (λ f. f .output) r output) (a .1))
-            ∙ take-append-seam (w .output) (drop (length (w .output)) output);
-        patch-file = ap₂ take (ap (λ (f : Fed). f .patch) told) (promise .patch-buffer ∙ ap (λ r. after (λ f. f .patch) r left) (a .1))
-            ∙ take-append-seam (w .patch) (drop (length (w .patch)) left);
+        output-file = ap₂ take (ap (λ (f : Fed). f .output) told) (promise .output-buffer ∙ ap (λ r. after (λ f. f .output) r output-lent) (a .1))
+            ∙ take-append-seam (w .output) (drop (length (w .output)) output-lent);
+        patch-file = ap₂ take (ap (λ (f : Fed). f .patch) told) (promise .patch-buffer ∙ ap (λ r. after (λ f. f .patch) r patch-lent) (a .1))
+            ∙ take-append-seam (w .patch) (drop (length (w .patch)) patch-lent);
       }
 
 -- Admit
@@ -244,8 +244,8 @@ module _ {o : Result Bool} {answer : Admitted} (promise : Admits o answer) where
   unfolding admitted
   admit-told = ap (λ (a : Admitted). a .number) (promise .answers)
 
-  pub admits-decided : {ns : List ℕ} → Refuses ns o → Decided o ns (answer .number) [] []
-  admits-decided {ns} r = decided ns (answer .number) [] [] o (r .only) admit-told (λ x h. refl)
+  pub admits-listed : {ns : List ℕ} → Refuses ns o → contains (0 ∷ ns) (answer .number) ≡ true
+  admits-listed {ns} r = rw admit-told (number-listed ns o (r .only))
 
   pub admits-zero : answer .number ≡ 0 ↔ IsAccepted o
   admits-zero = rw admit-told (zero-accepted o)
@@ -274,9 +274,9 @@ pub join-kept : (type first second lent : List ℕ)
     → (answer : Written) × (lent-after : List ℕ) × JoinPromise type first second lent answer lent-after
 join-kept type first second lent = writes-kept (join type first second) lent
 
-pub feed-kept : (patch slice output left : List ℕ)
-    → (answer : Fed) × (output-after : List ℕ) × (patch-after : List ℕ) × FeedPromise patch slice output left answer output-after patch-after
-feed-kept patch slice output left = (_, _, _, record { answers = refl; output-buffer = refl; patch-buffer = refl })
+pub feed-kept : (patch slice output-lent patch-lent : List ℕ)
+    → (answer : Fed) × (output-after : List ℕ) × (patch-after : List ℕ) × FeedPromise patch slice output-lent patch-lent answer output-after patch-after
+feed-kept patch slice output-lent patch-lent = (_, _, _, record { answers = refl; output-buffer = refl; patch-buffer = refl })
 
 pub writes-alike : {outcome : Result (List ℕ)} {lent x y : List ℕ} {a b : Written} → Writes outcome lent a x → Writes outcome lent b y
     → (a ≡ b) × (x ≡ y)
@@ -285,16 +285,16 @@ writes-alike h k = (h .answers ∙ sym (k .answers), h .buffer ∙ sym (k .buffe
 pub admits-alike : {outcome : Result Bool} {a b : Admitted} → Admits outcome a → Admits outcome b → a ≡ b
 admits-alike h k = h .answers ∙ sym (k .answers)
 
-pub feeds-alike : {patch slice output left x y u v : List ℕ} {a b : Fed} → FeedPromise patch slice output left a x u
-    → FeedPromise patch slice output left b y v → (a ≡ b) × (x ≡ y) × (u ≡ v)
+pub feeds-alike : {patch slice output-lent patch-lent x y u v : List ℕ} {a b : Fed} → FeedPromise patch slice output-lent patch-lent a x u
+    → FeedPromise patch slice output-lent patch-lent b y v → (a ≡ b) × (x ≡ y) × (u ≡ v)
 feeds-alike h k = (h .answers ∙ sym (k .answers), h .output-buffer ∙ sym (k .output-buffer), h .patch-buffer ∙ sym (k .patch-buffer))
 
 -- What Check refuses, 20 aside, Feed refuses with the same number.
-pub feeds-as-check : {patch slice lent lent-after output left output-after patch-after : List ℕ} {c : Written} {f : Fed}
-    → CheckPromise patch lent c lent-after → FeedPromise patch slice output left f output-after patch-after
+pub feeds-as-check : {patch slice lent lent-after output-lent patch-lent output-after patch-after : List ℕ} {c : Written} {f : Fed}
+    → CheckPromise patch lent c lent-after → FeedPromise patch slice output-lent patch-lent f output-after patch-after
     → (c .number ≡ 0 → ⊥) → (c .number ≡ 20 → ⊥) → f ≡ record { number = c .number; output = 0; patch = 0 }
 unfolding with-room fed written
-feeds-as-check {patch} {slice} {lent} {output = output} {left = left} {c = c} {f = f} check-call feed-call n m = go (check patch) refl
+feeds-as-check {patch} {slice} {lent} {output-lent = output-lent} {patch-lent = patch-lent} {c = c} {f = f} check-call feed-call n m = go (check patch) refl
   where
     short : (file : List ℕ) (b : Bool) → c .number ≡ number-of (require b NoRoom (accepted file)) → f ≡ record { number = c .number; output = 0; patch = 0 }
     short file true e = absurd (n e)
@@ -303,5 +303,142 @@ feeds-as-check {patch} {slice} {lent} {output = output} {left = left} {c = c} {f
     go : (r : Result (List ℕ)) → check patch ≡ r → f ≡ record { number = c .number; output = 0; patch = 0 }
     go (accepted file) e = short file (fits-one (length lent) file) (told check-call ∙ ap (λ r. number-of (with-room (fits-one (length lent)) r)) e)
     go (refused e) d =
-        feed-call .answers ∙ ap (λ r. fed (with-room (fits-both (length output) (length left)) r)) (check-refused-feed patch slice d)
+        feed-call .answers ∙ ap (λ r. fed (with-room (fits-both (length output-lent) (length patch-lent)) r)) (check-refused-feed patch slice d)
         ∙ (λ i. record { number = sym (told check-call ∙ ap (λ r. number-of (with-room (fits-one (length lent)) r)) d) i; output = 0; patch = 0 })
+
+-- A call is decided by what its files are read as.
+
+weaken : {A : Type 0} {read : Result A} {P Q : A → Type 0} {answered : ℕ} {lent lent-after : List (List ℕ)} → ((a : A) → P a → Q a)
+    → Decided read P answered lent lent-after → Decided read Q answered lent lent-after
+weaken f (is-accepted a e n) = is-accepted a e n
+weaken f (is-refused x e n u) = is-refused x e n u
+weaken f (is-short a e s n u) = is-short a e (f a s) n u
+
+-- An operation with one lent buffer, which writes `file a` where its files are read as a.
+module _ {A : Type 0} (file : A → List ℕ) {lent : List ℕ} {answer : Written} {lent-after : List ℕ} where
+  by-room : (a : A) (b : Bool) → leb (length (file a)) (length lent) ≡ b → answer ≡ written (require b NoRoom (accepted (file a)))
+      → lent-after ≡ after (λ f. f) (require b NoRoom (accepted (file a))) lent
+      → Decided (accepted a) (λ x. length lent < length (file x)) (answer .number) (lent ∷ []) (lent-after ∷ [])
+  unfolding written after
+  by-room a true e n u = is-accepted a refl (ap (λ (w : Written). w .number) n)
+  by-room a false e n u = is-short a refl (leb-false _ _ e) (ap (λ (w : Written). w .number) n) (ap (λ l. l ∷ []) u)
+
+  pub writes-decided : (read : Result A) → Writes (go-on read (λ a. accepted (file a))) lent answer lent-after
+      → Decided read (λ a. length lent < length (file a)) (answer .number) (lent ∷ []) (lent-after ∷ [])
+  unfolding with-room written after
+  writes-decided (accepted a) promise = by-room a (leb (length (file a)) (length lent)) refl (promise .answers) (promise .buffer)
+  writes-decided (refused e) promise =
+      is-refused e refl (ap (λ (w : Written). w .number) (promise .answers)) (ap (λ l. l ∷ []) (promise .buffer))
+
+pub admits-decided : {A : Type 0} (says : A → Bool) {answer : Admitted} (read : Result A) → Admits (go-on read (λ a. accepted (says a))) answer
+    → Decided read (λ a. ⊥) (answer .number) [] []
+unfolding admitted
+admits-decided says (accepted a) promise = is-accepted a refl (ap (λ (w : Admitted). w .number) (promise .answers))
+admits-decided says (refused e) promise = is-refused e refl (ap (λ (w : Admitted). w .number) (promise .answers)) refl
+
+-- What files read one after the other come to is what comes of all of them together.
+
+both-read : {A B C D : Type 0} (r : Result A) (s : A → Result B) (g : A → C) (f : C → B → Result D)
+    → go-on r (λ a. go-on (s a) (λ b. f (g a) b)) ≡ go-on (go-on r (λ a. go-on (s a) (λ b. accepted (g a, b)))) (λ (x : C × B). f (x .0) (x .1))
+both-read (refused e) s g f = refl
+both-read {A} {B} {C} {D} (accepted a) s g f = go (s a)
+  where
+    go : (r : Result B) → go-on r (λ b. f (g a) b) ≡ go-on (go-on r (λ b. accepted (g a, b))) (λ (x : C × B). f (x .0) (x .1))
+    go (accepted b) = refl
+    go (refused e) = refl
+
+three-read : {A B C D : Type 0} (r : Result A) (s : A → Result B) (u : A → B → Result C) (f : B → C → Result D)
+    → go-on r (λ a. go-on (s a) (λ b. go-on (u a b) (λ c. f b c)))
+    ≡ go-on (go-on r (λ a. go-on (s a) (λ b. go-on (u a b) (λ c. accepted (b, c))))) (λ (x : B × C). f (x .0) (x .1))
+three-read (refused e) s u f = refl
+three-read (accepted a) s u f = both-read (s a) (u a) (λ b. b) f
+
+pub check-decided : (patch : List ℕ) {lent lent-after : List ℕ} {answer : Written} → CheckPromise patch lent answer lent-after
+    → Decided (patch-file patch) (λ c. length lent < length (type-file-bytes (c .output))) (answer .number) (lent ∷ []) (lent-after ∷ [])
+unfolding check
+check-decided patch call = writes-decided (λ c. type-file-bytes (c .output)) (patch-file patch) call
+
+pub admit-decided : (type slice : List ℕ) {answer : Admitted} → AdmitPromise type slice answer
+    → Decided (type-and-slice type slice) (λ x. ⊥) (answer .number) [] []
+unfolding admit
+admit-decided type slice call =
+    admits-decided (λ (x : Ty × Prefix). complete (x .1)) (type-and-slice type slice)
+    (rw (both-read (type-file type) (λ t. slice-file t slice) (λ t. t) (λ t p. accepted (complete p))) at call)
+
+pub left-decided : (type slice : List ℕ) {lent lent-after : List ℕ} {answer : Written} → LeftPromise type slice lent answer lent-after
+    → Decided (type-and-slice type slice) (λ x. length lent < length (type-file-bytes (derivative (x .0) (x .1)))) (answer .number)
+    (lent ∷ []) (lent-after ∷ [])
+unfolding left
+left-decided type slice call =
+    writes-decided (λ (x : Ty × Prefix). type-file-bytes (derivative (x .0) (x .1))) (type-and-slice type slice)
+    (rw (both-read (type-file type) (λ t. slice-file t slice) (λ t. t) (λ t p. accepted (type-file-bytes (derivative t p)))) at call)
+
+pub join-decided : (type first second : List ℕ) {lent lent-after : List ℕ} {answer : Written} → JoinPromise type first second lent answer lent-after
+    → Decided (two-slices type first second) (λ x. (r : Prefix) → Concat (x .0) (x .1) r → length lent < length (slice-file-bytes r))
+    (answer .number) (lent ∷ []) (lent-after ∷ [])
+unfolding join
+join-decided type first second call =
+    weaken (λ x h r c. rw (← concat-only c) h)
+    (writes-decided (λ (x : Prefix × Prefix). slice-file-bytes (concat (x .0) (x .1))) (two-slices type first second)
+    (rw (three-read (type-file type) (λ t. slice-file t first) (λ t p. slice-file (derivative t p) second)
+    (λ p q. accepted (slice-file-bytes (concat p q)))) at call))
+
+-- Feed, which has two buffers.
+
+and-false : (a b : Bool) → (a && b) ≡ false → (a ≡ false) ⊎ (b ≡ false)
+and-false true b e = inr e
+and-false false b e = inl refl
+
+-- The rules leave no other files than the functions do.
+pub left-only : {a b : Patch} {p o : Prefix} → FeedsPatch a p o b → fed-files a p ≡ record { output = slice-file-bytes o; patch = patch-file-bytes b }
+left-only {a} {b} {p} {o} f =
+    let e = feeds-only (f .by-node) in
+    λ i. record {
+      output = slice-file-bytes (sym (e .sent) i);
+      patch = patch-file-bytes (record { input = sym (f .input-left) i; node = sym (e .node) i });
+    }
+
+module _ (output-lent patch-lent : List ℕ) where
+  abbrev NoRoomFor : Patch × Prefix → Type 0
+  NoRoomFor x = fits-both (length output-lent) (length patch-lent) (fed-files (x .0) (x .1)) ≡ false
+
+  too-short : (x : Patch × Prefix) → NoRoomFor x → (o : Prefix) (b : Patch) → FeedsPatch (x .0) (x .1) o b
+      → (length output-lent < length (slice-file-bytes o)) ⊎ (length patch-lent < length (patch-file-bytes b))
+  too-short x h o b f =
+      ⊎-elim (λ e. inl (leb-false _ _ e)) (λ e. inr (leb-false _ _ e))
+      (and-false (leb (length (slice-file-bytes o)) (length output-lent)) (leb (length (patch-file-bytes b)) (length patch-lent))
+      (ap (fits-both (length output-lent) (length patch-lent)) (sym (left-only f)) ∙ h))
+
+  module _ {output-after patch-after : List ℕ} {answer : Fed} where
+    by-both : (x : Patch × Prefix) (b : Bool) → fits-both (length output-lent) (length patch-lent) (fed-files (x .0) (x .1)) ≡ b
+        → answer ≡ fed (require b NoRoom (accepted (fed-files (x .0) (x .1))))
+        → output-after ≡ after (λ w. w .output) (require b NoRoom (accepted (fed-files (x .0) (x .1)))) output-lent
+        → patch-after ≡ after (λ w. w .patch) (require b NoRoom (accepted (fed-files (x .0) (x .1)))) patch-lent
+        → Decided (accepted x) NoRoomFor (answer .number) (output-lent ∷ patch-lent ∷ []) (output-after ∷ patch-after ∷ [])
+    unfolding fed after
+    by-both x true e n u v = is-accepted x refl (ap (λ (w : Fed). w .number) n)
+    by-both x false e n u v = is-short x refl e (ap (λ (w : Fed). w .number) n) (ap₂ (λ k l. k ∷ l ∷ []) u v)
+
+    fed-decided : (read : Result (Patch × Prefix)) (o : Result FedFiles) → o ≡ go-on read (λ x. accepted (fed-files (x .0) (x .1)))
+        → answer ≡ fed (into-both output-lent patch-lent o)
+        → output-after ≡ after (λ w. w .output) (into-both output-lent patch-lent o) output-lent
+        → patch-after ≡ after (λ w. w .patch) (into-both output-lent patch-lent o) patch-lent
+        → Decided read NoRoomFor (answer .number) (output-lent ∷ patch-lent ∷ []) (output-after ∷ patch-after ∷ [])
+    unfolding with-room fed after
+    fed-decided (accepted x) o e n u v =
+        by-both x (fits-both (length output-lent) (length patch-lent) (fed-files (x .0) (x .1))) refl (rw e at n) (rw e at u) (rw e at v)
+    fed-decided (refused f) o e n u v =
+        is-refused f refl (ap (λ (w : Fed). w .number) (rw e at n)) (ap₂ (λ k l. k ∷ l ∷ []) (rw e at u) (rw e at v))
+
+pub feed-decided : {patch slice output-lent patch-lent output-after patch-after : List ℕ} {answer : Fed}
+    → FeedPromise patch slice output-lent patch-lent answer output-after patch-after
+    → Decided (patch-and-slice patch slice)
+    (λ x. (o : Prefix) (b : Patch) → FeedsPatch (x .0) (x .1) o b
+    → (length output-lent < length (slice-file-bytes o)) ⊎ (length patch-lent < length (patch-file-bytes b)))
+    (answer .number) (output-lent ∷ patch-lent ∷ []) (output-after ∷ patch-after ∷ [])
+unfolding feed
+feed-decided {patch} {slice} {output-lent} {patch-lent} call =
+    weaken (too-short output-lent patch-lent)
+    (fed-decided output-lent patch-lent (patch-and-slice patch slice) (feed patch slice)
+    (both-read (patch-file patch) (λ c. slice-file (c .patch .input) slice) (λ c. c .patch) (λ a p. accepted (fed-files a p)))
+    (call .answers) (call .output-buffer) (call .patch-buffer))

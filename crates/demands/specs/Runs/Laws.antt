@@ -1,7 +1,7 @@
 -- Runs: a list of Feed calls is a list of feeds of trees, and so it is as one feed.
 use mathlib.Core.Path.{_≡_, refl, sym, ap, ap₂, _∙_}
 use mathlib.Core.Bool.{Bool, true, false}
-use mathlib.Core.List.{List, [], _∷_, _++_, map}
+use mathlib.Core.List.{List, [], _∷_, _++_, map, append-nil, append-assoc}
 use Prim.Native.Nat.{ℕ, _≤_}
 use native.Mathlib.Omega.{arith}
 use lib.Dec.{eqb}
@@ -10,32 +10,31 @@ use lib.Seq.{take-append-seam}
 use borrow.Author.Tests.{eqb-true, eqb-false}
 use Rattle.stream.specs.Types.{Ty}
 use Rattle.stream.specs.Prefixes.{Prefix, IsPrefix, derivative}
-use Rattle.stream.specs.Prefixes.Laws.{concat-is-prefix, derivative-concat}
+use Rattle.stream.specs.Prefixes.Laws.{concat-is-prefix, derivative-concat, concats}
 use Rattle.stream.specs.Reading.{Bytes, accepted}
 use Rattle.stream.specs.Reading.Laws.{go-on-accepted}
-use Rattle.stream.specs.TypeFiles.{type-file-bytes}
 use Rattle.stream.specs.SliceFiles.{slice-file, slice-file-bytes, SliceFile}
 use Rattle.stream.specs.SliceFiles.Laws.{slice-file-sound}
-use Rattle.node.specs.Nodes.{Node, Small, Allowed}
-use Rattle.node.specs.Feeding.{Feeds, sends, leaves}
-use Rattle.node.specs.Nodes.Laws.{output-small}
-use Rattle.node.specs.Feeding.Laws.{Preserved, preserved, feeds-only, leaves-allowed}
+use Rattle.node.specs.Nodes.{Node, Allowed, patch-of, Patch}
+use Rattle.node.specs.Feeding.{FeedsPatch}
+use Rattle.node.specs.Feeding.Functions.{sends, leaves, patch-left}
+use Rattle.node.specs.Feeding.Laws.{Preserved, preserved, leaves-allowed, feeds}
 use Rattle.node.specs.Feeding.Lists.{Pieces, no-more, piece, concat-all, derivative-all, sends-all, leaves-all, sends-pieces, concat-all-is-prefix, derivative-concat-all, sends-concat-all, leaves-concat-all, leaves-all-allowed}
 use Rattle.node.specs.PatchFiles.{patch-file-bytes, PatchFile}
 use Rattle.stream.specs.Buffers.{at-front}
 use Rattle.meaning.specs.declared.Fed.{Fed}
-use Rattle.meaning.specs.Answers.{check, left, FedFiles, feed}
-use Rattle.meaning.specs.Answers.Laws.{check-answers, patch-checked, left-answers, join-answers, fed-files, feed-of-patch, feed-answers, first-section-of-patch}
+use Rattle.meaning.specs.Answers.{left, FedFiles, feed, fed-files}
+use Rattle.meaning.specs.Answers.Laws.{feed-of-patch, feed-answers}
 use Rattle.meaning.specs.Promises.{FeedPromise}
-use Rattle.demands.specs.Calls.{Sent}
-use Rattle.demands.specs.Calls.Laws.{feeds-exactly, feeds-accepted, feed-kept, feeds-alike}
-use Rattle.demands.specs.Runs.{Call, ByteSlices, Run, Ran, no-call, accepted-call, refused-call, Joins, alone, joined, AsOne, Faithful, Through}
+use Rattle.demands.specs.Calls.{WroteBoth}
+use Rattle.demands.specs.Calls.Laws.{feeds-exactly, feeds-accepted, feed-kept, feeds-alike, left-only}
+use Rattle.demands.specs.Runs.{Call, ByteSlices, Run, Ran, no-call, accepted-call, refused-call, Joined, alone, and-next, AsOne, Faithful, Through}
 
 -- Where a run has come to, by trees.
 record Traced (s : Ty) (n : Node) (r : Run) : Type 0 where
   pieces : List Prefix
   are-pieces : Pieces s pieces
-  patch : r .patch ≡ patch-file-bytes (derivative-all s pieces) (leaves-all s n pieces)
+  patch : r .patch ≡ patch-file-bytes (patch-of (derivative-all s pieces) (leaves-all s n pieces))
   slices : r .slices ≡ map slice-file-bytes pieces
   outputs : r .outputs ≡ map slice-file-bytes (sends-all s n pieces)
 
@@ -57,16 +56,16 @@ record Piece (s : Ty) (n : Node) (slice : List ℕ) (w : FedFiles) : Type 0 wher
   prefix : Prefix
   is-prefix : IsPrefix s prefix
   bytes : slice-file-bytes prefix ≡ slice
-  files : fed-files s n prefix ≡ w
+  files : fed-files (patch-of s n) prefix ≡ w
 
 a-piece : {s t : Ty} {n : Node} {slice : List ℕ} {w : FedFiles} → Allowed s n t → Bytes slice
-    → feed (patch-file-bytes s n) slice ≡ accepted w → Piece s n slice w
+    → feed (patch-file-bytes (patch-of s n)) slice ≡ accepted w → Piece s n slice w
 a-piece {s} {t} {n} {slice} {w} a b e =
-    let y = go-on-accepted (slice-file s slice) (λ p. accepted (fed-files s n p)) w (sym (feed-of-patch slice a) ∙ e) in
+    let y = go-on-accepted (slice-file s slice) (λ p. accepted (fed-files (patch-of s n) p)) w (sym (feed-of-patch slice a) ∙ e) in
     let z = slice-file-sound s slice (y .0) b (y .1) in
     record { prefix = y .0; is-prefix = z .1; bytes = z .0; files = let d = y .2 in cc }
 
-traced : {s t : Ty} {n : Node} {start : List ℕ} {r : Run} (calls : List Call) → patch-file-bytes s n ≡ start → Allowed s n t → ByteSlices calls
+traced : {s t : Ty} {n : Node} {start : List ℕ} {r : Run} (calls : List Call) → patch-file-bytes (patch-of s n) ≡ start → Allowed s n t → ByteSlices calls
     → Ran start calls r → Traced s n r
 unfolding derivative-all leaves-all sends-all
 traced [] e a b no-call = record { pieces = []; are-pieces = no-more; patch = sym e; slices = refl; outputs = refl }
@@ -77,80 +76,86 @@ traced {s} {t} {n} (c ∷ calls) e a b (accepted-call {r = r} k z ran) =
     one-more r (p .is-prefix) (p .bytes) (ap (λ (w : FedFiles). w .output) (p .files) ∙ sym (x .output-file))
     (traced calls (ap (λ (w : FedFiles). w .patch) (p .files) ∙ sym (x .patch-file)) (leaves-allowed a (p .is-prefix)) (b .1) ran)
 
--- The files of pieces join to the file of their concatenation.
-joins-all : {s : Ty} {p : Prefix} (ps : List Prefix) → Small s → IsPrefix s p → Pieces (derivative s p) ps
-    → Joins (type-file-bytes s) (slice-file-bytes p ∷ map slice-file-bytes ps) (slice-file-bytes (concat-all p ps))
-unfolding concat-all
-joins-all [] w h k = alone
-joins-all (q ∷ ps) w h (piece k r) = joined (join-answers q w h k) (joins-all ps w (concat-is-prefix q h k) (rw (derivative-concat q h k) r))
+-- The files of pieces join to their concatenation.
 
-as-one-by : {s t : Ty} {n : Node} (r : Run) (ps : List Prefix) → Allowed s n t → Pieces s ps
-    → r .patch ≡ patch-file-bytes (derivative-all s ps) (leaves-all s n ps) → r .slices ≡ map slice-file-bytes ps
-    → r .outputs ≡ map slice-file-bytes (sends-all s n ps) → 1 ≤ length (r .slices) → AsOne (patch-file-bytes s n) r
+joined-on : {s : Ty} {p : Prefix} (done : List (List ℕ)) (ps : List Prefix) → Joined s done p → IsPrefix s p → Pieces (derivative s p) ps
+    → Joined s (done ++ map slice-file-bytes ps) (concat-all p ps)
+unfolding concat-all
+joined-on done [] j h k = rw (append-nil done) j
+joined-on done (q ∷ ps) j h (piece k r) =
+    rw (← append-assoc done (slice-file-bytes q ∷ []) (map slice-file-bytes ps))
+    (joined-on (done ++ slice-file-bytes q ∷ []) ps (and-next j k (concats q h k)) (concat-is-prefix q h k) (rw (derivative-concat q h k) r))
+
+joined-all : {s : Ty} {p : Prefix} (ps : List Prefix) → IsPrefix s p → Pieces (derivative s p) ps
+    → Joined s (slice-file-bytes p ∷ map slice-file-bytes ps) (concat-all p ps)
+joined-all {p = p} ps h k = joined-on (slice-file-bytes p ∷ []) ps (alone h) h k
+
+-- A run of one accepted call or more, by its pieces.
+record OneFeed {s : Ty} {n : Node} {t : Ty} (a : Allowed s n t) (ps : List Prefix) (r : Run) : Type 0 where
+  slice : Prefix
+  output : Prefix
+  slices-joined : Joined s (r .slices) slice
+  outputs-joined : Joined t (r .outputs) output
+  fed-joined : feed (patch-file-bytes (patch-of s n)) (slice-file-bytes slice) ≡ accepted (record { output = slice-file-bytes output; patch = r .patch })
+  input-left : derivative-all s ps ≡ derivative s slice
+  output-left : derivative-all t (sends-all s n ps) ≡ derivative t output
+
+one-feed : {s t : Ty} {n : Node} (r : Run) (ps : List Prefix) (a : Allowed s n t) → Pieces s ps
+    → r .patch ≡ patch-file-bytes (patch-of (derivative-all s ps) (leaves-all s n ps)) → r .slices ≡ map slice-file-bytes ps
+    → r .outputs ≡ map slice-file-bytes (sends-all s n ps) → 1 ≤ length (r .slices) → OneFeed a ps r
 unfolding derivative-all leaves-all sends-all
-as-one-by r [] a no-more e d o l = absurd (omega (arith, ap length d))
-as-one-by {s} {t} {n} r (p ∷ ps) a (piece h k) e d o l =
+one-feed r [] a no-more e d o l = absurd (omega (arith, ap length d))
+one-feed {s} {t} {n} r (p ∷ ps) a (piece h k) e d o l =
     record {
-      slice = slice-file-bytes (concat-all p ps);
-      output = slice-file-bytes (concat-all (sends s n p) (sends-all (derivative s p) (leaves s n p) ps));
-      output-type = type-file-bytes t;
-      checked = check-answers a;
-      slices-joined = rw (first-section-of-patch s n, d) (joins-all ps (a .input-small) h k);
-      outputs-joined = rw o (joins-all (sends-all (derivative s p) (leaves s n p) ps) small (x .sent) outputs);
-      fed-as-one = λ k i j. feeds-exactly k fed-joined i j;
-      input-left = rw (first-section-of-patch s n, e, first-section-of-patch (derivative-all s (p ∷ ps)) (leaves-all s n (p ∷ ps)))
-          (left-answers (a .input-small) prefix ∙ ap (λ u. accepted (type-file-bytes u)) (derivative-concat-all ps h k));
-      output-left = left-answers small (concat-all-is-prefix (sends-all (derivative s p) (leaves s n p) ps) (x .sent) outputs)
-          ∙ ap (λ u. accepted (type-file-bytes u)) (derivative-concat-all (sends-all (derivative s p) (leaves s n p) ps) (x .sent) outputs)
-          ∙ sym (ap check e ∙ check-answers (leaves-all-allowed (p ∷ ps) a (piece h k)));
+      slice = concat-all p ps;
+      output = concat-all (sends s n p) sent;
+      slices-joined = rw d (joined-all ps h k);
+      outputs-joined = rw o (joined-all sent (x .sent) outputs);
+      fed-joined =
+          feed-answers a (concat-all-is-prefix ps h k)
+          ∙ (λ i. accepted (record { output = slice-file-bytes (sends-concat-all ps (a .types) h k i); patch = patches i }));
+      input-left = sym (derivative-concat-all ps h k);
+      output-left = sym (derivative-concat-all sent (x .sent) outputs);
     }
   where
     x : Preserved s n t p
     x = preserved (a .types) h
 
-    small : Small t
-    small = output-small (a .types) (a .fits)
+    sent : List Prefix
+    sent = sends-all (derivative s p) (leaves s n p) ps
 
     outputs : Pieces (derivative t (sends s n p)) (sends-all (derivative s p) (leaves s n p) ps)
     outputs = sends-pieces ps (x .types) k
 
-    prefix : IsPrefix s (concat-all p ps)
-    prefix = concat-all-is-prefix ps h k
-
-    patches : patch-file-bytes (derivative s (concat-all p ps)) (leaves s n (concat-all p ps)) ≡ r .patch
-    patches = ap₂ patch-file-bytes (derivative-concat-all ps h k) (leaves-concat-all ps (a .types) h k) ∙ sym e
-
-    joined-files : FedFiles
-    joined-files =
-        record {
-          output = slice-file-bytes (concat-all (sends s n p) (sends-all (derivative s p) (leaves s n p) ps));
-          patch = r .patch;
-        }
-
-    fed-joined : feed (patch-file-bytes s n) (slice-file-bytes (concat-all p ps)) ≡ accepted joined-files
-    fed-joined =
-        feed-answers a prefix
-        ∙ (λ i. accepted (record { output = slice-file-bytes (sends-concat-all ps (a .types) h k i); patch = patches i }))
+    patches : patch-file-bytes (patch-left (patch-of s n) (concat-all p ps)) ≡ r .patch
+    patches = ap₂ (λ u m. patch-file-bytes (patch-of u m)) (derivative-concat-all ps h k) (leaves-concat-all ps (a .types) h k) ∙ sym e
 
 -- Fed a prefix, a patch file sends and leaves what the rules say.
-pub feed-by-rules : {n′ : Node} {o : Prefix} {file slice output left output-after patch-after : List ℕ} {answer : Fed}
-    → FeedPromise file slice output left answer output-after patch-after → (patch : PatchFile file) (taken : SliceFile (patch .input) slice)
-    → Feeds (patch .input) (patch .node) (taken .prefix) o n′
-    → length (slice-file-bytes o) ≤ length output → length (patch-file-bytes (derivative (patch .input) (taken .prefix)) n′) ≤ length left
-    → Sent (slice-file-bytes o) (patch-file-bytes (derivative (patch .input) (taken .prefix)) n′) output left answer output-after patch-after
-feed-by-rules k patch taken g i j =
-    let e = feeds-only g in
-    let s = patch .input in
-    let p = taken .prefix in
-    feeds-exactly k
-    (rw (patch .bytes, taken .bytes) at (feed-answers (patch .allowed) (taken .is-prefix))
-    ∙ (λ k. accepted (record { output = slice-file-bytes (sym e.sent k); patch = patch-file-bytes (derivative s p) (sym e.node k) })))
-    i j
+pub feed-by-rules : {b : Patch} {o : Prefix} {file slice output-lent patch-lent output-after patch-after : List ℕ} {answer : Fed}
+    → FeedPromise file slice output-lent patch-lent answer output-after patch-after
+    → (patch : PatchFile file) (taken : SliceFile (patch .patch .input) slice) → FeedsPatch (patch .patch) (taken .prefix) o b
+    → length (slice-file-bytes o) ≤ length output-lent → length (patch-file-bytes b) ≤ length patch-lent
+    → WroteBoth (slice-file-bytes o) (patch-file-bytes b) output-lent patch-lent answer output-after patch-after
+feed-by-rules call patch taken rule i j =
+    feeds-exactly call
+    (rw (patch .bytes, taken .bytes) at (feed-answers (patch .allowed) (taken .is-prefix)) ∙ ap accepted (left-only rule)) i j
+
+-- The rules define what is sent and left, of every prefix.
+pub feed-defined : {file slice : List ℕ} (patch : PatchFile file) (taken : SliceFile (patch .patch .input) slice)
+    → (o : Prefix) × (b : Patch) × FeedsPatch (patch .patch) (taken .prefix) o b
+feed-defined patch taken =
+    (_, patch-left (patch .patch) (taken .prefix), record { by-node = feeds (patch .allowed .types) (taken .is-prefix); input-left = refl })
 
 -- From any patch file, with any calls
 
 module _ {start : List ℕ} {calls : List Call} {r : Run} (ran : Ran start calls r) (patch : PatchFile start) (slices : ByteSlices calls) where
-  trace : Traced (patch .input) (patch .node) r
+  abbrev input : Ty
+  input = patch .patch .input
+
+  abbrev node : Node
+  node = patch .patch .node
+
+  trace : Traced input node r
   trace = traced calls (patch .bytes) (patch .allowed) slices ran
 
   run-none : r .slices ≡ [] → r .patch ≡ start
@@ -158,29 +163,37 @@ module _ {start : List ℕ} {calls : List Call} {r : Run} (ran : Ran start calls
   run-none e = go (trace .pieces) (sym (trace .slices) ∙ e) (trace .patch)
     where
       go : (ps : List Prefix) → map slice-file-bytes ps ≡ []
-          → r .patch ≡ patch-file-bytes (derivative-all (patch .input) ps) (leaves-all (patch .input) (patch .node) ps)
-          → r .patch ≡ start
+          → r .patch ≡ patch-file-bytes (patch-of (derivative-all input ps) (leaves-all input node ps)) → r .patch ≡ start
       go [] d h = h ∙ patch .bytes
       go (p ∷ ps) d h = let z : _≡_ {A = ℕ} 0 1 = cc in absurd (omega arith)
-
-  run-as-one : 1 ≤ length (r .slices) → AsOne start r
-  run-as-one h =
-      let t = trace in
-      rw (patch .bytes) at (as-one-by r (t .pieces) (patch .allowed) (t .are-pieces) (t .patch) (t .slices) (t .outputs) h)
 
   pub run-patch : PatchFile (r .patch)
   run-patch =
       let t = trace in
       record {
-        input = derivative-all (patch .input) (t .pieces);
-        node = leaves-all (patch .input) (patch .node) (t .pieces);
-        output = derivative-all (patch .output) (sends-all (patch .input) (patch .node) (t .pieces));
+        patch = patch-of (derivative-all input (t .pieces)) (leaves-all input node (t .pieces));
+        output = derivative-all (patch .output) (sends-all input node (t .pieces));
         allowed = leaves-all-allowed (t .pieces) (patch .allowed) (t .are-pieces);
         bytes = sym (t .patch);
       }
 
-  pub run-faithful : Faithful start r
-  run-faithful = record { as-one = run-as-one; unmoved = run-none; still-accepted = patch-checked run-patch }
+  run-as-one : 1 ≤ length (r .slices) → AsOne patch r run-patch
+  unfolding run-patch
+  run-as-one h =
+      let t = trace in
+      let one = one-feed r (t .pieces) (patch .allowed) (t .are-pieces) (t .patch) (t .slices) (t .outputs) h in
+      record {
+        slice = one .slice;
+        output = one .output;
+        slices-joined = one .slices-joined;
+        outputs-joined = one .outputs-joined;
+        fed-as-one = λ call i j. feeds-exactly call (rw (patch .bytes) at (one .fed-joined)) i j;
+        input-left = one .input-left;
+        output-left = one .output-left;
+      }
+
+  pub run-faithful : Faithful patch r
+  run-faithful = record { still-accepted = run-patch; as-one = run-as-one; unmoved = run-none }
 
 -- A run goes through the runs of the initial parts of its list.
 
@@ -189,7 +202,7 @@ run-through [] more ran = record { so-far = _; ran = no-call; rest = _; goes-on 
 run-through (c ∷ calls) more (refused-call k z ran) =
     let t = run-through calls more ran in
     record { so-far = t .so-far; ran = refused-call k z (t .ran); rest = t .rest; goes-on = t .goes-on; comes-to = t .comes-to }
-run-through (c ∷ calls) more (accepted-call {answer = answer} {output = output} k z ran) =
+run-through (c ∷ calls) more (accepted-call {answer = answer} {output-after = output} k z ran) =
     let t = run-through calls more ran in
     record {
       so-far = _;
@@ -204,14 +217,14 @@ first-slices : (calls more : List Call) → ByteSlices (calls ++ more) → ByteS
 first-slices [] more b = tt
 first-slices (c ∷ calls) more b = (b .0, first-slices calls more (b .1))
 
-pub run-faithful-so-far : {start : List ℕ} {r : Run} (calls more : List Call) → Ran start (calls ++ more) r → PatchFile start → ByteSlices (calls ++ more)
-    → (t : Through start calls more r) × Faithful start (t .so-far)
+pub run-faithful-so-far : {start : List ℕ} {r : Run} (calls more : List Call) → Ran start (calls ++ more) r → (patch : PatchFile start)
+    → ByteSlices (calls ++ more) → (t : Through start calls more r) × Faithful patch (t .so-far)
 run-faithful-so-far calls more ran patch b = let t = run-through calls more ran in (t, run-faithful (t .ran) patch (first-slices calls more b))
 
 -- Every list of calls runs, from whatever start, and comes to one thing.
 
 one-call : (start : List ℕ) (c : Call) (calls : List Call) → ((next : List ℕ) → (r : Run) × Ran next calls r)
-    → (answer : Fed) (output left : List ℕ) → FeedPromise start (c .slice) (c .output) (c .left) answer output left
+    → (answer : Fed) (output left : List ℕ) → FeedPromise start (c .slice) (c .output-lent) (c .patch-lent) answer output left
     → (b : Bool) → eqb (answer .number) 0 ≡ b → (r : Run) × Ran start (c ∷ calls) r
 one-call start c calls next answer output left k true e = (_, accepted-call k (eqb-true _ _ e) (next (take (answer .patch) left) .1))
 one-call start c calls next answer output left k false e = (_, refused-call k (eqb-false _ _ e) (next start .1))
@@ -219,7 +232,7 @@ one-call start c calls next answer output left k false e = (_, refused-call k (e
 pub every-list-runs : (start : List ℕ) (calls : List Call) → (r : Run) × Ran start calls r
 every-list-runs start [] = (_, no-call)
 every-list-runs start (c ∷ calls) =
-    let k = feed-kept start (c .slice) (c .output) (c .left) in
+    let k = feed-kept start (c .slice) (c .output-lent) (c .patch-lent) in
     one-call start c calls (λ next. every-list-runs next calls) (k .0) (k .1) (k .2) (k .3) (eqb (k .0 .number) 0) refl
 
 -- The same calls come to the same.
@@ -228,7 +241,7 @@ runs-alike [] no-call no-call = refl
 runs-alike (c ∷ calls) (refused-call h x ran) (refused-call k y also) = runs-alike calls ran also
 runs-alike (c ∷ calls) (refused-call h x ran) (accepted-call k y also) = absurd (x (ap (λ (a : Fed). a .number) (feeds-alike h k .0) ∙ y))
 runs-alike (c ∷ calls) (accepted-call h x ran) (refused-call k y also) = absurd (y (ap (λ (a : Fed). a .number) (feeds-alike k h .0) ∙ x))
-runs-alike (c ∷ calls) (accepted-call {answer = a} {output = o} {left = l} h x ran) (accepted-call {answer = b} {output = u} {left = v} {r = q} k y also) =
+runs-alike (c ∷ calls) (accepted-call {answer = a} {output-after = o} {patch-after = l} h x ran) (accepted-call {answer = b} {output-after = u} {patch-after = v} {r = q} k y also) =
     let e = feeds-alike h k in
     let next : take (b .patch) v ≡ take (a .patch) l = λ i. take (sym (e .0) i .patch) (sym (e .2) i) in
     let d = runs-alike calls ran (rw next at also) in
@@ -241,19 +254,28 @@ same-front x y lent n e =
     sym (take-append-seam x (drop (length x) lent)) ∙ ap (take (length x)) e
     ∙ rw n (take-append-seam y (drop (length y) lent))
 
-pub same-stream : {start : List ℕ} {r q : Run} (a : AsOne start r) (b : AsOne start q) → a .slice ≡ b .slice
-    → (r .patch ≡ q .patch) × (a .output ≡ b .output)
-same-stream {start} {r} {q} a b e = go (feed-kept start (a .slice) (a .output ++ b .output) (r .patch ++ q .patch))
+pub same-stream : {start : List ℕ} {patch : PatchFile start} {r q : Run} {m : PatchFile (r .patch)} {l : PatchFile (q .patch)}
+    (a : AsOne patch r m) (b : AsOne patch q l) → a .slice ≡ b .slice
+    → (r .patch ≡ q .patch) × (slice-file-bytes (a .output) ≡ slice-file-bytes (b .output))
+same-stream {start} {r = r} {q = q} a b e =
+    go (feed-kept start (slice-file-bytes (a .slice)) (one-output ++ other-output) (r .patch ++ q .patch))
   where
+    one-output : List ℕ
+    one-output = slice-file-bytes (a .output)
+
+    other-output : List ℕ
+    other-output = slice-file-bytes (b .output)
+
     -- Both fed as one, with buffers that hold either answer.
-    go : (answer : Fed) × (output : List ℕ) × (left : List ℕ) × FeedPromise start (a .slice) (a .output ++ b .output) (r .patch ++ q .patch) answer output left
-        → (r .patch ≡ q .patch) × (a .output ≡ b .output)
+    go : (answer : Fed) × (output : List ℕ) × (left : List ℕ)
+        × FeedPromise start (slice-file-bytes (a .slice)) (slice-file-bytes (a .output) ++ slice-file-bytes (b .output)) (r .patch ++ q .patch) answer output left
+        → (r .patch ≡ q .patch) × (slice-file-bytes (a .output) ≡ slice-file-bytes (b .output))
     go (answer, output, left, k) =
-        let m = length-append (a .output) (b .output) in
+        let m = length-append (slice-file-bytes (a .output)) (slice-file-bytes (b .output)) in
         let n = length-append (r .patch) (q .patch) in
         let x = a .fed-as-one k (omega arith) (omega arith) in
         let y = b .fed-as-one (rw e at k) (omega arith) (omega arith) in
         let told = sym (x .0) ∙ y .0 in (
           same-front (r .patch) (q .patch) _ (ap (λ (f : Fed). f .patch) told) (sym (x .2) ∙ y .2),
-          same-front (a .output) (b .output) _ (ap (λ (f : Fed). f .output) told) (sym (x .1) ∙ y .1),
+          same-front (slice-file-bytes (a .output)) (slice-file-bytes (b .output)) _ (ap (λ (f : Fed). f .output) told) (sym (x .1) ∙ y .1),
         )
