@@ -55,11 +55,11 @@ module _ {slice : List ℕ} {place : ℕ} {out remainder : List ℕ} (due : Leaf
 
     -- So silent with that type is left.
     pub spent-left : (sent : ℕ)
-        → Leaves (leaves (due .type) first (due .prefix)) sent remainder (back 1 (set remainder 0 1) z) (record { sent = sent; left = 1 + many })
+        → Leaves (leaves (due .type) first (due .prefix)) sent remainder (back 1 (set remainder 0 1) z) (record { sent = sent; kept = 1 + many })
     unfolding node-bytes
     spent-left sent =
         record {
           sent = refl;
-          left = rw (spent .node) (spent-begun .long);
+          kept = rw (spent .node) (spent-begun .long);
           buffer = rw (spent .node) (spent-begun .buffer);
         }

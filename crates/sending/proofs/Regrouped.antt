@@ -113,7 +113,7 @@ rest-stands (of-crossed {b = b} {q = q} h c k) stands other skipped =
 -- What a node sends and leaves, in bytes; the node left has one.
 pub record Sends (t : Ty) (n : Node) (p : Prefix) (bytes : List ℕ) (k : ℕ) : Type 0 where
   pub sent : prefix-bytes (sends t n p) [] ≡ bytes
-  pub left : node-bytes (leaves t n p) [] ≡ k ∷ []
+  pub kept : node-bytes (leaves t n p) [] ≡ k ∷ []
 
 -- If it is written in pieces, that makes the delivery.
 pub delivered : {n : Node} {slice : List ℕ} {place k many : ℕ} {pieces bytes out remainder out-after remainder-after : List ℕ} {fed : Sent}
@@ -121,7 +121,7 @@ pub delivered : {n : Node} {slice : List ℕ} {place k many : ℕ} {pieces bytes
     → pieces ≡ bytes → LeavesKind k many remainder remainder-after fed
     → Delivers (sends (due .type) n (due .prefix)) (leaves (due .type) n (due .prefix)) out remainder out-after remainder-after fed
 delivered due is so-far all leaves-kind =
-    delivers-written so-far (all ∙ sym (is .sent)) (due .output-room) (leaves-kind .each _ (is .left))
+    delivers-written so-far (all ∙ sym (is .sent)) (due .output-room) (leaves-kind .each _ (is .kept))
 
 -- Regrouping
 
@@ -166,12 +166,12 @@ right-sequence takes-regroup-right h stands = first-stands h stands
 -- 5 5 p: what is sent stands behind the first byte.
 pub record Inner (slice : List ℕ) (place : ℕ) (t : Ty) (p : Prefix) : Type 0 where
   pub stands : PrefixAt slice (place + 1) (sends t regroup-right p)
-  pub left : node-bytes (leaves t regroup-right p) [] ≡ 11 ∷ []
+  pub kept : node-bytes (leaves t regroup-right p) [] ≡ 11 ∷ []
 
 right-inner : {slice : List ℕ} {place : ℕ} {t u : Ty} {p : Prefix} → Takes t regroup-right u → IsPrefix t p → PrefixAt slice place p
     → getD slice (place + 1) 0 ≡ 5 → Inner slice place t p
 unfolding sends leaves node-bytes
-right-inner takes-regroup-right (of-first (of-first h)) stands coming = record { stands = in-first-at stands; left = refl }
+right-inner takes-regroup-right (of-first (of-first h)) stands coming = record { stands = in-first-at stands; kept = refl }
 right-inner takes-regroup-right (of-first (of-crossed h c k)) stands coming = absurd (omega (arith, kind-at (in-first-at stands)))
 right-inner takes-regroup-right (of-crossed (of-crossed h c k) d l) stands coming =
     absurd (omega (arith, kind-at (crossed-first-at stands)))
@@ -246,7 +246,7 @@ module _ {slice : List ℕ} {place : ℕ} {out remainder : List ℕ} (due : Leaf
     right-sends =
         record {
           sent = rw (right-head .taken, right-tail .taken) (nested-apart (right-found (ends .other)));
-          left = right-found (ends .other) .left-is;
+          kept = right-found (ends .other) .left-is;
         }
 
 -- Regroup left
@@ -265,7 +265,7 @@ left-crossed takes-regroup-left h stands other skipped = rest-stands h stands ot
 left-in-first : {slice : List ℕ} {place : ℕ} {t u : Ty} {p : Prefix} → Takes t regroup-left u → IsPrefix t p → PrefixAt slice place p
     → getD slice place 0 ≡ 5 → Sends t regroup-left p (5 ∷ prefix-bytes p []) 12
 unfolding sends leaves node-bytes prefix-bytes
-left-in-first takes-regroup-left (of-first h) stands coming = record { sent = refl; left = refl }
+left-in-first takes-regroup-left (of-first h) stands coming = record { sent = refl; kept = refl }
 left-in-first takes-regroup-left (of-crossed h c k) stands coming = absurd (omega (arith, kind-at stands))
 
 -- 6 b 5 q and 6 b 6 c q.
@@ -338,7 +338,7 @@ module _ {slice : List ℕ} {place : ℕ} {out remainder : List ℕ} (due : Leaf
 
     pub left-sends : Sends (due .type) regroup-left (due .prefix)
         (getD slice second 0 ∷ (between slice place second ++ between slice (second + 1) stop)) 0
-    left-sends = record { sent = rw (left-head .taken, left-tail .taken) (left-found .flat-is); left = left-found .left-is }
+    left-sends = record { sent = rw (left-head .taken, left-tail .taken) (left-found .flat-is); kept = left-found .left-is }
 
 -- Spread
 
@@ -352,7 +352,7 @@ spread-in-first : {slice : List ℕ} {place : ℕ} {t u : Ty} {p : Prefix} → T
     → getD slice place 0 ≡ 5 → Sends t spread p (7 ∷ (prefix-bytes p [] ++ prefix-bytes p [])) 13
 unfolding sends leaves node-bytes prefix-bytes
 spread-in-first takes-spread (of-first {p = q} h) stands coming =
-    record { sent = ap (λ l. 7 ∷ 5 ∷ l) (prefix-before q (5 ∷ prefix-bytes q [])); left = refl }
+    record { sent = ap (λ l. 7 ∷ 5 ∷ l) (prefix-before q (5 ∷ prefix-bytes q [])); kept = refl }
 spread-in-first takes-spread (of-crossed h c k) stands coming = absurd (omega (arith, kind-at stands))
 
 -- What is put behind the bytes of a prefix.
@@ -469,4 +469,4 @@ module _ {slice : List ℕ} {place : ℕ} {out remainder : List ℕ} (due : Leaf
     pub spread-sends : Sends (due .type) spread (due .prefix)
         (7 ∷ (((between slice place rest ++ between slice (rest + 1) third) ++ between slice place rest) ++ between slice third stop)) 0
     spread-sends =
-        record { sent = rw (spread-head .taken, spread-one .taken, spread-other .taken) (places .sent-are); left = places .left-is }
+        record { sent = rw (spread-head .taken, spread-one .taken, spread-other .taken) (places .sent-are); kept = places .left-is }

@@ -62,7 +62,7 @@ module _ {nodes : List ℕ} {from : ℕ} {out remainder : List ℕ} (due : Silen
 
     -- The node is left as it was.
     pub silent-delivered : {remainder-after : List ℕ} → remainder-after ≡ at-front (take (from + (1 + many) - from) (drop from nodes)) remainder
-        → Delivers (empty-prefix (due .type)) (silent (due .type)) out remainder out-after remainder-after (record { sent = many; left = 1 + many })
+        → Delivers (empty-prefix (due .type)) (silent (due .type)) out remainder out-after remainder-after (record { sent = many; kept = 1 + many })
     silent-delivered copied =
         let sent = written .each empty-due in
-        delivers (sent .0) (sent .1) (record { sent = refl; left = silent-width; buffer = rw silent-taken at copied })
+        delivers (sent .0) (sent .1) (record { sent = refl; kept = silent-width; buffer = rw silent-taken at copied })

@@ -19,7 +19,7 @@ pub mod Laws
 -- The node n is left, and `many` bytes were sent.
 pub record Leaves (n : Node) (many : ℕ) (remainder remainder-after : List ℕ) (fed : Sent) : Type 0 where
   pub sent : fed .sent ≡ many
-  pub left : fed .left ≡ node-width n
+  pub kept : fed .kept ≡ node-width n
   pub buffer : remainder-after ≡ at-front (node-bytes n []) remainder
 
 -- The same for the nodes of one byte, by that byte.

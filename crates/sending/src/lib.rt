@@ -16,7 +16,7 @@ ghost use Rattle.sending.specs.Sending.{LeavesKind, LeavesSilent, LeafDu
 // How many bytes a node sends, and how many the node left has.
 pub struct Sent {
     pub sent: usize,
-    pub left: usize,
+    pub kept: usize,
 }
 
 // Leaves a node of kind `kind` that carries nothing; `sent` bytes were sent.
@@ -25,7 +25,7 @@ fn leave(kind: u8, sent: usize, remainder: &mut [u8]) -> Sent
     ensures { λ r. ⌜ LeavesKind kind sent (now (remainder .entry)) (now (remainder .exit)) r ⌝ }
 {
     remainder[0] = kind;
-    Sent { sent, left: 1 }
+    Sent { sent, kept: 1 }
 }
 
 // Leaves silent with the empty type.
@@ -35,7 +35,7 @@ fn leave_silent(sent: usize, remainder: &mut [u8]) -> Sent
 {
     remainder[0] = 1;
     remainder[1] = 0;
-    Sent { sent, left: 2 }
+    Sent { sent, kept: 2 }
 }
 
 // Pass sends the prefix.
@@ -54,9 +54,9 @@ pub fn feed_silent(nodes: &[u8], from: usize, out: &mut [u8], remainder: &mut [u
     ensures { λ r. ⌜ SilentFed (now (nodes .entry)) from (now (out .entry)) (now (remainder .entry)) (now (out .exit)) (now (remainder .exit)) r ⌝ }
 {
     let sent = write_empty(nodes, from + 1, out);
-    let left = 1 + sent;
-    copy(&nodes[from..from + left], remainder);
-    Sent { sent, left }
+    let kept = 1 + sent;
+    copy(&nodes[from..from + kept], remainder);
+    Sent { sent, kept }
 }
 
 // Cue sends itself, once.
@@ -111,7 +111,7 @@ pub fn feed_first(slice: &[u8], place: usize, out: &mut [u8], remainder: &mut [u
     let size = write_spent(slice, part, &mut remainder[1..]);
     Sent {
         sent,
-        left: 1 + size,
+        kept: 1 + size,
     }
 }
 

@@ -80,7 +80,7 @@ module _ {types : List ℕ} {at : ℕ} {slice : List ℕ} {place : ℕ} {out rem
     -- What it sends and leaves makes the step with it.
     pub behind-steps : {end : ℕ} {out-after remainder-after given-after : List ℕ} {fed : Sent} {step : Step}
         → SecondFed types (at + 1) behind slice place out remainder out-after remainder-after fed
-        → step .sent ≡ fed .sent → step .left ≡ fed .left
+        → step .sent ≡ fed .sent → step .kept ≡ fed .kept
         → GivesType end (output-type (due .leaf .type) second) given given-after (step .end) (step .size)
         → Steps end (sends (due .leaf .type) second (due .leaf .prefix)) (leaves (due .leaf .type) second (due .leaf .prefix))
         (output-type (due .leaf .type) second) out remainder given out-after remainder-after given-after step

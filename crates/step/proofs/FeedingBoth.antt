@@ -90,7 +90,7 @@ module _ {types : List ℕ} {at : ℕ} {nodes : List ℕ} {from : ℕ} {slice : 
             (record {
               ends = rw (← parts due .made) (omega (arith, fed .ends, parts due .wide));
               sent = fed .sent;
-              left = fed .left;
+              kept = fed .kept;
               sized = fed .sized;
               output = fed .output;
               node-left = fed .node-left;

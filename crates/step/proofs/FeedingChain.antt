@@ -40,12 +40,12 @@ pub record FirstFed (between middle remainder remainder-now : List ℕ) (step : 
   pub between-kept : length between ≡ slice-file-limit
   pub middle-kept : length middle ≡ 255
   pub remainder-kept : length remainder-now ≡ length remainder
-  pub left-inside : 1 + step .left ≤ length remainder
+  pub left-inside : 1 + step .kept ≤ length remainder
 
 -- Both nodes have been fed: what is left of them has room.
 pub record BothFed (remainder remainder-after : List ℕ) (step rest : Step) : Type 0 where
   pub remainder-kept : length remainder-after ≡ length remainder
-  pub left-inside : 1 + step .left + rest .left ≤ length remainder
+  pub left-inside : 1 + step .kept + rest .kept ≤ length remainder
 
 module _ {types : List ℕ} {at : ℕ} {nodes : List ℕ} {from : ℕ} {slice : List ℕ} {place : ℕ} {out remainder given : List ℕ}
     (byte : getD nodes from 0 ≡ 10) (due : FeedDue types at nodes from slice place out remainder given) where
@@ -176,7 +176,7 @@ module _ {types : List ℕ} {at : ℕ} {nodes : List ℕ} {from : ℕ} {slice : 
             between-kept = steps .output .long ∙ between-long;
             middle-kept = steps .type-given .long ∙ middle-long;
             remainder-kept = remainder-leads .long;
-            left-inside = omega (arith, leads-inside remainder-leads, steps .left);
+            left-inside = omega (arith, leads-inside remainder-leads, steps .kept);
           }
 
       -- Fewer nodes are below the second part.
@@ -185,7 +185,7 @@ module _ {types : List ℕ} {at : ℕ} {nodes : List ℕ} {from : ℕ} {slice : 
           omega (arith, below-one (due .stand .node-at) (due .feedable .few), below-one second-at (second-feedable .few), counted)
 
       -- What the second node is asked: what was sent and given stands at the front of both arrays.
-      pub second-due : FeedDue w 0 nodes (step .end) y 0 out (part (1 + step .left) remainder-now) given
+      pub second-due : FeedDue w 0 nodes (step .end) y 0 out (part (1 + step .kept) remainder-now) given
       second-due =
           record {
             type = middle-type;
@@ -206,9 +206,9 @@ module _ {types : List ℕ} {at : ℕ} {nodes : List ℕ} {from : ℕ} {slice : 
                         arith,
                         due .room .for-nodes,
                         counted,
-                        steps .left,
+                        steps .kept,
                         left-width first-feedable,
-                        leads-room remainder-leads (1 + step .left),
+                        leads-room remainder-leads (1 + step .kept),
                       );
                   for-type = omega (arith, due .room .for-type, ap size gives-second);
                 };
@@ -216,22 +216,22 @@ module _ {types : List ℕ} {at : ℕ} {nodes : List ℕ} {from : ℕ} {slice : 
 
       -- The second node has been fed what the first sent.
       module _ {out-after x given-after : List ℕ} {rest : Step}
-          (second-feeds : FeedsNode w 0 nodes (step .end) y 0 out (part (1 + step .left) remainder-now) given out-after x given-after rest) where
+          (second-feeds : FeedsNode w 0 nodes (step .end) y 0 out (part (1 + step .kept) remainder-now) given out-after x given-after rest) where
         abbrev remainder-after : List ℕ
-        remainder-after = back (1 + step .left) remainder-now x
+        remainder-after = back (1 + step .kept) remainder-now x
 
         abbrev second-left : Node
         second-left = leaves middle-type (parts .second) sent
 
         second-steps : Steps (step .end + node-width (parts .second)) (sends middle-type (parts .second) sent) second-left
-            (output-type middle-type (parts .second)) out (part (1 + step .left) remainder-now) given out-after x given-after rest
+            (output-type middle-type (parts .second)) out (part (1 + step .kept) remainder-now) given out-after x given-after rest
         unfolding second-due
         second-steps = second-feeds .each second-due
 
         -- What is left of the second leads behind it: the bytes of a chain.
 
         chain-leads : Leads (10 ∷ node-bytes left [] ++ node-bytes second-left []) remainder remainder-after
-        chain-leads = leads-on remainder-leads (omega (arith, steps .left)) (second-steps .node-left)
+        chain-leads = leads-on remainder-leads (omega (arith, steps .kept)) (second-steps .node-left)
 
         chain-bytes : node-bytes (chain left second-left) [] ≡ 10 ∷ node-bytes left [] ++ node-bytes second-left []
         unfolding node-bytes
@@ -244,13 +244,13 @@ module _ {types : List ℕ} {at : ℕ} {nodes : List ℕ} {from : ℕ} {slice : 
         both-fed =
             record {
               remainder-kept = chain-leads .long;
-              left-inside = omega (arith, leads-inside chain-leads, ap length chain-bytes, chain-width, steps .left, second-steps .left);
+              left-inside = omega (arith, leads-inside chain-leads, ap length chain-bytes, chain-width, steps .kept, second-steps .kept);
             }
 
         -- All together is what chain has to do.
 
         abbrev after : Step
-        after = record { end = rest .end; sent = rest .sent; left = 1 + step .left + rest .left; size = rest .size }
+        after = record { end = rest .end; sent = rest .sent; kept = 1 + step .kept + rest .kept; size = rest .size }
 
         both-steps : Steps (from + node-width (due .node)) (sends middle-type (parts .second) sent) (chain left second-left)
             (output-type middle-type (parts .second)) out remainder given out-after remainder-after given-after after
@@ -258,7 +258,7 @@ module _ {types : List ℕ} {at : ℕ} {nodes : List ℕ} {from : ℕ} {slice : 
             record {
               ends = omega (arith, second-steps .ends, steps .ends, parts .wide);
               sent = second-steps .sent;
-              left = omega (arith, steps .left, second-steps .left, chain-width);
+              kept = omega (arith, steps .kept, second-steps .kept, chain-width);
               sized = second-steps .sized;
               output = second-steps .output;
               node-left = rw chain-bytes chain-leads;

@@ -176,7 +176,7 @@ module _ {types : List ℕ} {at : ℕ} {nodes : List ℕ} {from : ℕ} {slice : 
         record {
           each = λ due.
               makes-step _ _ (feeds .each due) (due .room .for-output) (omega (arith, left-width (due .feedable), due .room .for-nodes))
-              (gives .sent) (gives .left) (gives .each (give-due feeds due));
+              (gives .sent) (gives .kept) (gives .each (give-due feeds due));
         }
 
   -- Second is fed with the type that it gives.

@@ -209,7 +209,7 @@ module _ {kind : ℕ} {types : List ℕ} {first second : ℕ} {nodes : List ℕ}
       record First : Type 0 where
         ends : step .end ≡ from + node-width (due .first-node)
         output : LeadsBy (kind ∷ prefix-bytes first-sent []) out out-then (1 + step .sent)
-        node-left : LeadsBy (4 ∷ node-bytes first-left []) remainder remainder-then (1 + step .left)
+        node-left : LeadsBy (4 ∷ node-bytes first-left []) remainder remainder-then (1 + step .kept)
         type-given : LeadsBy (type-kind-of kind ∷ type-bytes first-given []) given given-then (1 + step .size)
 
       first-fed : First
@@ -218,7 +218,7 @@ module _ {kind : ℕ} {types : List ℕ} {first second : ℕ} {nodes : List ℕ}
           record {
             ends = s .ends;
             output = written-on out-begun refl (s .output) (s .sent ∙ width-is first-sent) refl;
-            node-left = written-on remainder-begun refl (s .node-left) (s .left) refl;
+            node-left = written-on remainder-begun refl (s .node-left) (s .kept) refl;
             type-given = written-on given-begun refl (s .type-given) (s .sized ∙ sym (type-width first-given)) refl;
           }
 
@@ -233,7 +233,7 @@ module _ {kind : ℕ} {types : List ℕ} {first second : ℕ} {nodes : List ℕ}
       pub out-taken : 1 + step .sent ≤ length out
       out-taken = omega (arith, first-fed .output .long, leads-inside (first-fed .output .leads))
 
-      pub remainder-taken : 1 + step .left ≤ length remainder
+      pub remainder-taken : 1 + step .kept ≤ length remainder
       remainder-taken = omega (arith, first-fed .node-left .long, leads-inside (first-fed .node-left .leads))
 
       pub given-taken : 1 + step .size ≤ length given
@@ -246,7 +246,7 @@ module _ {kind : ℕ} {types : List ℕ} {first second : ℕ} {nodes : List ℕ}
       given-left = omega (arith, given-taken, first-fed .type-given .leads .long)
 
       -- The second node is asked for what it is due, on the parts behind.
-      module _ {left : ℕ} (restarts : Restarts kind (step .left) left) where
+      module _ {left : ℕ} (restarts : Restarts kind (step .kept) left) where
         kept : Stays kind first-left left remainder remainder-then
         kept = stays (due .kinds) restarts (first-fed .node-left)
 
@@ -287,7 +287,7 @@ module _ {kind : ℕ} {types : List ℕ} {first second : ℕ} {nodes : List ℕ}
           pub both-fed : Steps (from + node-width (due .first-node) + node-width (due .second-node)) (parts-sent kind first-sent second-sent)
               (parts-left kind first-left second-left) (parts-given kind first-given second-given) out remainder given
               (back (1 + step .sent) out-then out-rest) (back left remainder-then remainder-rest) (back (1 + step .size) given-then given-rest)
-              (record { end = rest .end; sent = 1 + step .sent + rest .sent; left = left + rest .left; size = 1 + step .size + rest .size })
+              (record { end = rest .end; sent = 1 + step .sent + rest .sent; kept = left + rest .kept; size = 1 + step .size + rest .size })
           both-fed =
               let s = feeds-rest .each second-due in
               let one = first-fed in
@@ -296,8 +296,8 @@ module _ {kind : ℕ} {types : List ℕ} {first second : ℕ} {nodes : List ℕ}
               (1 + step .sent + rest .sent)
               = written-on (one .output .leads) (one .output .long) (s .output) (s .sent ∙ width-is second-sent) (whole .sent first-sent second-sent) in
               let node : LeadsBy (node-bytes (parts-left kind first-left second-left) []) remainder (back left remainder-then remainder-rest)
-              (left + rest .left)
-              = written-on (kept .written .leads) (kept .written .long) (s .node-left) (s .left) (kept .whole second-left) in
+              (left + rest .kept)
+              = written-on (kept .written .leads) (kept .written .long) (s .node-left) (s .kept) (kept .whole second-left) in
               let type : LeadsBy (type-bytes (parts-given kind first-given second-given) []) given (back (1 + step .size) given-then given-rest)
               (1 + step .size + rest .size)
               = written-on (one .type-given .leads) (one .type-given .long) (s .type-given) (s .sized ∙ sym (type-width second-given))
@@ -305,7 +305,7 @@ module _ {kind : ℕ} {types : List ℕ} {first second : ℕ} {nodes : List ℕ}
               record {
                 ends = omega (arith, s .ends, one .ends);
                 sent = sent .long ∙ sym (width-is (parts-sent kind first-sent second-sent));
-                left = node .long;
+                kept = node .long;
                 sized = type .long ∙ type-width (parts-given kind first-given second-given);
                 output = sent .leads;
                 node-left = node .leads;
@@ -318,8 +318,8 @@ module _ {kind : ℕ} {types : List ℕ} {first second : ℕ} {nodes : List ℕ}
           out-full =
               omega (arith, both-fed .sent, width-is (parts-sent kind first-sent second-sent), leads-inside (both-fed .output))
 
-          pub remainder-full : left + rest .left ≤ length remainder
-          remainder-full = omega (arith, both-fed .left, leads-inside (both-fed .node-left))
+          pub remainder-full : left + rest .kept ≤ length remainder
+          remainder-full = omega (arith, both-fed .kept, leads-inside (both-fed .node-left))
 
           pub given-full : 1 + step .size + rest .size ≤ length given
           given-full =

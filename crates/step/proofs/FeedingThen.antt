@@ -88,14 +88,14 @@ pub record FirstFed (out remainder given out-now remainder-now given-now : List 
   pub remainder-kept : length remainder-now ≡ length remainder
   pub given-kept : length given-now ≡ length given
   pub sent-inside : 1 + step .sent ≤ length out
-  pub left-inside : 1 + step .left ≤ length remainder
+  pub left-inside : 1 + step .kept ≤ length remainder
   pub size-inside : 1 + step .size ≤ length given
 
 -- The second node, of the bytes behind the first's end, gives a type of `other` nodes: there is room for both.
 pub record SecondFits (nodes remainder given : List ℕ) (step : Step) (end other : ℕ) : Type 0 where
   pub later : step .end ≤ end
   pub end-inside : end ≤ length nodes
-  pub room-for-node : 1 + step .left + (end - step .end) ≤ length remainder
+  pub room-for-node : 1 + step .kept + (end - step .end) ≤ length remainder
   pub room-for-type : 1 + step .size + other ≤ length given
 
 module _ {types : List ℕ} {at : ℕ} {nodes : List ℕ} {from : ℕ} {slice : List ℕ} {place : ℕ} {out remainder given : List ℕ}
@@ -389,7 +389,7 @@ module _ {types : List ℕ} {at : ℕ} {nodes : List ℕ} {from : ℕ} {slice : 
             remainder-kept = remainder-leads .long;
             given-kept = given-leads .long;
             sent-inside = omega (arith, leads-inside out-leads, steps .sent, prefix-bytes-length sent []);
-            left-inside = omega (arith, leads-inside remainder-leads, steps .left);
+            left-inside = omega (arith, leads-inside remainder-leads, steps .kept);
             size-inside = omega (arith, leads-inside given-leads, steps .sized, type-width first-given);
           }
 
@@ -451,17 +451,17 @@ module _ {types : List ℕ} {at : ℕ} {nodes : List ℕ} {from : ℕ} {slice : 
                 record {
                   later = omega (arith, ends);
                   end-inside = omega (arith, ends, ends-inside second-node-at);
-                  room-for-node = omega (arith, ends, node-room, steps .left);
+                  room-for-node = omega (arith, ends, node-room, steps .kept);
                   room-for-type = omega (arith, room-behind .for-type, sized, steps .sized);
                 }
 
-            pub copy-room : length (take (end - step .end) (drop (step .end) nodes)) ≤ length (part (1 + step .left) remainder-now)
-            copy-room = omega (arith, ap length taken, node-room, steps .left, leads-room remainder-leads (1 + step .left))
+            pub copy-room : length (take (end - step .end) (drop (step .end) nodes)) ≤ length (part (1 + step .kept) remainder-now)
+            copy-room = omega (arith, ap length taken, node-room, steps .kept, leads-room remainder-leads (1 + step .kept))
 
             -- The bytes of the second node are copied.
             module _ {x : List ℕ}
-                (copied : x ≡ at-front (take (end - step .end) (drop (step .end) nodes)) (part (1 + step .left) remainder-now)) where
-              node-leads : Leads (node-bytes (parts .second) []) (part (1 + step .left) remainder-now) x
+                (copied : x ≡ at-front (take (end - step .end) (drop (step .end) nodes)) (part (1 + step .kept) remainder-now)) where
+              node-leads : Leads (node-bytes (parts .second) []) (part (1 + step .kept) remainder-now) x
               node-leads = rw (← taken) (front-leads _ _ copied copy-room)
 
               -- With the second behind the first.
@@ -469,20 +469,20 @@ module _ {types : List ℕ} {at : ℕ} {nodes : List ℕ} {from : ℕ} {slice : 
               sequence-leads : Leads (3 ∷ type-bytes first-given [] ++ type-bytes second-given []) given (back (1 + step .size) given-now v)
               sequence-leads = leads-on given-leads (omega (arith, steps .sized, type-width first-given)) (second-gives .type-given)
 
-              then-leads : Leads (9 ∷ node-bytes left [] ++ node-bytes (parts .second) []) remainder (back (1 + step .left) remainder-now x)
-              then-leads = leads-on remainder-leads (omega (arith, steps .left)) node-leads
+              then-leads : Leads (9 ∷ node-bytes left [] ++ node-bytes (parts .second) []) remainder (back (1 + step .kept) remainder-now x)
+              then-leads = leads-on remainder-leads (omega (arith, steps .kept)) node-leads
 
-              pub then-kept : (length (back (1 + step .left) remainder-now x) ≡ length remainder)
+              pub then-kept : (length (back (1 + step .kept) remainder-now x) ≡ length remainder)
                   × (length (back (1 + step .size) given-now v) ≡ length given)
               then-kept = (then-leads .long, sequence-leads .long)
 
               -- All together is what then has to do.
 
               abbrev after : Step
-              after = record { end = end; sent = 1 + step .sent; left = 1 + step .left + (end - step .end); size = 1 + step .size + other }
+              after = record { end = end; sent = 1 + step .sent; kept = 1 + step .kept + (end - step .end); size = 1 + step .size + other }
 
               first-steps : Steps (from + node-width (due .node)) (in-first sent) (then left (parts .second)) (seq first-given second-given)
-                  out remainder given out-now (back (1 + step .left) remainder-now x) (back (1 + step .size) given-now v) after
+                  out remainder given out-now (back (1 + step .kept) remainder-now x) (back (1 + step .size) given-now v) after
               unfolding prefix-bytes prefix-width type-bytes node-bytes size
               first-steps =
                   let bytes : node-bytes left (node-bytes (parts .second) []) ≡ node-bytes left [] ++ node-bytes (parts .second) []
@@ -490,7 +490,7 @@ module _ {types : List ℕ} {at : ℕ} {nodes : List ℕ} {from : ℕ} {slice : 
                   record {
                     ends = omega (arith, ends, steps .ends, parts .wide);
                     sent = omega (arith, steps .sent);
-                    left = omega (arith, ends, steps .left, ap length bytes, length-append (node-bytes left []) (node-bytes (parts .second) []));
+                    kept = omega (arith, ends, steps .kept, ap length bytes, length-append (node-bytes left []) (node-bytes (parts .second) []));
                     sized = omega (arith, sized, steps .sized);
                     output = out-leads;
                     node-left = rw bytes then-leads;
@@ -499,6 +499,6 @@ module _ {types : List ℕ} {at : ℕ} {nodes : List ℕ} {from : ℕ} {slice : 
 
               pub coming-fed : {result : Step} → result ≡ after
                   → Steps (from + node-width (due .node)) (sends (due .type) (due .node) (due .prefix)) (leaves (due .type) (due .node) (due .prefix))
-                  (output-type (due .type) (due .node)) out remainder given out-now (back (1 + step .left) remainder-now x)
+                  (output-type (due .type) (due .node)) out remainder given out-now (back (1 + step .kept) remainder-now x)
                   (back (1 + step .size) given-now v) result
               coming-fed told = rw (sends-first, leaves-then, gives-sequence, told) first-steps

@@ -62,13 +62,13 @@ module _ {types : List ℕ} {at : ℕ} {nodes : List ℕ} {from : ℕ} {given gi
 -- What was sent and left makes the step with the type given, if there was room for it.
 pub makes-step : {end : ℕ} (o : Prefix) (n : Node) {t : Ty} {out remainder given out-now remainder-now given-after : List ℕ} {fed : Sent} {step : Step}
     → Delivers o n out remainder out-now remainder-now fed → prefix-width o ≤ length out → node-width n ≤ length remainder
-    → step .sent ≡ fed .sent → step .left ≡ fed .left → GivesType end t given given-after (step .end) (step .size)
+    → step .sent ≡ fed .sent → step .kept ≡ fed .kept → GivesType end t given given-after (step .end) (step .size)
     → Steps end o n t out remainder given out-now remainder-now given-after step
 makes-step o n {out = out} {remainder = remainder} delivered output-room left-room sent left gives =
     record {
       ends = gives .ends;
       sent = sent ∙ delivered .leaves .sent;
-      left = left ∙ delivered .leaves .left;
+      kept = left ∙ delivered .leaves .kept;
       sized = gives .sized;
       output = front-leads (prefix-bytes o []) out (delivered .output) (omega (arith, prefix-bytes-length o []));
       node-left = front-leads (node-bytes n []) remainder (delivered .leaves .buffer) left-room;

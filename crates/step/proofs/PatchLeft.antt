@@ -21,17 +21,17 @@ unfolding type-file-bytes patch-file-bytes section-bytes
 patch-file-parts s n = rw (append-nil (type-bytes s []))
 
 -- The type's file, and the section on the part behind it, make the patch file.
-pub patch-left-written : (types : List ℕ) (at : ℕ) (slice : List ℕ) (left : ℕ) (nodes lent : List ℕ) {now after : List ℕ}
-    → LeftFileWritten types at slice left lent now → after ≡ at-front (section-bytes nodes []) (part (2 + left) now)
-    → PatchLeftWritten types at slice left nodes lent (back (2 + left) now after)
-patch-left-written types at slice left nodes lent {now} {after} written more = record { each = go }
+pub patch-left-written : (types : List ℕ) (at : ℕ) (slice : List ℕ) (remains : ℕ) (nodes lent : List ℕ) {now after : List ℕ}
+    → LeftFileWritten types at slice remains lent now → after ≡ at-front (section-bytes nodes []) (part (2 + remains) now)
+    → PatchLeftWritten types at slice remains nodes lent (back (2 + remains) now after)
+patch-left-written types at slice remains nodes lent {now} {after} written more = record { each = go }
   where
-    go : (due : PatchLeftDue types at slice left nodes lent)
-        → back (2 + left) now after ≡ at-front (patch-file-bytes (patch-of (derivative (due .type-due .type) (due .type-due .prefix)) (due .node))) lent
+    go : (due : PatchLeftDue types at slice remains nodes lent)
+        → back (2 + remains) now after ≡ at-front (patch-file-bytes (patch-of (derivative (due .type-due .type) (due .type-due .prefix)) (due .node))) lent
     go due =
         let s = derivative (due .type-due .type) (due .type-due .prefix) in
-        let begun : Begun (type-file-bytes s) lent now (2 + left)
+        let begun : Begun (type-file-bytes s) lent now (2 + remains)
         = record { long = omega (arith, type-file-size s, due .type-due .measured); buffer = written .each (due .type-due) } in
-        let body : after ≡ at-front (section-bytes (node-bytes (due .node) []) []) (part (2 + left) now) = rw (← due .here) more in
+        let body : after ≡ at-front (section-bytes (node-bytes (due .node) []) []) (part (2 + remains) now) = rw (← due .here) more in
         goes-on begun (section-bytes (node-bytes (due .node) []) []) body refl .buffer
         ∙ ap (λ l. at-front l lent) (patch-file-parts s (due .node))

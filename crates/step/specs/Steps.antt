@@ -69,7 +69,7 @@ pub record FeedDue (types : List ℕ) (at : ℕ) (nodes : List ℕ) (from : ℕ)
 pub record Steps (end : ℕ) (o : Prefix) (n : Node) (t : Ty) (out remainder given out-after remainder-after given-after : List ℕ) (step : Step) : Type 0 where
   pub ends : step .end ≡ end
   pub sent : step .sent ≡ prefix-width o
-  pub left : step .left ≡ node-width n
+  pub kept : step .kept ≡ node-width n
   pub sized : step .size ≡ size t
   pub output : Leads (prefix-bytes o []) out out-after
   pub node-left : Leads (node-bytes n []) remainder remainder-after
@@ -100,7 +100,7 @@ pub record GiveDue (types : List ℕ) (at : ℕ) (nodes : List ℕ) (from : ℕ)
 
 pub record GivesLeaf (types : List ℕ) (at : ℕ) (nodes : List ℕ) (from : ℕ) (fed : Sent) (given given-after : List ℕ) (step : Step) : Type 0 where
   pub sent : step .sent ≡ fed .sent
-  pub left : step .left ≡ fed .left
+  pub kept : step .kept ≡ fed .kept
   pub each : (due : GiveDue types at nodes from given)
       → GivesType (from + node-width (due .node)) (output-type (due .type) (due .node)) given given-after (step .end) (step .size)
 
@@ -152,13 +152,13 @@ pub record FeedsParts (kind : ℕ) (types : List ℕ) (first second : ℕ) (node
       out remainder given out-after remainder-after given-after step
 
 -- The file of a patch left: its input type is what the slice file's prefix leaves of the type at `at`, its nodes are all of `nodes`.
-pub record PatchLeftDue (types : List ℕ) (at : ℕ) (slice : List ℕ) (left : ℕ) (nodes lent : List ℕ) : Type 0 where
-  pub type-due : LeftFileDue types at slice left lent
+pub record PatchLeftDue (types : List ℕ) (at : ℕ) (slice : List ℕ) (remains : ℕ) (nodes lent : List ℕ) : Type 0 where
+  pub type-due : LeftFileDue types at slice remains lent
   pub node : Node
   pub here : nodes ≡ node-bytes node []
   pub countable : length nodes ≤ 65535
-  pub room : 2 + left + 2 + length nodes ≤ length lent
+  pub room : 2 + remains + 2 + length nodes ≤ length lent
 
-pub record PatchLeftWritten (types : List ℕ) (at : ℕ) (slice : List ℕ) (left : ℕ) (nodes lent lent-after : List ℕ) : Type 0 where
-  pub each : (due : PatchLeftDue types at slice left nodes lent)
+pub record PatchLeftWritten (types : List ℕ) (at : ℕ) (slice : List ℕ) (remains : ℕ) (nodes lent lent-after : List ℕ) : Type 0 where
+  pub each : (due : PatchLeftDue types at slice remains nodes lent)
       → lent-after ≡ at-front (patch-file-bytes (patch-of (derivative (due .type-due .type) (due .type-due .prefix)) (due .node))) lent

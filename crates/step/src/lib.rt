@@ -33,18 +33,18 @@ ghost use Rattle.step.specs.Steps.{FeedDue, FeedsNode, GiveDue, GivesLea
 pub struct Step {
     pub end: usize,
     pub sent: usize,
-    pub left: usize,
+    pub kept: usize,
     pub size: usize,
 }
 
 impl Step {
-    fn new(end: usize, sent: usize, left: usize, size: usize) -> Step
-        ensures { λ r. ⌜ r ≡ record { end = end; sent = sent; left = left; size = size } ⌝ }
+    fn new(end: usize, sent: usize, kept: usize, size: usize) -> Step
+        ensures { λ r. ⌜ r ≡ record { end = end; sent = sent; kept = kept; size = size } ⌝ }
     {
         Step {
             end,
             sent,
-            left,
+            kept,
             size,
         }
     }
@@ -56,8 +56,8 @@ fn give(types: &[u8], at: usize, nodes: &[u8], from: usize, fed: Sent, given: &m
     ensures { λ r. ⌜ GivesLeaf (now (types .entry)) at (now (nodes .entry)) from fed (now (given .entry)) (now (given .exit)) r ⌝ }
 {
     match type_leaf(types, at, nodes, from, given) {
-        Typed::Failed(_) => Step::new(from, fed.sent, fed.left, 0),
-        Typed::Gives(end, size) => Step::new(end, fed.sent, fed.left, size),
+        Typed::Failed(_) => Step::new(from, fed.sent, fed.kept, 0),
+        Typed::Gives(end, size) => Step::new(end, fed.sent, fed.kept, size),
     }
 }
 
@@ -80,8 +80,8 @@ fn feed_behind(
     let second = skip_type(types, first);
     let fed = feed_second(types, first, second, slice, place, out, remainder);
     match give_type(types, second, end, given) {
-        Typed::Failed(_) => Step::new(end, fed.sent, fed.left, 0),
-        Typed::Gives(next, size) => Step::new(next, fed.sent, fed.left, size),
+        Typed::Failed(_) => Step::new(end, fed.sent, fed.kept, 0),
+        Typed::Gives(next, size) => Step::new(next, fed.sent, fed.kept, size),
     }
 }
 
@@ -125,7 +125,7 @@ pub fn feed_node(
         12 => feed_regroup_left(slice, place, out, remainder),
         13 => feed_spread(slice, place, out, remainder),
         14 => feed_front(slice, place, out, remainder),
-        15..=255 => Sent { sent: 0, left: 0 },
+        15..=255 => Sent { sent: 0, kept: 0 },
     };
     give(types, at, nodes, from, fed, given)
 }
@@ -166,9 +166,9 @@ fn feed_parts(
     let sent = 1 + step.sent;
     let size = 1 + step.size;
     // After a crossing *then* is gone, and with it what is left of its first node: the second node's remainder goes over it.
-    let left = match kind {
+    let kept = match kind {
         6 => 0,
-        _ => 1 + step.left,
+        _ => 1 + step.kept,
     };
     let rest = feed_node(
         types,
@@ -178,13 +178,13 @@ fn feed_parts(
         slice,
         other,
         &mut out[sent..],
-        &mut remainder[left..],
+        &mut remainder[kept..],
         &mut given[size..],
     );
     Step::new(
         rest.end,
         sent + rest.sent,
-        left + rest.left,
+        kept + rest.kept,
         size + rest.size,
     )
 }
@@ -293,14 +293,14 @@ fn feed_coming(
         &mut given[1..],
     );
     let next = step.end;
-    let left = 1 + step.left;
+    let kept = 1 + step.kept;
     let size = 1 + step.size;
     let second = skip_type(types, first);
     match type_node(types, second, nodes, next, &mut given[size..]) {
         Typed::Failed(_) => step,
         Typed::Gives(end, other) => {
-            copy(&nodes[next..end], &mut remainder[left..]);
-            Step::new(end, 1 + step.sent, left + (end - next), size + other)
+            copy(&nodes[next..end], &mut remainder[kept..]);
+            Step::new(end, 1 + step.sent, kept + (end - next), size + other)
         }
     }
 }
@@ -335,7 +335,7 @@ fn feed_chain(
         &mut remainder[1..],
         &mut middle,
     );
-    let left = 1 + step.left;
+    let kept = 1 + step.kept;
     let rest = feed_node(
         &middle,
         0,
@@ -344,26 +344,26 @@ fn feed_chain(
         &between,
         0,
         out,
-        &mut remainder[left..],
+        &mut remainder[kept..],
         given,
     );
-    Step::new(rest.end, rest.sent, left + rest.left, rest.size)
+    Step::new(rest.end, rest.sent, kept + rest.kept, rest.size)
 }
 
-// Writes the file of the patch left: what the slice file's prefix leaves of the type at `at`, a type of `left` nodes, and then the
+// Writes the file of the patch left: what the slice file's prefix leaves of the type at `at`, a type of `remains` nodes, and then the
 // nodes, which are all of `nodes`.
 pub fn write_patch_left(
     types: &[u8],
     at: usize,
     slice: &[u8],
-    left: usize,
+    remains: usize,
     nodes: &[u8],
     out: &mut [u8],
 )
-    requires { ⌜ PatchLeftDue (now types) at (now slice) left (now nodes) (now out) ⌝ }
-    ensures { λ _. ⌜ PatchLeftWritten (now (types .entry)) at (now (slice .entry)) left (now (nodes .entry)) (now (out .entry)) (now (out .exit)) ⌝ }
+    requires { ⌜ PatchLeftDue (now types) at (now slice) remains (now nodes) (now out) ⌝ }
+    ensures { λ _. ⌜ PatchLeftWritten (now (types .entry)) at (now (slice .entry)) remains (now (nodes .entry)) (now (out .entry)) (now (out .exit)) ⌝ }
 {
-    write_left_file(types, at, slice, left, out);
-    let written = 2 + left;
+    write_left_file(types, at, slice, remains, out);
+    let written = 2 + remains;
     write_section(nodes, &mut out[written..]);
 }

@@ -162,13 +162,13 @@ module _ {patch : List ℕ} {place : PatchPlace} {slice : List ℕ} {remains : �
   -- What is sent and the node left stand in front of the work arrays, and how long both files are.
   pub record Stepped (sent nodes : List ℕ) (step : Step) : Type 0 where
     pub sent-small : step .sent ≤ slice-limit
-    pub nodes-small : step .left ≤ nodes-limit
+    pub nodes-small : step .kept ≤ nodes-limit
     pub sent-inside : step .sent ≤ length sent
-    pub nodes-inside : step .left ≤ length nodes
+    pub nodes-inside : step .kept ≤ length nodes
     pub sent-taken : take (step .sent) sent ≡ prefix-bytes (sends input node prefix) []
-    pub nodes-taken : take (step .left) nodes ≡ node-bytes (leaves input node prefix) []
+    pub nodes-taken : take (step .kept) nodes ≡ node-bytes (leaves input node prefix) []
     pub output-long : length (files .output) ≡ 2 + step .sent
-    pub patch-long : length (files .patch) ≡ 2 + remains + 2 + step .left
+    pub patch-long : length (files .patch) ≡ 2 + remains + 2 + step .kept
 
   pub stepped : {end : ℕ} {t : Ty} {sent nodes given sent-after nodes-after given-after : List ℕ} {step : Step}
       → Steps end (sends input node prefix) (leaves input node prefix) t sent nodes given sent-after nodes-after given-after step
@@ -177,11 +177,11 @@ module _ {patch : List ℕ} {place : PatchPlace} {slice : List ℕ} {remains : �
   stepped {step = step} fed =
       record {
         sent-small = omega (arith, fed .sent, sent-short);
-        nodes-small = omega (arith, fed .left, left-width feedable, few);
+        nodes-small = omega (arith, fed .kept, left-width feedable, few);
         sent-inside = omega (arith, sent-long, leads-inside (fed .output), fed .output .long);
-        nodes-inside = omega (arith, fed .left, leads-inside (fed .node-left), fed .node-left .long);
+        nodes-inside = omega (arith, fed .kept, leads-inside (fed .node-left), fed .node-left .long);
         sent-taken = leads-taken (fed .output) sent-long;
-        nodes-taken = leads-taken (fed .node-left) (fed .left);
+        nodes-taken = leads-taken (fed .node-left) (fed .kept);
         output-long = omega (arith, slice-file-size (sends input node prefix), fed .sent);
         patch-long =
             omega (
@@ -191,7 +191,7 @@ module _ {patch : List ℕ} {place : PatchPlace} {slice : List ℕ} {remains : �
               type-width (derivative input prefix),
               due .measured,
               due .taken .remains,
-              fed .left,
+              fed .kept,
             );
       }
     where
@@ -211,10 +211,10 @@ module _ {patch : List ℕ} {place : PatchPlace} {slice : List ℕ} {remains : �
     unfolding slice-file-bytes
     output-written out e = e ∙ ap (λ body. at-front (section-bytes body []) out) (done .sent-taken)
 
-    abbrev pub patch-left-due : (patch-lent : List ℕ) → 2 + remains + 2 + step .left ≤ length patch-lent
-        → PatchLeftDue patch (place .input .start) slice remains (take (step .left) nodes) patch-lent
+    abbrev pub patch-left-due : (patch-lent : List ℕ) → 2 + remains + 2 + step .kept ≤ length patch-lent
+        → PatchLeftDue patch (place .input .start) slice remains (take (step .kept) nodes) patch-lent
     patch-left-due patch-lent room =
-        let long : length (take (step .left) nodes) ≡ step .left = length-take-le (step .left) nodes (done .nodes-inside) in
+        let long : length (take (step .kept) nodes) ≡ step .kept = length-take-le (step .kept) nodes (done .nodes-inside) in
         record {
           type-due =
               record {

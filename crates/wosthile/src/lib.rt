@@ -28,6 +28,9 @@ ghost use Rattle.wosthile.specs.FeedReads.{FeedRead, SendDue};
 
 pub mod exports;
 
+// "Accepted is 0."
+const ACCEPTED: u32 = 0;
+
 // A call that writes nothing, and why.
 fn refuse(fault: Fault) -> Written
     ensures { λ r. ⌜ r ≡ record { number = number fault; written = 0 } ⌝ }
@@ -65,7 +68,7 @@ pub fn check(patch: &[u8], out: &mut [u8]) -> Written
                     }
                     write_section(&given[..size], out);
                     Written {
-                        number: 0,
+                        number: ACCEPTED,
                         written: needed,
                     }
                 }
@@ -83,7 +86,7 @@ pub fn admit(ty: &[u8], slice: &[u8]) -> Admitted
         TypeRead::Whole(place) => match read_slice_file(ty, place.start, slice) {
             SliceRead::Refused(fault) => turn_down(fault),
             SliceRead::Whole(prefix) => Admitted {
-                number: 0,
+                number: ACCEPTED,
                 complete: prefix.complete as u32,
             },
         },
@@ -105,7 +108,7 @@ pub fn left(ty: &[u8], slice: &[u8], out: &mut [u8]) -> Written
                 }
                 write_left_file(ty, place.start, slice, prefix.remains, out);
                 Written {
-                    number: 0,
+                    number: ACCEPTED,
                     written: length,
                 }
             }
@@ -135,7 +138,7 @@ pub fn join(ty: &[u8], first: &[u8], second: &[u8], out: &mut [u8]) -> Written
                         }
                         write_joined_file(first, second, joined, out);
                         Written {
-                            number: 0,
+                            number: ACCEPTED,
                             written: 2 + joined,
                         }
                     }
@@ -185,19 +188,19 @@ fn send(
         &mut given,
     );
     let output = 2 + step.sent;
-    let kept = 2 + remains + 2 + step.left;
+    let needed = 2 + remains + 2 + step.kept;
     if out.len() < output {
         return refuse_feed(Fault::NoRoom);
     }
-    if next.len() < kept {
+    if next.len() < needed {
         return refuse_feed(Fault::NoRoom);
     }
     write_section(&sent[..step.sent], out);
-    write_patch_left(patch, start, slice, remains, &nodes[..step.left], next);
+    write_patch_left(patch, start, slice, remains, &nodes[..step.kept], next);
     Fed {
-        number: 0,
+        number: ACCEPTED,
         output,
-        patch: kept,
+        patch: needed,
     }
 }
 

@@ -58,16 +58,16 @@ pub record DerivativeWritten (types : List ℕ) (at : ℕ) (slice : List ℕ) (f
       → Moves (at + size (due .type)) (from + prefix-width (due .prefix)) (type-bytes (derivative (due .type) (due .prefix)) []) lent lent-after moved
 
 -- The same for a slice file, whose tree stands behind the two bytes of its count, and with a count before what is written;
--- `left` is how many nodes the type left has.
-pub record LeftFileDue (types : List ℕ) (at : ℕ) (slice : List ℕ) (left : ℕ) (lent : List ℕ) : Type 0 where
+-- `remains` is how many nodes the type left has.
+pub record LeftFileDue (types : List ℕ) (at : ℕ) (slice : List ℕ) (remains : ℕ) (lent : List ℕ) : Type 0 where
   pub type : Ty
   pub prefix : Prefix
   pub stands : Stands types at slice 2 type prefix
-  pub measured : left ≡ size (derivative type prefix)
-  pub room : 2 + left ≤ length lent
+  pub measured : remains ≡ size (derivative type prefix)
+  pub room : 2 + remains ≤ length lent
 
-pub record LeftFileWritten (types : List ℕ) (at : ℕ) (slice : List ℕ) (left : ℕ) (lent lent-after : List ℕ) : Type 0 where
-  pub each : (due : LeftFileDue types at slice left lent) → lent-after ≡ at-front (type-file-bytes (derivative (due .type) (due .prefix))) lent
+pub record LeftFileWritten (types : List ℕ) (at : ℕ) (slice : List ℕ) (remains : ℕ) (lent lent-after : List ℕ) : Type 0 where
+  pub each : (due : LeftFileDue types at slice remains lent) → lent-after ≡ at-front (type-file-bytes (derivative (due .type) (due .prefix))) lent
 
 -- A prefix, and one of what it leaves, in their bytes.
 pub record Follows (first : List ℕ) (at : ℕ) (second : List ℕ) (from : ℕ) (t : Ty) (p q : Prefix) : Type 0 where

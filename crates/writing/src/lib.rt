@@ -120,13 +120,13 @@ pub fn write_derivative(types: &[u8], at: usize, slice: &[u8], from: usize, out:
     }
 }
 
-// Writes the file of what the slice file's prefix leaves of the type at `at`: a type of `left` nodes. In a file of one section
+// Writes the file of what the slice file's prefix leaves of the type at `at`: a type of `remains` nodes. In a file of one section
 // the tree stands behind the two bytes of the count.
-pub fn write_left_file(types: &[u8], at: usize, slice: &[u8], left: usize, out: &mut [u8])
-    requires { ⌜ LeftFileDue (now types) at (now slice) left (now out) ⌝ }
-    ensures { λ _. ⌜ LeftFileWritten (now (types .entry)) at (now (slice .entry)) left (now (out .entry)) (now (out .exit)) ⌝ }
+pub fn write_left_file(types: &[u8], at: usize, slice: &[u8], remains: usize, out: &mut [u8])
+    requires { ⌜ LeftFileDue (now types) at (now slice) remains (now out) ⌝ }
+    ensures { λ _. ⌜ LeftFileWritten (now (types .entry)) at (now (slice .entry)) remains (now (out .entry)) (now (out .exit)) ⌝ }
 {
-    put_count(left, out);
+    put_count(remains, out);
     write_derivative(types, at, slice, 2, &mut out[2..]);
 }
 

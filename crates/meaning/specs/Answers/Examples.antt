@@ -16,13 +16,18 @@ passing = sections (1 ∷ []) (0 ∷ [])
 abbrev come : List ℕ
 come = section-of (2 ∷ [])
 
+-- A patch of 6 bytes that sends a cue and leaves one of 7.
+abbrev cue-in : ℕ → Result FedFiles
+cue-in left = with-room (fits-both 3 left) (feed (sections (1 ∷ []) (2 ∷ [])) come)
+
 abbrev checked-in : ℕ → Result (List ℕ)
 checked-in lent = with-room (fits-one lent) (check passing)
 
 abbrev fed-in : ℕ → ℕ → Result FedFiles
 fed-in output left = with-room (fits-both output left) (feed passing come)
 
--- Each file is judged wholly before the next; a buffer has to hold the whole file, its count included; both have to.
+-- Each file is judged wholly before the next; a buffer has to hold the whole file, its count included; both have to; one as long as
+-- the patch fed may be too short for the patch left.
 pub number-examples :
     number-of (admit (section-of (1 ∷ 1 ∷ [])) (section-of (200 ∷ [])))
     ∷ number-of (join (section-of (1 ∷ [])) (section-of (1 ∷ 1 ∷ [])) (section-of (200 ∷ [])))
@@ -30,8 +35,9 @@ pub number-examples :
     ∷ number-of (feed (sections (1 ∷ []) (5 ∷ [])) (section-of (200 ∷ [])))
     ∷ number-of (left (section-of (1 ∷ [])) (section-of (15 ∷ [])))
     ∷ map (λ n. number-of (checked-in n)) (4 ∷ 3 ∷ 2 ∷ 0 ∷ [])
-    ++ number-of (fed-in 3 6) ∷ number-of (fed-in 3 5) ∷ number-of (fed-in 2 6) ∷ number-of (fed-in 2 5) ∷ []
-    ≡ 3 ∷ 13 ∷ 14 ∷ 7 ∷ 12 ∷ 0 ∷ 0 ∷ 20 ∷ 20 ∷ 0 ∷ 20 ∷ 20 ∷ 20 ∷ []
+    ++ number-of (fed-in 3 6) ∷ number-of (fed-in 3 5) ∷ number-of (fed-in 2 6) ∷ number-of (fed-in 2 5)
+    ∷ number-of (cue-in 6) ∷ number-of (cue-in 7) ∷ []
+    ≡ 3 ∷ 13 ∷ 14 ∷ 7 ∷ 12 ∷ 0 ∷ 0 ∷ 20 ∷ 20 ∷ 0 ∷ 20 ∷ 20 ∷ 20 ∷ 20 ∷ 0 ∷ []
 unfolding node-definitions check admit left join feed with-room
 number-examples = refl
 

@@ -30,11 +30,13 @@ table =
     ∷ (sections (1 ∷ []) (copies 32 (10 ∷ []) []), 1)
     -- no section, one section, a value cut short
     ∷ ([], 1)
+    ∷ (0 ∷ [], 1)
     ∷ (section-of (1 ∷ []), 1)
     ∷ (sections (1 ∷ []) (3 ∷ 1 ∷ []), 1)
     -- the type section ends before the next begins; the last section ends before the file does
     ∷ (0 ∷ 1 ∷ 77 ∷ 0 ∷ 9 ∷ [], 2)
     ∷ (section-of (1 ∷ 1 ∷ []), 3)
+    ∷ (sections (1 ∷ 200 ∷ []) (0 ∷ []), 3)
     ∷ (sections (1 ∷ []) (77 ∷ []) ++ 0 ∷ [], 2)
     ∷ (sections (1 ∷ []) (0 ∷ 0 ∷ []), 3)
     -- the first pass comes before the second
@@ -54,6 +56,7 @@ table =
     -- a carried type has its own count of 255 and does not count among the nodes
     ∷ (sections (1 ∷ []) (1 ∷ copies 127 (4 ∷ 0 ∷ []) (0 ∷ [])), 0)
     ∷ (sections (1 ∷ []) (1 ∷ copies 128 (4 ∷ 0 ∷ []) (0 ∷ [])), 4)
+    ∷ (sections (1 ∷ []) (10 ∷ 1 ∷ copies 128 (4 ∷ 0 ∷ []) (0 ∷ 99 ∷ [])), 4)
     -- the shapes that the nodes take
     ∷ (sections (3 ∷ 1 ∷ 1 ∷ []) (5 ∷ []), 7)
     ∷ (sections (3 ∷ 1 ∷ 1 ∷ []) (6 ∷ []), 7)

@@ -36,7 +36,7 @@ returns c =
     record {
       each = λ due.
           let inner = right-coming due (done .before .before .if1 .taken) in
-          copied due (inner .stands) (done .copy-prefix .ensures) (left .leave .ensures) (inner .left);
+          copied due (inner .stands) (done .copy-prefix .ensures) (left .leave .ensures) (inner .kept);
     }
 
 abbrev start : tie.Else1 → tie.Start

@@ -12,8 +12,8 @@ add-write-empty c = omega (arith, starts-inside (c .before .before .before .pre 
 write-empty-requires : tie.Need-write-empty-requires
 write-empty-requires c κs = empty-due (c .before .before .before .before .pre)
 
-add-left : tie.Need-add-left
-add-left c =
+add-kept : tie.Need-add-kept
+add-kept c =
     let sent = c .before .before in
     let begun = sent .before .before .before .before .before in
     omega (arith, silent-inside (begun .pre) (sent .write-empty .ensures))
@@ -60,7 +60,7 @@ feed-silent-spec =
     (tie.spec
     add-write-empty
     write-empty-requires
-    add-left
+    add-kept
     add-copy
     sub-copy
     part-copy-start

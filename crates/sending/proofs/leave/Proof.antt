@@ -18,7 +18,7 @@ returns c =
     record {
       each = λ n one. record {
         sent = refl;
-        left = sym (ap length one);
+        kept = sym (ap length one);
         buffer = rw one (byte (c .args .remainder .now) (c .args .kind) (omega arith));
       };
     }

@@ -19,7 +19,7 @@ same-length c = search needs
 
 returns : tie.Need-returns
 unfolding node-bytes type-bytes
-returns c = record { sent = refl; left = refl; buffer = two-bytes (c .args .remainder .now) 1 0 (omega arith) }
+returns c = record { sent = refl; kept = refl; buffer = two-bytes (c .args .remainder .now) 1 0 (omega arith) }
 
 pub leave-silent-spec : {M : Type 1} → statement M
 leave-silent-spec = tie.close (tie.spec slice-write-remainder slice-write-remainder-2 same-length returns)

@@ -21,7 +21,7 @@ pub delivers : {o : Prefix} {n : Node} {many : ℕ} {out remainder out-after rem
     → out-after ≡ at-front (prefix-bytes o []) out → Leaves n many remainder remainder-after fed
     → Delivers o n out remainder out-after remainder-after fed
 delivers wide written left =
-    record { leaves = record { sent = left .sent ∙ wide; left = left .left; buffer = left .buffer }; output = written }
+    record { leaves = record { sent = left .sent ∙ wide; kept = left .kept; buffer = left .buffer }; output = written }
 
 -- The same where the prefix was written piece by piece, and there is room for it.
 pub delivers-written : {o : Prefix} {n : Node} {many : ℕ} {pieces out remainder out-after remainder-after : List ℕ} {fed : Sent}

@@ -418,7 +418,7 @@ module _ (t : ℕ) where
   parts-restart c = c .before .before .before .before .before
 
   parts-restarts : (c : PartsRestart)
-      → feeding-parts.Restarts (parts-entry (parts-begun (parts-half c)) .args .kind) (parts-half c .feed-node .result .left) (c .match .left)
+      → feeding-parts.Restarts (parts-entry (parts-begun (parts-half c)) .args .kind) (parts-half c .feed-node .result .kept) (c .match .kept)
   parts-restarts c = ⊎-elim (λ six. feeding-parts.starts-over (six .0 .keys1) (six .1)) (λ other. feeding-parts.starts-behind (other .0 .rest .1) (other .2)) (c .match .came)
 
   feed-parts-slice-write-out : feed-parts-lts.Need-slice-write-out calls-parts parts-here feed-parts.Post
@@ -478,8 +478,8 @@ module _ (t : ℕ) where
       let entry = parts-entry (parts-begun first) in
       omega (arith, entry .good, feeding-parts.given-taken (entry .pre .1) (parts-begun first .type-kind-of .ensures) (first .feed-node .ensures))
 
-  feed-parts-add-left : feed-parts-lts.Need-add-left calls-parts parts-here feed-parts.Post
-  feed-parts-add-left c =
+  feed-parts-add-kept : feed-parts-lts.Need-add-kept calls-parts parts-here feed-parts.Post
+  feed-parts-add-kept c =
       let first = c .before .before .before .before .before .before .before .before .before .before in
       let entry = parts-entry (parts-begun first) in
       omega (arith, entry .good, feeding-parts.remainder-taken (entry .pre .1) (parts-begun first .type-kind-of .ensures) (first .feed-node .ensures))
@@ -784,7 +784,7 @@ module _ (t : ℕ) where
   coming-all c = coming-first (coming-copied c)
 
   coming-both-kept : (c : ComingCopied)
-      → (length (back (1 + coming-all c .feed-node .result .left) (coming-remainder (coming-all c)) (c .copy .last .1 .0))
+      → (length (back (1 + coming-all c .feed-node .result .kept) (coming-remainder (coming-all c)) (c .copy .last .1 .0))
       ≡ length (coming-start (coming-all c) .args .remainder .now))
       × (length
       (back (1 + coming-all c .feed-node .result .size) (coming-given (coming-all c)) (coming-typed (coming-copied c) .type-node .last .1 .1 .1 .1 .0))
@@ -848,8 +848,8 @@ module _ (t : ℕ) where
         feeding-then.coming-due (entry .pre .1 .1 .0) (entry .pre .1 .0) (entry .pre .1 .1 .1),
       )
 
-  feed-coming-add-left : feed-coming-lts.Need-add-left calls-coming coming-here feed-coming.Post
-  feed-coming-add-left c =
+  feed-coming-add-kept : feed-coming-lts.Need-add-kept calls-coming coming-here feed-coming.Post
+  feed-coming-add-kept c =
       let first = c .before .before .before .before .before .before .before in
       omega (arith, coming-start first .good, coming-first-fed first)
 
@@ -992,7 +992,7 @@ module _ (t : ℕ) where
 
   chain-both-fed : (c : ChainBoth)
       → feeding-chain.BothFed (chain-entry (chain-first c) .args .remainder .now)
-      (back (1 + chain-first c .feed-node .result .left) (chain-remainder (chain-first c)) (c .feed-node2 .last .1 .1 .1 .1 .1 .1 .1 .0))
+      (back (1 + chain-first c .feed-node .result .kept) (chain-remainder (chain-first c)) (c .feed-node2 .last .1 .1 .1 .1 .1 .1 .1 .0))
       (chain-first c .feed-node .result) (c .feed-node2 .result)
   chain-both-fed c =
       let first = chain-first c in
@@ -1033,8 +1033,8 @@ module _ (t : ℕ) where
         feeding-chain.first-due (entry .pre .1 .1) (entry .pre .1 .0) refl refl,
       )
 
-  feed-chain-add-left : feed-chain-lts.Need-add-left calls-chain chain-here feed-chain.Post
-  feed-chain-add-left c = let first = c .before .before .before .before .before in omega (arith, chain-entry first .good, chain-first-fed first)
+  feed-chain-add-kept : feed-chain-lts.Need-add-kept calls-chain chain-here feed-chain.Post
+  feed-chain-add-kept c = let first = c .before .before .before .before .before in omega (arith, chain-entry first .good, chain-first-fed first)
 
   feed-chain-slice-aggregate-feed-node-3 : feed-chain-lts.Need-slice-aggregate-feed-node-3 calls-chain chain-here feed-chain.Post
   feed-chain-slice-aggregate-feed-node-3 c = sym (chain-first-fed (c .before .before .before .before .before .before) .middle-kept)
@@ -1118,7 +1118,7 @@ pub +feed-both+feed-chain+feed-coming+feed-node+feed-parts+feed-then-spec : {M :
     (feed-chain-part-feed-node-end t)
     (feed-chain-slice-aggregate-feed-node-2 t)
     (feed-chain-feed-node-requires t)
-    (feed-chain-add-left t)
+    (feed-chain-add-kept t)
     (feed-chain-slice-aggregate-feed-node-3 t)
     (feed-chain-slice-aggregate-feed-node-4 t)
     (feed-chain-sub-feed-node-2 t)
@@ -1151,7 +1151,7 @@ pub +feed-both+feed-chain+feed-coming+feed-node+feed-parts+feed-then-spec : {M :
     (feed-coming-part-feed-node-start-3 t)
     (feed-coming-part-feed-node-end-3 t)
     (feed-coming-feed-node-requires t)
-    (feed-coming-add-left t)
+    (feed-coming-add-kept t)
     (feed-coming-add-size t)
     (feed-coming-skip-type-requires t)
     (feed-coming-sub-type-node t)
@@ -1242,7 +1242,7 @@ pub +feed-both+feed-chain+feed-coming+feed-node+feed-parts+feed-then-spec : {M :
     (feed-parts-feed-node-requires t)
     (feed-parts-add-sent t)
     (feed-parts-add-size t)
-    (feed-parts-add-left t)
+    (feed-parts-add-kept t)
     (feed-parts-sub-feed-node-4 t)
     (feed-parts-part-feed-node-start-4 t)
     (feed-parts-part-feed-node-end-4 t)

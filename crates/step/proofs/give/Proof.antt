@@ -29,7 +29,7 @@ returns c =
     rw (c .new .ensures)
     (record {
       sent = refl;
-      left = refl;
+      kept = refl;
       each = λ due. absurd (no-fault (leaf-answered (answered .type-leaf .ensures) due) (c .before .enum-told .given .1));
     })
 
@@ -42,7 +42,7 @@ returns-2 c =
     rw (c .new2 .ensures)
     (record {
       sent = refl;
-      left = refl;
+      kept = refl;
       each = λ due. gives-type (leaf-answered (answered .type-leaf .ensures) due) (due .room) (c .before .before .end .given .1);
     })
 

@@ -17,12 +17,18 @@ table =
     ∷ ((level, section-of (4 ∷ 0 ∷ 0 ∷ [])), 0)
     -- a count that is cut short, a section of no bytes, a tree or a value cut short
     ∷ ((cue, []), 11)
+    ∷ ((cue, 0 ∷ []), 11)
     ∷ ((cue, 0 ∷ 1 ∷ []), 11)
     ∷ ((cue, section-of []), 11)
     ∷ ((par cue cue, section-of (7 ∷ 1 ∷ [])), 11)
     ∷ ((level, section-of (4 ∷ 1 ∷ [])), 11)
+    -- the length is tried before the contents
+    ∷ ((cue, 0 ∷ 2 ∷ 200 ∷ []), 11)
     -- 12 is decided by the number alone, before the type is asked; 14 by the kind, before its value is read
     ∷ ((cue, section-of (15 ∷ [])), 12)
+    ∷ ((cue, section-of (200 ∷ [])), 12)
+    ∷ ((seq cue cue, section-of (6 ∷ 200 ∷ [])), 12)
+    ∷ ((cue, section-of (7 ∷ [])), 14)
     ∷ ((empty, section-of (1 ∷ [])), 14)
     ∷ ((cue, section-of (4 ∷ 1 ∷ [])), 14)
     -- a kind that keeps a crossed first part from being complete is refused at its own byte
@@ -31,6 +37,8 @@ table =
     ∷ ((seq (par cue cue) cue, section-of (6 ∷ 7 ∷ 1 ∷ [])), 14)
     ∷ ((seq (par cue cue) cue, section-of (6 ∷ 7 ∷ 1 ∷ 15 ∷ [])), 14)
     ∷ ((seq (par cue cue) cue, section-of (6 ∷ 7 ∷ 1 ∷ 2 ∷ 1 ∷ 1 ∷ [])), 14)
+    ∷ ((seq (par cue cue) cue, section-of (6 ∷ 7 ∷ 1 ∷ 200 ∷ [])), 14)
+    ∷ ((seq (par cue cue) cue, section-of (6 ∷ 7 ∷ 2 ∷ 1 ∷ 1 ∷ [])), 14)
     ∷ ((seq (par cue cue) cue, section-of (6 ∷ 7 ∷ 15 ∷ [])), 12)
     -- .. and so into the second part of a crossing inside it, but not into the second part itself
     ∷ ((seq (seq cue cue) cue, section-of (6 ∷ 6 ∷ 2 ∷ 1 ∷ 1 ∷ [])), 14)
@@ -39,8 +47,9 @@ table =
     -- empty in sequence with empty: the crossing is still owed
     ∷ ((seq (seq empty empty) cue, section-of (6 ∷ 5 ∷ 0 ∷ 1 ∷ [])), 14)
     ∷ ((seq (seq empty empty) cue, section-of (6 ∷ 6 ∷ 0 ∷ 0 ∷ 1 ∷ [])), 0)
-    -- bytes left over, in the section and after it
+    -- bytes left over, in the section and after it, whatever they are
     ∷ ((cue, section-of (1 ∷ 1 ∷ [])), 13)
+    ∷ ((cue, section-of (2 ∷ 200 ∷ [])), 13)
     ∷ ((cue, 0 ∷ 1 ∷ 1 ∷ 9 ∷ []), 13)
     ∷ []
 

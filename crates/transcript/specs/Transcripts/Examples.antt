@@ -24,6 +24,9 @@ streams =
     ∷ (prepend ++ 0 ∷ 0 ∷ [])  -- a file of no bytes
     ∷ (section-of (sections (1 ∷ []) (5 ∷ [])) ++ slice (1 ∷ []))  -- a refused patch
     ∷ prepend  -- a patch and nothing more
+    ∷ (0 ∷ 0 ∷ [])  -- a patch file of no bytes
+    ∷ (0 ∷ 6 ∷ 0 ∷ 1 ∷ 1 ∷ 0 ∷ 1 ∷ [])  -- ends inside the patch file
+    ∷ (0 ∷ [])  -- ends inside its length
     ∷ []
 
 abbrev pages : List (List ℕ)
@@ -34,6 +37,9 @@ pages =
     ∷ (49 ∷ 50 ∷ 10 ∷ 48 ∷ 32 ∷ 48 ∷ 54 ∷ 48 ∷ 50 ∷ 48 ∷ 49 ∷ 32 ∷ 48 ∷ 49 ∷ 10 ∷ [])
     ∷ (49 ∷ 49 ∷ 10 ∷ [])
     ∷ (55 ∷ 10 ∷ [])
+    ∷ []
+    ∷ (49 ∷ 10 ∷ [])
+    ∷ []
     ∷ []
     ∷ []
 

@@ -32,14 +32,14 @@ done c =
 add-output : tie.Need-add-output
 add-output c = omega (arith, done (c .before .before .before .before .before) .sent-small)
 
-add-kept : tie.Need-add-kept
-add-kept c = omega (arith, small-left (entry (c .before .before .before .before .before) .pre .reads))
+add-needed : tie.Need-add-needed
+add-needed c = omega (arith, small-left (entry (c .before .before .before .before .before) .pre .reads))
 
-add-kept-2 : tie.Need-add-kept-2
-add-kept-2 c = omega (arith, small-left (entry (c .before .before .before .before .before) .pre .reads))
+add-needed-2 : tie.Need-add-needed-2
+add-needed-2 c = omega (arith, small-left (entry (c .before .before .before .before .before) .pre .reads))
 
-add-kept-3 : tie.Need-add-kept-3
-add-kept-3 c =
+add-needed-3 : tie.Need-add-needed-3
+add-needed-3 c =
     let step = c .before .before .before .before .before .before in
     omega (arith, done step .nodes-small, small-left (entry step .pre .reads))
 
@@ -117,9 +117,9 @@ send-spec =
     slice-aggregate-feed-node-2
     feed-node-requires
     add-output
-    add-kept
-    add-kept-2
-    add-kept-3
+    add-needed
+    add-needed-2
+    add-needed-3
     refuse-feed-requires
     same-length
     returns
