@@ -3,7 +3,7 @@
 use mathlib.Core.Path.{_≡_, refl}
 use mathlib.Core.List.{List, [], _∷_, _++_, map}
 use Prim.Native.Nat.{ℕ}
-use Rattle.stream.specs.Reading.{Result}
+use Rattle.stream.specs.Reading.{Result, accepted}
 use Rattle.stream.specs.Reading.Examples.{section-of}
 use Rattle.node.specs.Computing.{node-definitions}
 use Rattle.node.specs.PatchFiles.Examples.{sections}
@@ -60,6 +60,15 @@ pub fed-examples :
     ≡ record { number = 0; output = 3; patch = 6 } ∷ record { number = 20; output = 0; patch = 0 } ∷ []
 unfolding node-definitions feed with-room fed
 fed-examples = refl
+
+-- What is sent is by the slice and by the patch, and the patch left is fed: the sides swapped, and a first part that has come.
+pub feed-examples :
+    feed (sections (4 ∷ 1 ∷ 2 ∷ []) (4 ∷ 6 ∷ 5 ∷ [])) (section-of (7 ∷ 2 ∷ 3 ∷ []))
+    ∷ feed (sections (3 ∷ 1 ∷ 1 ∷ []) (7 ∷ [])) (section-of (6 ∷ 2 ∷ 1 ∷ [])) ∷ []
+    ≡ accepted (record { output = section-of (7 ∷ 3 ∷ 2 ∷ []); patch = sections (4 ∷ 0 ∷ 2 ∷ []) (4 ∷ 6 ∷ 5 ∷ []) })
+    ∷ accepted (record { output = section-of (2 ∷ []); patch = sections (1 ∷ []) (1 ∷ 0 ∷ []) }) ∷ []
+unfolding node-definitions feed
+feed-examples = refl
 
 -- 1 for complete, 0 for not, and 0 on a refusal.
 pub admit-examples :
