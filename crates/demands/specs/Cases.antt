@@ -36,39 +36,39 @@ answer (admitting type slice) = outcome (λ c. []) (admit (one type) (one slice)
 answer (joining type first second) = outcome (λ w. w ∷ []) (join (one type) (one first) (one second))
 answer (feeding input nodes slice) = outcome (λ (w : FedFiles). w .output ∷ w .patch ∷ []) (feed (two input nodes) (one slice))
 
-abbrev pub sends : (output input nodes : List ℕ) → Answer
-sends output input nodes = files (one output ∷ two input nodes ∷ [])
+abbrev pub sends-and-leaves : (output input nodes : List ℕ) → Answer
+sends-and-leaves output input nodes = files (one output ∷ two input nodes ∷ [])
 
-abbrev pub writes : List ℕ → Answer
-writes contents = files (one contents ∷ [])
+abbrev pub writes-file : List ℕ → Answer
+writes-file contents = files (one contents ∷ [])
 
 abbrev pub table : List (Question × Answer)
 table =
     -- 1
-    (feeding (4 ∷ 1 ∷ 2 ∷ []) (4 ∷ 6 ∷ 5 ∷ []) (7 ∷ 2 ∷ 3 ∷ []), sends (7 ∷ 3 ∷ 2 ∷ []) (4 ∷ 0 ∷ 2 ∷ []) (4 ∷ 6 ∷ 5 ∷ []))
+    (feeding (4 ∷ 1 ∷ 2 ∷ []) (4 ∷ 6 ∷ 5 ∷ []) (7 ∷ 2 ∷ 3 ∷ []), sends-and-leaves (7 ∷ 3 ∷ 2 ∷ []) (4 ∷ 0 ∷ 2 ∷ []) (4 ∷ 6 ∷ 5 ∷ []))
     -- 2, and then slice 2
-    ∷ (feeding (1 ∷ []) (10 ∷ 14 ∷ 9 ∷ 2 ∷ 0 ∷ []) (1 ∷ []), sends (6 ∷ 2 ∷ 1 ∷ []) (1 ∷ []) (10 ∷ 0 ∷ 0 ∷ []))
-    ∷ (feeding (1 ∷ []) (10 ∷ 0 ∷ 0 ∷ []) (2 ∷ []), sends (2 ∷ []) (0 ∷ []) (10 ∷ 0 ∷ 0 ∷ []))
+    ∷ (feeding (1 ∷ []) (10 ∷ 14 ∷ 9 ∷ 2 ∷ 0 ∷ []) (1 ∷ []), sends-and-leaves (6 ∷ 2 ∷ 1 ∷ []) (1 ∷ []) (10 ∷ 0 ∷ 0 ∷ []))
+    ∷ (feeding (1 ∷ []) (10 ∷ 0 ∷ 0 ∷ []) (2 ∷ []), sends-and-leaves (2 ∷ []) (0 ∷ []) (10 ∷ 0 ∷ 0 ∷ []))
     -- 3
-    ∷ (feeding (1 ∷ []) (10 ∷ 14 ∷ 9 ∷ 2 ∷ 0 ∷ []) (2 ∷ []), sends (6 ∷ 2 ∷ 2 ∷ []) (0 ∷ []) (10 ∷ 0 ∷ 0 ∷ []))
+    ∷ (feeding (1 ∷ []) (10 ∷ 14 ∷ 9 ∷ 2 ∷ 0 ∷ []) (2 ∷ []), sends-and-leaves (6 ∷ 2 ∷ 2 ∷ []) (0 ∷ []) (10 ∷ 0 ∷ 0 ∷ []))
     -- 4, and from the same start
-    ∷ (feeding (3 ∷ 1 ∷ 1 ∷ []) (7 ∷ []) (5 ∷ 2 ∷ []), sends (2 ∷ []) (3 ∷ 0 ∷ 1 ∷ []) (7 ∷ []))
-    ∷ (feeding (3 ∷ 1 ∷ 1 ∷ []) (7 ∷ []) (6 ∷ 2 ∷ 1 ∷ []), sends (2 ∷ []) (1 ∷ []) (1 ∷ 0 ∷ []))
+    ∷ (feeding (3 ∷ 1 ∷ 1 ∷ []) (7 ∷ []) (5 ∷ 2 ∷ []), sends-and-leaves (2 ∷ []) (3 ∷ 0 ∷ 1 ∷ []) (7 ∷ []))
+    ∷ (feeding (3 ∷ 1 ∷ 1 ∷ []) (7 ∷ []) (6 ∷ 2 ∷ 1 ∷ []), sends-and-leaves (2 ∷ []) (1 ∷ []) (1 ∷ 0 ∷ []))
     -- 5, and from the same start
-    ∷ (feeding (3 ∷ 1 ∷ 4 ∷ 1 ∷ 1 ∷ []) (13 ∷ []) (5 ∷ 2 ∷ []), sends (7 ∷ 5 ∷ 2 ∷ 5 ∷ 2 ∷ []) (3 ∷ 0 ∷ 4 ∷ 1 ∷ 1 ∷ []) (13 ∷ []))
-    ∷ (feeding (3 ∷ 1 ∷ 4 ∷ 1 ∷ 1 ∷ []) (13 ∷ []) (6 ∷ 2 ∷ 7 ∷ 2 ∷ 1 ∷ []), sends (7 ∷ 6 ∷ 2 ∷ 2 ∷ 6 ∷ 2 ∷ 1 ∷ []) (4 ∷ 0 ∷ 1 ∷ []) (0 ∷ []))
+    ∷ (feeding (3 ∷ 1 ∷ 4 ∷ 1 ∷ 1 ∷ []) (13 ∷ []) (5 ∷ 2 ∷ []), sends-and-leaves (7 ∷ 5 ∷ 2 ∷ 5 ∷ 2 ∷ []) (3 ∷ 0 ∷ 4 ∷ 1 ∷ 1 ∷ []) (13 ∷ []))
+    ∷ (feeding (3 ∷ 1 ∷ 4 ∷ 1 ∷ 1 ∷ []) (13 ∷ []) (6 ∷ 2 ∷ 7 ∷ 2 ∷ 1 ∷ []), sends-and-leaves (7 ∷ 6 ∷ 2 ∷ 2 ∷ 6 ∷ 2 ∷ 1 ∷ []) (4 ∷ 0 ∷ 1 ∷ []) (0 ∷ []))
     -- 6
-    ∷ (feeding (3 ∷ 3 ∷ 1 ∷ 1 ∷ 1 ∷ []) (11 ∷ []) (5 ∷ 6 ∷ 2 ∷ 1 ∷ []), sends (6 ∷ 2 ∷ 5 ∷ 1 ∷ []) (3 ∷ 1 ∷ 1 ∷ []) (0 ∷ []))
+    ∷ (feeding (3 ∷ 3 ∷ 1 ∷ 1 ∷ 1 ∷ []) (11 ∷ []) (5 ∷ 6 ∷ 2 ∷ 1 ∷ []), sends-and-leaves (6 ∷ 2 ∷ 5 ∷ 1 ∷ []) (3 ∷ 1 ∷ 1 ∷ []) (0 ∷ []))
     -- 7, and joining
     ∷ (admitting (3 ∷ 1 ∷ 1 ∷ []) (6 ∷ 1 ∷ 1 ∷ []), number-alone 14)
-    ∷ (joining (3 ∷ 1 ∷ 1 ∷ []) (5 ∷ 2 ∷ []) (6 ∷ 0 ∷ 1 ∷ []), writes (6 ∷ 2 ∷ 1 ∷ []))
+    ∷ (joining (3 ∷ 1 ∷ 1 ∷ []) (5 ∷ 2 ∷ []) (6 ∷ 0 ∷ 1 ∷ []), writes-file (6 ∷ 2 ∷ 1 ∷ []))
     -- 8
-    ∷ (feeding (0 ∷ []) (0 ∷ []) (0 ∷ []), sends (0 ∷ []) (0 ∷ []) (0 ∷ []))
-    ∷ (feeding (1 ∷ []) (2 ∷ []) (1 ∷ []), sends (2 ∷ []) (1 ∷ []) (1 ∷ 0 ∷ []))
+    ∷ (feeding (0 ∷ []) (0 ∷ []) (0 ∷ []), sends-and-leaves (0 ∷ []) (0 ∷ []) (0 ∷ []))
+    ∷ (feeding (1 ∷ []) (2 ∷ []) (1 ∷ []), sends-and-leaves (2 ∷ []) (1 ∷ []) (1 ∷ 0 ∷ []))
     -- 9
     ∷ (checking (3 ∷ 1 ∷ 1 ∷ []) (5 ∷ []), number-alone 7)
     ∷ (checking (1 ∷ []) (1 ∷ 3 ∷ 0 ∷ 0 ∷ []), number-alone 6)
-    ∷ (checking (1 ∷ []) (1 ∷ 4 ∷ 0 ∷ 0 ∷ []), writes (4 ∷ 0 ∷ 0 ∷ []))
+    ∷ (checking (1 ∷ []) (1 ∷ 4 ∷ 0 ∷ 0 ∷ []), writes-file (4 ∷ 0 ∷ 0 ∷ []))
     ∷ []
 
 pub cases : map (λ (row : Question × Answer). answer (row .0)) table ≡ map (λ (row : Question × Answer). row .1) table
