@@ -39,10 +39,10 @@ pub data Decided {A : Type 0} (read : Result A) (TooShort : A → Type 0) (answe
 abbrev pub Wrote : (file lent : List ℕ) → Written → List ℕ → Type 0
 Wrote file lent answer lent-after = (answer ≡ record { number = 0; written = length file }) × (lent-after ≡ at-front file lent)
 
-abbrev pub WroteBoth : (sent left output-lent patch-lent : List ℕ) → Fed → List ℕ → List ℕ → Type 0
-WroteBoth sent left output-lent patch-lent answer output-after patch-after =
-    (answer ≡ record { number = 0; output = length sent; patch = length left })
-    × (output-after ≡ at-front sent output-lent) × (patch-after ≡ at-front left patch-lent)
+abbrev pub WroteBoth : (sent next output-lent patch-lent : List ℕ) → Fed → List ℕ → List ℕ → Type 0
+WroteBoth sent next output-lent patch-lent answer output-after patch-after =
+    (answer ≡ record { number = 0; output = length sent; patch = length next })
+    × (output-after ≡ at-front sent output-lent) × (patch-after ≡ at-front next patch-lent)
 
 -- When 20 is due by the answers' own definitions: the call would be accepted but for a buffer that is too short.
 pub record TooShortFor {A : Type 0} (fits : A → Bool) (outcome : Result A) : Type 0 where

@@ -169,10 +169,10 @@ module _ {start : List ℕ} {calls : List Call} {r : Run} (ran : Ran start calls
       → answer .number ≡ 0 ↔ SliceFile (run-accepted ran patch b .patch .input) slice
   run-slice c h k = demand-2-slice call (run-accepted ran patch b) c h k
 
-  pub run-sends : {sent : Prefix} {left : Patch} (taken : SliceFile (run-accepted ran patch b .patch .input) slice)
-      → FeedsPatch (run-accepted ran patch b .patch) (taken .prefix) sent left
-      → length (slice-file-bytes sent) ≤ length output-lent → length (patch-file-bytes left) ≤ length patch-lent
-      → WroteBoth (slice-file-bytes sent) (patch-file-bytes left) output-lent patch-lent answer output-after patch-after
+  pub run-sends : {sent : Prefix} {next : Patch} (taken : SliceFile (run-accepted ran patch b .patch .input) slice)
+      → FeedsPatch (run-accepted ran patch b .patch) (taken .prefix) sent next
+      → length (slice-file-bytes sent) ≤ length output-lent → length (patch-file-bytes next) ≤ length patch-lent
+      → WroteBoth (slice-file-bytes sent) (patch-file-bytes next) output-lent patch-lent answer output-after patch-after
   run-sends taken rule h k = demand-2-sends call (run-accepted ran patch b) taken rule h k
 
 -- The rules of a node define an output and a node left, and one only.
@@ -188,8 +188,8 @@ pub one-run : {start : List ℕ} {r q : Run} (calls : List Call) → Ran start c
 one-run calls ran also = runs-alike calls ran also
 
 -- Demand 3 by the operations' own answers on files: Join, Left and Check.
-pub as-one-on-files : {start : List ℕ} {r : Run} {patch : PatchFile start} {left : PatchFile (r .patch)} → AsOne patch r left → OnFiles start r
-as-one-on-files {patch = patch} {left = left} one = on-files patch left one
+pub as-one-on-files : {start : List ℕ} {r : Run} {patch : PatchFile start} {next : PatchFile (r .patch)} → AsOne patch r next → OnFiles start r
+as-one-on-files {patch = patch} {next = next} one = on-files patch next one
 
 -- The cut of the stream does not change the show: two runs from one start whose accepted slices join to the same slice leave the
 -- same patch, and their outputs join to the same output, byte for byte.

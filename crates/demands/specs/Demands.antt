@@ -51,8 +51,8 @@ demand-1-join type first second call = join-decided type first second call
 pub demand-1-feed : {patch slice output-lent patch-lent output-after patch-after : List ℕ} {answer : Fed}
     → FeedPromise patch slice output-lent patch-lent answer output-after patch-after
     → Decided (patch-and-slice patch slice)
-    (λ x. (sent : Prefix) (left : Patch) → FeedsPatch (x .0) (x .1) sent left
-    → (length output-lent < length (slice-file-bytes sent)) ⊎ (length patch-lent < length (patch-file-bytes left)))
+    (λ x. (sent : Prefix) (next : Patch) → FeedsPatch (x .0) (x .1) sent next
+    → (length output-lent < length (slice-file-bytes sent)) ⊎ (length patch-lent < length (patch-file-bytes next)))
     (answer .number) (output-lent ∷ patch-lent ∷ []) (output-after ∷ patch-after ∷ [])
 demand-1-feed call = feed-decided call
 
@@ -114,15 +114,15 @@ demand-2-join type first second call b c d h = Iff·trans (writes-zero call (joi
 -- Given long enough buffers, a feed sends the output and leaves the patch that those rules define." (They define one, of every
 -- prefix.)
 
-pub demand-2-sends : {file slice output-lent patch-lent output-after patch-after : List ℕ} {answer : Fed} {sent : Prefix} {left : Patch}
+pub demand-2-sends : {file slice output-lent patch-lent output-after patch-after : List ℕ} {answer : Fed} {sent : Prefix} {next : Patch}
     → FeedPromise file slice output-lent patch-lent answer output-after patch-after
-    → (patch : PatchFile file) (taken : SliceFile (patch .patch .input) slice) → FeedsPatch (patch .patch) (taken .prefix) sent left
-    → length (slice-file-bytes sent) ≤ length output-lent → length (patch-file-bytes left) ≤ length patch-lent
-    → WroteBoth (slice-file-bytes sent) (patch-file-bytes left) output-lent patch-lent answer output-after patch-after
+    → (patch : PatchFile file) (taken : SliceFile (patch .patch .input) slice) → FeedsPatch (patch .patch) (taken .prefix) sent next
+    → length (slice-file-bytes sent) ≤ length output-lent → length (patch-file-bytes next) ≤ length patch-lent
+    → WroteBoth (slice-file-bytes sent) (patch-file-bytes next) output-lent patch-lent answer output-after patch-after
 demand-2-sends call patch taken rule h k = feed-by-rules call patch taken rule h k
 
 pub demand-2-defined : {file slice : List ℕ} (patch : PatchFile file) (taken : SliceFile (patch .patch .input) slice)
-    → (sent : Prefix) × (left : Patch) × FeedsPatch (patch .patch) (taken .prefix) sent left
+    → (sent : Prefix) × (next : Patch) × FeedsPatch (patch .patch) (taken .prefix) sent next
 demand-2-defined patch taken = feed-defined patch taken
 
 -- Demand 3. "Take any accepted patch and any list of feeds from it, refused feeds included, whatever slices and buffers they are

@@ -57,7 +57,7 @@ pub data Joined (t : Ty) : List (List ℕ) → Prefix → Type 0 where
 -- exactly the accepted feeds' outputs joined in order, and leave the patch that the list left, byte for byte": whatever call
 -- keeps the promise. "Its input type is exactly what the slices taken so far, joined, leave of the input type at the start,
 -- and its output type exactly what the outputs so far, joined, leave of the output type at the start."
-pub record AsOne {start : List ℕ} (patch : PatchFile start) (r : Run) (left : PatchFile (r .patch)) : Type 0 where
+pub record AsOne {start : List ℕ} (patch : PatchFile start) (r : Run) (next : PatchFile (r .patch)) : Type 0 where
   pub slice : Prefix
   pub output : Prefix
   pub slices-joined : Joined (patch .patch .input) (r .slices) slice
@@ -66,8 +66,8 @@ pub record AsOne {start : List ℕ} (patch : PatchFile start) (r : Run) (left : 
       → FeedPromise start (slice-file-bytes slice) output-lent patch-lent answer output-after patch-after
       → length (slice-file-bytes output) ≤ length output-lent → length (r .patch) ≤ length patch-lent
       → WroteBoth (slice-file-bytes output) (r .patch) output-lent patch-lent answer output-after patch-after
-  pub input-left : left .patch .input ≡ derivative (patch .patch .input) slice
-  pub output-left : left .output ≡ derivative (patch .output) output
+  pub input-left : next .patch .input ≡ derivative (patch .patch .input) slice
+  pub output-left : next .output ≡ derivative (patch .output) output
 
 -- What demand 3 says of a run.
 pub record Faithful {start : List ℕ} (patch : PatchFile start) (r : Run) : Type 0 where

@@ -22,7 +22,7 @@ use Rattle.files.specs.TypeReads.Laws.{type-width}
 use Rattle.files.specs.SliceReads.{prefix-width}
 use Rattle.files.specs.SliceReads.Laws.{prefix-bytes-length}
 use Rattle.writing.specs.Writing.Standing.{slice-file-size}
-use Rattle.node.specs.Nodes.{Node, count, node-limit, patch-of}
+use Rattle.node.specs.Nodes.{Node, count, node-limit}
 use Rattle.node.specs.Nodes.Laws.{output-type-is, output-small}
 use Rattle.node.specs.Feeding.Functions.{sends, leaves}
 use Rattle.node.specs.Feeding.Laws.{preserved}
@@ -35,7 +35,7 @@ use Rattle.patches.specs.PatchReads.{AcceptedPatch}
 use Rattle.step.specs.declared.Step.{Step}
 use Rattle.step.specs.Steps.{Feedable, FeedDue, Steps, PatchLeftDue}
 use Rattle.step.specs.Steps.Laws.{leads-inside, leads-taken, left-width}
-use Rattle.meaning.specs.Answers.{FedFiles, feed, with-room, fed as told, after}
+use Rattle.meaning.specs.Answers.{FedFiles, feed, with-room, fed as told, after, fed-files}
 use Rattle.meaning.specs.Promises.{FeedPromise}
 use Rattle.wosthile.specs.FeedReads.{FeedRead}
 use Rattle.stream.specs.Bounds.{slice-limit, slice-file-limit, twice-node-bytes, nodes-limit}
@@ -106,7 +106,7 @@ module _ {patch : List ℕ} {place : PatchPlace} {slice : List ℕ} {remains : �
   is-typed = typing-sound input node (due .output) (due .read .node-at .carries) (due .is-typed)
 
   abbrev pub files : FedFiles
-  files = record { output = slice-file-bytes (sends input node prefix); patch = patch-file-bytes (patch-of (derivative input prefix) (leaves input node prefix)) }
+  files = fed-files (due .read .patch) prefix
 
   pub feed-is : feed patch slice ≡ accepted files
   unfolding feed patch-file second-pass
