@@ -26,7 +26,7 @@ DECLARED = re.compile(r"declared\.(?:\w+\.)*?(\w+)(\.the-variants)?$")
 
 
 class Definition:
-    """A declaration: what it is ('data', 'record', 'definition' or 'theorem'), its lines, and where it stands."""
+    """A declaration: what it is ('data', 'record', 'definition' or 'theorem'), and its lines."""
 
     def __init__(self, kind, line):
         self.kind = kind
@@ -106,20 +106,27 @@ class Reader:
             self.modules[place] = Module(*place)
         return self.modules[place]
 
-    def follow(self, place, name):
+    def follow(self, place, word):
+        """Counts what a word names, if it names something: a definition here, or one that is imported from ours."""
         module = self.module(place)
-        name = module.constructors.get(name, name)
+        name = module.constructors.get(word, word)
         if name in module.definitions:
             self.count(place, name)
         elif name in module.imports and name not in self.set_aside:
             path, there = module.imports[name]
             ours = OURS.match(path)
             if ours:
-                declared = DECLARED.match(ours.group(2))
-                if declared:
-                    self.counted[(ours.group(1), "src", declared.group(1))] = declared_lines(ours.group(1), declared.group(1))
-                else:
-                    self.follow((ours.group(1), ours.group(2)), there)
+                self.follow_import(ours.group(1), ours.group(2), there)
+
+    def follow_import(self, crate, path, name):
+        declared = DECLARED.match(path)
+        if declared:
+            self.counted[(crate, "src", declared.group(1))] = declared_lines(crate, declared.group(1))
+            return
+        module = self.module((crate, path))
+        if not any(name in names for names in (module.definitions, module.constructors)):
+            raise SystemExit(f"{crate}, {path} has no {name}")
+        self.follow((crate, path), name)
 
     def count(self, place, name):
         if (*place, name) in self.counted or name in self.set_aside:

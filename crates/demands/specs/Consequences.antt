@@ -11,6 +11,7 @@ use Rattle.stream.specs.Bounds.{type-file-limit, slice-file-limit, patch-file-l
 use Rattle.stream.specs.Faults.{patch-numbers, contains}
 use Rattle.stream.specs.Types.{Ty, par}
 use Rattle.stream.specs.Prefixes.{Prefix, beside, IsPrefix, Complete, empty-prefix, derivative, Concat}
+use Rattle.stream.specs.Prefixes.Laws.{concats, concat-only}
 use Rattle.stream.specs.Reading.{Bytes, accepted}
 use Rattle.stream.specs.TypeFiles.{type-file-bytes, TypeFile}
 use Rattle.stream.specs.SliceFiles.{slice-file-bytes, SliceFile}
@@ -182,6 +183,14 @@ a-rule a h = (_, _, feeds (a .types) h)
 
 pub one-rule : {s : Ty} {n n′ m : Node} {p o q : Prefix} → Feeds s n p o n′ → Feeds s n p q m → (o ≡ q) × (n′ ≡ m)
 one-rule h k = let x = feeds-only h in let y = feeds-only k in (x .sent ∙ sym (y .sent), x .node ∙ sym (y .node))
+
+-- So do the rules of Join.
+
+pub a-join : {t : Ty} {p : Prefix} (q : Prefix) → IsPrefix t p → IsPrefix (derivative t p) q → (both : Prefix) × Concat p q both
+a-join q h k = (_, concats q h k)
+
+pub one-join : {p q r u : Prefix} → Concat p q r → Concat p q u → r ≡ u
+one-join c d = sym (concat-only c) ∙ concat-only d
 
 -- The same calls from the same start come to the same.
 pub one-run : {start : List ℕ} {r q : Run} (calls : List Call) → Ran start calls r → Ran start calls q → r ≡ q
