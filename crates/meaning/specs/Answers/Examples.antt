@@ -61,12 +61,18 @@ pub fed-examples :
 unfolding node-definitions feed with-room fed
 fed-examples = refl
 
--- What is sent is by the slice and by the patch, and the patch left is fed: the sides swapped, and a first part that has come.
+-- What is sent is by the slice and by the patch, and the patch left is fed: the sides swapped, a first part that
+-- has come, and two that leave more bytes than they had.
 pub feed-examples :
     feed (sections (4 ∷ 1 ∷ 2 ∷ []) (4 ∷ 6 ∷ 5 ∷ [])) (section-of (7 ∷ 2 ∷ 3 ∷ []))
-    ∷ feed (sections (3 ∷ 1 ∷ 1 ∷ []) (7 ∷ [])) (section-of (6 ∷ 2 ∷ 1 ∷ [])) ∷ []
+    ∷ feed (sections (3 ∷ 1 ∷ 1 ∷ []) (7 ∷ [])) (section-of (6 ∷ 2 ∷ 1 ∷ []))
+    ∷ feed (sections (3 ∷ 4 ∷ 1 ∷ 1 ∷ 1 ∷ []) (4 ∷ 7 ∷ 7 ∷ [])) (section-of (6 ∷ 7 ∷ 2 ∷ 2 ∷ 1 ∷ [])) ∷ []
     ≡ accepted (record { output = section-of (7 ∷ 3 ∷ 2 ∷ []); patch = sections (4 ∷ 0 ∷ 2 ∷ []) (4 ∷ 6 ∷ 5 ∷ []) })
-    ∷ accepted (record { output = section-of (2 ∷ []); patch = sections (1 ∷ []) (1 ∷ 0 ∷ []) }) ∷ []
+    ∷ accepted (record { output = section-of (2 ∷ []); patch = sections (1 ∷ []) (1 ∷ 0 ∷ []) })
+    ∷ accepted (record {
+      output = section-of (7 ∷ 7 ∷ 2 ∷ 2 ∷ 7 ∷ 2 ∷ 2 ∷ []);
+      patch = sections (1 ∷ []) (4 ∷ 1 ∷ 4 ∷ 0 ∷ 0 ∷ 1 ∷ 4 ∷ 0 ∷ 0 ∷ []);
+    }) ∷ []
 unfolding node-definitions feed
 feed-examples = refl
 

@@ -32,12 +32,12 @@ table =
     ∷ ([], 1)
     ∷ (0 ∷ [], 1)
     ∷ (section-of (1 ∷ []), 1)
-    ∷ (sections (1 ∷ []) (3 ∷ 1 ∷ []), 1)
+    ∷ (sections (1 ∷ []) (3 ∷ 7 ∷ []), 1)
     -- the type section ends before the next begins; the last section ends before the file does
     ∷ (0 ∷ 1 ∷ 77 ∷ 0 ∷ 9 ∷ [], 2)
     ∷ (section-of (1 ∷ 1 ∷ []), 3)
     ∷ (sections (1 ∷ 200 ∷ []) (0 ∷ []), 3)
-    ∷ (sections (1 ∷ []) (77 ∷ []) ++ 0 ∷ [], 2)
+    ∷ (sections (1 ∷ []) (77 ∷ []) ++ 5 ∷ [], 2)
     ∷ (sections (1 ∷ []) (0 ∷ 0 ∷ []), 3)
     -- the first pass comes before the second
     ∷ (sections (1 ∷ []) (5 ∷ []) ++ 0 ∷ [], 3)

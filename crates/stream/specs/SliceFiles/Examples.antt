@@ -25,7 +25,7 @@ table =
     -- the length is tried before the contents
     ∷ ((cue, 0 ∷ 2 ∷ 200 ∷ []), 11)
     -- 12 is decided by the number alone, before the type is asked; 14 by the kind, before its value is read
-    ∷ ((cue, section-of (15 ∷ [])), 12)
+    ∷ ((cue, section-of (8 ∷ [])), 12)
     ∷ ((cue, section-of (200 ∷ [])), 12)
     ∷ ((seq cue cue, section-of (6 ∷ 200 ∷ [])), 12)
     ∷ ((cue, section-of (7 ∷ [])), 14)
