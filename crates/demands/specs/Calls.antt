@@ -1,22 +1,27 @@
 -- What the demands say of one call.
 use mathlib.Core.Path.{_≡_}
 use mathlib.Core.Bool.{Bool, false}
-use mathlib.Core.List.{List}
-use Prim.Native.Nat.{ℕ}
+use mathlib.Core.List.{List, [], _∷_, map}
+use Prim.Native.Nat.{ℕ, _≤_}
 use lib.ListN.{length}
 use Rattle.stream.specs.declared.Fault.{Fault}
 use Rattle.stream.specs.Faults.{number}
 use Rattle.stream.specs.Buffers.{at-front}
 use Rattle.stream.specs.Types.{Ty}
-use Rattle.stream.specs.Prefixes.{Prefix}
+use Rattle.stream.specs.Prefixes.{Prefix, derivative, Concat}
 use Rattle.stream.specs.Reading.{Result, accepted, refused}
+use Rattle.stream.specs.TypeFiles.{type-file-bytes}
+use Rattle.stream.specs.SliceFiles.{slice-file-bytes}
 use Rattle.node.specs.Nodes.{Patch}
+use Rattle.node.specs.Feeding.{FeedsPatch}
+use Rattle.node.specs.PatchFiles.{Checked, patch-file-bytes}
 use Rattle.meaning.specs.declared.Written.{Written}
 use Rattle.meaning.specs.declared.Fed.{Fed}
 use Rattle.meaning.specs.Answers.{on-slice, on-slices, on-patch}
 pub mod Laws
 
--- What the files of a call are read as, or the first fault in them: a type and a slice, two slices, a patch and a slice.
+-- What the files of a call are read as, or the first fault in them: a type and a slice, two slices, a patch and a slice. (Check
+-- reads a patch file, `patch-file`.)
 abbrev pub type-and-slice : (type slice : List ℕ) → Result (Ty × Prefix)
 type-and-slice type slice = on-slice type slice (λ t p. accepted (t, p))
 
@@ -26,16 +31,49 @@ two-slices type first second = on-slices type first second (λ p q. accepted (p,
 abbrev pub patch-and-slice : (patch slice : List ℕ) → Result (Patch × Prefix)
 patch-and-slice patch slice = on-patch patch slice (λ a p. accepted (a, p))
 
--- What demand 1 asks of a call whose files are read as `read`: "accepted or .. refused with the number that document 01 gives for
--- its first fault .. and a refused one alters no byte of a lent buffer". "Last 20: the buffer is too short for this answer":
--- TooShort a says so of the answer that is due for a.
-pub data Decided {A : Type 0} (read : Result A) (TooShort : A → Type 0) (answered : ℕ) (lent lent-after : List (List ℕ)) : Type 0 where
-  is-accepted : (a : A) → read ≡ accepted a → answered ≡ 0 → Decided read TooShort answered lent lent-after
-  is-refused : (e : Fault) → read ≡ refused e → answered ≡ number e → lent-after ≡ lent → Decided read TooShort answered lent lent-after
-  is-short : (a : A) → read ≡ accepted a → TooShort a → answered ≡ 20 → lent-after ≡ lent → Decided read TooShort answered lent lent-after
+-- The files that are due for what was read: Check "writes its output type file", Admit writes nothing, Left what the slice leaves,
+-- Join the two slices as one, Feed "the output slice file and the patch file left".
+abbrev pub CheckDue : Checked → List (List ℕ) → Type 0
+CheckDue c files = files ≡ type-file-bytes (c .output) ∷ []
 
--- Accepted calls: one that wrote a file, and a feed that wrote the file sent and that of the patch left, each at the front of what
--- was lent for it.
+abbrev pub AdmitDue : Ty × Prefix → List (List ℕ) → Type 0
+AdmitDue (t, p) files = files ≡ []
+
+abbrev pub LeftDue : Ty × Prefix → List (List ℕ) → Type 0
+LeftDue (t, p) files = files ≡ type-file-bytes (derivative t p) ∷ []
+
+abbrev pub JoinDue : Prefix × Prefix → List (List ℕ) → Type 0
+JoinDue (p, q) files = (both : Prefix) × Concat p q both × (files ≡ slice-file-bytes both ∷ [])
+
+abbrev pub FeedDue : Patch × Prefix → List (List ℕ) → Type 0
+FeedDue (a, p) files =
+    (sent : Prefix) × (next : Patch) × FeedsPatch a p sent next × (files ≡ slice-file-bytes sent ∷ patch-file-bytes next ∷ [])
+
+-- Each file fits the buffer that is lent for it; and what the buffers hold once they are written: "These stand at the front of the
+-- lent buffer, and the bytes behind them stay."
+abbrev pub Fit : (files lent : List (List ℕ)) → Type 0
+Fit [] lent = Unit
+Fit (file ∷ files) [] = ⊥
+Fit (file ∷ files) (buffer ∷ lent) = (length file ≤ length buffer) × Fit files lent
+
+abbrev pub fronts : (files lent : List (List ℕ)) → List (List ℕ)
+fronts [] lent = lent
+fronts (file ∷ files) [] = []
+fronts (file ∷ files) (buffer ∷ lent) = at-front file buffer ∷ fronts files lent
+
+-- What demand 1 asks of a call whose files are read as `read`: "accepted or .. refused with the number that document 01 gives for
+-- its first fault .. and a refused one alters no byte of a lent buffer". "Accepted is 0, with the number of bytes written, for Feed
+-- one number for each buffer": these are `told`. "Last 20: the buffer is too short for this answer."
+pub data Decided {A : Type 0} (read : Result A) (Due : A → List (List ℕ) → Type 0)
+    (answered : ℕ) (told : List ℕ) (lent lent-after : List (List ℕ)) : Type 0 where
+  is-accepted : (a : A) → read ≡ accepted a → answered ≡ 0
+      → ((files : List (List ℕ)) → Due a files → Fit files lent × (told ≡ map length files) × (lent-after ≡ fronts files lent))
+      → Decided read Due answered told lent lent-after
+  is-refused : (e : Fault) → read ≡ refused e → answered ≡ number e → lent-after ≡ lent → Decided read Due answered told lent lent-after
+  is-short : (a : A) → read ≡ accepted a → answered ≡ 20 → ((files : List (List ℕ)) → Due a files → Fit files lent → ⊥)
+      → lent-after ≡ lent → Decided read Due answered told lent lent-after
+
+-- Accepted calls: one that wrote a file, and a feed that wrote the file sent and that of the patch for the next feed.
 abbrev pub Wrote : (file lent : List ℕ) → Written → List ℕ → Type 0
 Wrote file lent answer lent-after = (answer ≡ record { number = 0; written = length file }) × (lent-after ≡ at-front file lent)
 
@@ -46,6 +84,6 @@ WroteBoth sent next output-lent patch-lent answer output-after patch-after =
 
 -- When 20 is due by the answers' own definitions: the call would be accepted but for a buffer that is too short.
 pub record TooShortFor {A : Type 0} (fits : A → Bool) (outcome : Result A) : Type 0 where
-  pub answer : A
-  pub due : outcome ≡ accepted answer
-  pub too-short : fits answer ≡ false
+  pub due : A
+  pub is-due : outcome ≡ accepted due
+  pub too-short : fits due ≡ false

@@ -19,28 +19,28 @@ pub data Answer : Type 0 where
   number-alone : ℕ → Answer
   files : List (List ℕ) → Answer
 
-abbrev pub one : List ℕ → List ℕ
+abbrev pub a-section : List ℕ → List ℕ
 unfolding section-bytes
-one contents = section-bytes contents []
+a-section contents = section-bytes contents []
 
-abbrev pub two : List ℕ → List ℕ → List ℕ
-two input nodes = one input ++ one nodes
+abbrev pub two-sections : List ℕ → List ℕ → List ℕ
+two-sections input nodes = a-section input ++ a-section nodes
 
-abbrev pub outcome : {A : Type 0} → (A → List (List ℕ)) → Result A → Answer
-outcome f (accepted a) = files (f a)
-outcome f (refused e) = number-alone (number e)
+abbrev pub told : {A : Type 0} → (A → List (List ℕ)) → Result A → Answer
+told f (accepted a) = files (f a)
+told f (refused e) = number-alone (number e)
 
-abbrev pub answer : Question → Answer
-answer (checking input nodes) = outcome (λ w. w ∷ []) (check (two input nodes))
-answer (admitting type slice) = outcome (λ c. []) (admit (one type) (one slice))
-answer (joining type first second) = outcome (λ w. w ∷ []) (join (one type) (one first) (one second))
-answer (feeding input nodes slice) = outcome (λ (w : FedFiles). w .output ∷ w .patch ∷ []) (feed (two input nodes) (one slice))
+abbrev pub answered : Question → Answer
+answered (checking input nodes) = told (λ w. w ∷ []) (check (two-sections input nodes))
+answered (admitting type slice) = told (λ c. []) (admit (a-section type) (a-section slice))
+answered (joining type first second) = told (λ w. w ∷ []) (join (a-section type) (a-section first) (a-section second))
+answered (feeding input nodes slice) = told (λ (w : FedFiles). w .output ∷ w .patch ∷ []) (feed (two-sections input nodes) (a-section slice))
 
 abbrev pub sends-and-leaves : (output input nodes : List ℕ) → Answer
-sends-and-leaves output input nodes = files (one output ∷ two input nodes ∷ [])
+sends-and-leaves output input nodes = files (a-section output ∷ two-sections input nodes ∷ [])
 
 abbrev pub writes-file : List ℕ → Answer
-writes-file contents = files (one contents ∷ [])
+writes-file contents = files (a-section contents ∷ [])
 
 abbrev pub table : List (Question × Answer)
 table =
@@ -71,6 +71,6 @@ table =
     ∷ (checking (1 ∷ []) (1 ∷ 4 ∷ 0 ∷ 0 ∷ []), writes-file (4 ∷ 0 ∷ 0 ∷ []))
     ∷ []
 
-pub cases : map (λ (row : Question × Answer). answer (row .0)) table ≡ map (λ (row : Question × Answer). row .1) table
+pub cases : map (λ (row : Question × Answer). answered (row .0)) table ≡ map (λ (row : Question × Answer). row .1) table
 unfolding node-definitions check admit join feed
 cases = refl

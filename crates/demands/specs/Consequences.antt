@@ -1,9 +1,9 @@
--- What else follows from the promises, call by call: what the other four operations write, which numbers they give and when 20 comes,
--- how long an answer is, that bytes stay bytes, that a promise leaves no choice, and that neither the cut of a stream nor the order
--- of two lanes changes the show.
-use mathlib.Core.Path.{_≡_, sym, _∙_}
+-- What else follows from the promises, call by call: what Check, Left and Join write and what Admit says, which numbers each operation
+-- gives and when 20 comes, how long an answer is, that bytes stay bytes, that a promise leaves no choice, and that neither the cut of
+-- a stream nor the order of two lanes changes the show.
+use mathlib.Core.Path.{_≡_, refl, sym, _∙_}
 use mathlib.Core.Bool.{true}
-use mathlib.Core.Logic.{_↔_}
+use mathlib.Core.Logic.{_↔_, Iff·trans, _⊎_}
 use mathlib.Core.List.{List, _∷_}
 use Prim.Native.Nat.{ℕ, _≤_}
 use lib.ListN.{length}
@@ -23,12 +23,12 @@ use Rattle.meaning.specs.declared.Written.{Written}
 use Rattle.meaning.specs.declared.Admitted.{Admitted}
 use Rattle.meaning.specs.declared.Fed.{Fed}
 use Rattle.meaning.specs.Answers.{check, left, join, feed, fits-one, fits-both, admit-numbers, feed-numbers}
-use Rattle.meaning.specs.Answers.Laws.{lanes-join, check-answers, admit-answers, left-answers, joins, check-refuses, admit-refuses, left-refuses, join-refuses, feed-refuses, check-sized, left-sized, join-sized, feed-sized-of-bytes}
+use Rattle.meaning.specs.Answers.Laws.{lanes-join, check-accepted, left-accepted, join-accepted, feed-accepted-of-bytes, check-answers, admit-answers, left-answers, joins, check-refuses, admit-refuses, left-refuses, join-refuses, feed-refuses, check-sized, left-sized, join-sized, feed-sized-of-bytes}
 use Rattle.meaning.specs.Promises.{CheckPromise, AdmitPromise, LeftPromise, JoinPromise, FeedPromise}
 use Rattle.demands.specs.Calls.{Wrote, WroteBoth, TooShortFor}
-use Rattle.demands.specs.Calls.Laws.{writes-exactly, admits-complete, writes-listed, admits-listed, feeds-listed, writes-twenty, feeds-twenty, writes-bounded, feeds-bounded, writes-never-twenty, feeds-never-twenty, writes-bytes, feeds-bytes, writes-alike, admits-alike, feeds-alike}
-use Rattle.demands.specs.Runs.{Call, ByteSlices, Run, Ran, AsOne}
-use Rattle.demands.specs.Runs.Laws.{run-patch, runs-alike, same-stream}
+use Rattle.demands.specs.Calls.Laws.{writes-aside, feeds-aside, writes-exactly, admits-complete, writes-listed, admits-listed, feeds-listed, writes-twenty, feeds-twenty, writes-bounded, feeds-bounded, writes-never-twenty, feeds-never-twenty, writes-bytes, feeds-bytes, writes-alike, admits-alike, feeds-alike}
+use Rattle.demands.specs.Runs.{Call, ByteSlices, RunEnd, Ran, Joined, AsOne}
+use Rattle.demands.specs.Runs.Laws.{run-patch, runs-alike, runs-agree, one-joined, one-patch, one-type, one-prefix}
 use Rattle.demands.specs.Runs.Files.{OnFiles, on-files}
 use Rattle.demands.specs.Demands.{demand-2-slice, demand-2-sends}
 
@@ -42,6 +42,10 @@ module _ (patch : List ℕ) {lent lent-after : List ℕ} {answer : Written} (cal
   -- 20 comes exactly if a buffer is too short for an answer that is due.
   pub twenty-check : answer .number ≡ 20 ↔ TooShortFor (fits-one (length lent)) (check patch)
   twenty-check = writes-twenty call (check-refuses patch)
+
+  -- "With 20 aside", whatever the buffer, a patch file is accepted exactly if the rules and the limits allow it.
+  pub aside-check : Bytes patch → (answer .number ≡ 0) ⊎ (answer .number ≡ 20) ↔ PatchFile patch
+  aside-check b = Iff·trans (writes-aside call (check-refuses patch)) (check-accepted patch b)
 
   -- "So a slice file has at most 513 bytes", a type file 257 and a patch file 8,482: no answer is longer.
   pub bound-check : Bytes patch → answer .written ≤ type-file-limit
@@ -73,9 +77,9 @@ module _ (type slice : List ℕ) {answer : Admitted} (call : AdmitPromise type s
   pub one-answer-admit : {also : Admitted} → AdmitPromise type slice also → answer ≡ also
   one-answer-admit other = admits-alike call other
 
--- Admit says whether the slice is complete.
-pub admit-says : {type slice : List ℕ} {answer : Admitted} → AdmitPromise type slice answer
-    → (t : TypeFile type) (p : SliceFile (t .type) slice) → answer .complete ≡ 1 ↔ Complete (p .prefix)
+-- Admit says whether the slice is complete: 1 or 0.
+pub admit-says : {type slice : List ℕ} {answer : Admitted} → AdmitPromise type slice answer → (t : TypeFile type) (p : SliceFile (t .type) slice)
+    → (answer .complete ≡ 1 ↔ Complete (p .prefix)) × ((Complete (p .prefix) → ⊥) → answer .complete ≡ 0)
 admit-says call t p = admits-complete call (rw (t .bytes, p .bytes) at (admit-answers (t .small) (p .is-prefix)))
 
 -- A call of Left
@@ -86,6 +90,9 @@ module _ (type slice : List ℕ) {lent lent-after : List ℕ} {answer : Written}
 
   pub twenty-left : answer .number ≡ 20 ↔ TooShortFor (fits-one (length lent)) (left type slice)
   twenty-left = writes-twenty call (left-refuses type slice)
+
+  pub aside-left : Bytes type → Bytes slice → (answer .number ≡ 0) ⊎ (answer .number ≡ 20) ↔ ((t : TypeFile type) × SliceFile (t .type) slice)
+  aside-left b c = Iff·trans (writes-aside call (left-refuses type slice)) (left-accepted type slice b c)
 
   pub bound-left : Bytes type → Bytes slice → answer .written ≤ type-file-limit
   bound-left b c = writes-bounded call (left-sized type slice b c)
@@ -113,6 +120,10 @@ module _ (type first second : List ℕ) {lent lent-after : List ℕ} {answer : W
 
   pub twenty-join : answer .number ≡ 20 ↔ TooShortFor (fits-one (length lent)) (join type first second)
   twenty-join = writes-twenty call (join-refuses type first second)
+
+  pub aside-join : Bytes type → Bytes first → Bytes second → (answer .number ≡ 0) ⊎ (answer .number ≡ 20)
+      ↔ ((t : TypeFile type) × (p : SliceFile (t .type) first) × SliceFile (derivative (t .type) (p .prefix)) second)
+  aside-join b c d = Iff·trans (writes-aside call (join-refuses type first second)) (join-accepted type first second b c d)
 
   pub bound-join : Bytes type → Bytes first → Bytes second → answer .written ≤ slice-file-limit
   bound-join b c d = writes-bounded call (join-sized type first second b c d)
@@ -143,6 +154,10 @@ module _ {patch slice output-lent patch-lent output-after patch-after : List ℕ
   pub twenty-feed : answer .number ≡ 20 ↔ TooShortFor (fits-both (length output-lent) (length patch-lent)) (feed patch slice)
   twenty-feed = feeds-twenty call (feed-refuses patch slice)
 
+  pub aside-feed : Bytes patch → Bytes slice → (answer .number ≡ 0) ⊎ (answer .number ≡ 20)
+      ↔ ((f : PatchFile patch) × SliceFile (f .trees .input) slice)
+  aside-feed b c = Iff·trans (feeds-aside call (feed-refuses patch slice)) (feed-accepted-of-bytes patch slice b c)
+
   pub bound-feed : Bytes patch → Bytes slice → (answer .output ≤ slice-file-limit) × (answer .patch ≤ patch-file-limit)
   bound-feed b c = feeds-bounded call (feed-sized-of-bytes patch slice b c)
 
@@ -160,18 +175,18 @@ module _ {patch slice output-lent patch-lent output-after patch-after : List ℕ
 -- A call on the patch that a run has come to: that is a patch file, takes the prefixes of its input type, and is fed as the rules
 -- say.
 
-pub run-accepted : {start : List ℕ} {calls : List Call} {r : Run} → Ran start calls r → PatchFile start → ByteSlices calls → PatchFile (r .patch)
+pub run-accepted : {start : List ℕ} {calls : List Call} {r : RunEnd} → Ran start calls r → PatchFile start → ByteSlices calls → PatchFile (r .file)
 run-accepted ran patch b = run-patch ran patch b
 
-module _ {start : List ℕ} {calls : List Call} {r : Run} (ran : Ran start calls r) (patch : PatchFile start) (b : ByteSlices calls)
+module _ {start : List ℕ} {calls : List Call} {r : RunEnd} (ran : Ran start calls r) (patch : PatchFile start) (b : ByteSlices calls)
     {slice output-lent patch-lent output-after patch-after : List ℕ} {answer : Fed}
-    (call : FeedPromise (r .patch) slice output-lent patch-lent answer output-after patch-after) where
+    (call : FeedPromise (r .file) slice output-lent patch-lent answer output-after patch-after) where
   pub run-slice : Bytes slice → slice-file-limit ≤ length output-lent → patch-file-limit ≤ length patch-lent
-      → answer .number ≡ 0 ↔ SliceFile (run-accepted ran patch b .patch .input) slice
+      → answer .number ≡ 0 ↔ SliceFile (run-accepted ran patch b .trees .input) slice
   run-slice c h k = demand-2-slice call (run-accepted ran patch b) c h k
 
-  pub run-sends : {sent : Prefix} {next : Patch} (taken : SliceFile (run-accepted ran patch b .patch .input) slice)
-      → FeedsPatch (run-accepted ran patch b .patch) (taken .prefix) sent next
+  pub run-sends : {sent : Prefix} {next : Patch} (taken : SliceFile (run-accepted ran patch b .trees .input) slice)
+      → FeedsPatch (run-accepted ran patch b .trees) (taken .prefix) sent next
       → length (slice-file-bytes sent) ≤ length output-lent → length (patch-file-bytes next) ≤ length patch-lent
       → WroteBoth (slice-file-bytes sent) (patch-file-bytes next) output-lent patch-lent answer output-after patch-after
   run-sends taken rule h k = demand-2-sends call (run-accepted ran patch b) taken rule h k
@@ -193,22 +208,34 @@ pub one-join : {p q r u : Prefix} → Concat p q r → Concat p q u → r ≡ u
 one-join c d = sym (concat-only c) ∙ concat-only d
 
 -- The same calls from the same start come to the same.
-pub one-run : {start : List ℕ} {r q : Run} (calls : List Call) → Ran start calls r → Ran start calls q → r ≡ q
+pub one-run : {start : List ℕ} {r q : RunEnd} (calls : List Call) → Ran start calls r → Ran start calls q → r ≡ q
 one-run calls ran also = runs-alike calls ran also
 
 -- Demand 3 by the operations' own answers on files: Join, Left and Check.
-pub as-one-on-files : {start : List ℕ} {r : Run} {patch : PatchFile start} {next : PatchFile (r .patch)} → AsOne patch r next → OnFiles start r
+pub as-one-on-files : {start : List ℕ} {r : RunEnd} {patch : PatchFile start} {next : PatchFile (r .file)} → AsOne patch r next → OnFiles start r
 as-one-on-files {patch = patch} {next = next} one = on-files patch next one
 
 -- The cut of the stream does not change the show: two runs from one start whose accepted slices join to the same slice leave the
--- same patch, and their outputs join to the same output, byte for byte.
-pub same-however-cut : {start : List ℕ} {patch : PatchFile start} {r q : Run} {m : PatchFile (r .patch)} {l : PatchFile (q .patch)}
-    (a : AsOne patch r m) (b : AsOne patch q l) → a .slice ≡ b .slice
-    → (r .patch ≡ q .patch) × (slice-file-bytes (a .output) ≡ slice-file-bytes (b .output))
-same-however-cut a b e = same-stream a b e
+-- same patch, byte for byte, and their outputs join to the same output.
+pub same-however-cut : {start : List ℕ} {calls others : List Call} {r q : RunEnd} {p : Prefix} → Ran start calls r → Ran start others q
+    → (patch : PatchFile start) → ByteSlices calls → ByteSlices others
+    → Joined (patch .trees .input) (r .slices) p → Joined (patch .trees .input) (q .slices) p
+    → (r .file ≡ q .file) × ((o : Prefix) × Joined (patch .output) (r .outputs) o × Joined (patch .output) (q .outputs) o)
+same-however-cut ran also patch b c j k = runs-agree ran also patch b c j k
 
--- The order in which two lanes side by side arrive does not matter either (the source's Theorem 3.4, "Determinism"): the slice of
--- one and then that of the other join to the same slice either way.
+-- Files join to one slice; and a file is read in one way, so that "its input type" is one.
+
+pub one-joined-slice : {t : Ty} {files : List (List ℕ)} {p q : Prefix} → Small t → Joined t files p → Joined t files q → p ≡ q
+one-joined-slice small j k = one-joined small j k refl
+
+pub one-reading : {file type slice : List ℕ}
+    → ((a b : PatchFile file) → (a .trees ≡ b .trees) × (a .output ≡ b .output))
+    × ((a b : TypeFile type) → a .type ≡ b .type)
+    × ((t : TypeFile type) (a b : SliceFile (t .type) slice) → a .prefix ≡ b .prefix)
+one-reading = (one-patch, one-type, λ t a b. one-prefix (t .small) a b)
+
+-- The order in which two lanes side by side arrive does not matter either: the slice of one and then that of the other join to the
+-- same slice either way. With same-however-cut this is the source's Theorem 3.4, "Determinism".
 pub same-in-either-order : {s t : Ty} {p q : Prefix} → Small (par s t) → IsPrefix s p → IsPrefix t q
     → (let type = type-file-bytes (par s t) in
     (join type (slice-file-bytes (beside p (empty-prefix t))) (slice-file-bytes (beside (empty-prefix (derivative s p)) q))

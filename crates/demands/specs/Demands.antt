@@ -1,18 +1,19 @@
 -- The user's three demands, whole and in order. A statement takes the promise of the call that it speaks of: the very
 -- proposition that is the `ensures` of that operation (crates/wosthile/src/exports.rt), with the bytes handed in, the answer,
--- and each lent buffer as it is afterwards. The prover shows the promise of every call, so what a reader has to believe is what
--- stands behind it: reading with the first fault (TypeFiles, SliceFiles, PatchFiles, Checking), the rules (IsPrefix and Concat in
--- Prefixes, Takes and Allowed in Nodes, Feeds in Feeding), and what is said of calls and runs (Calls, Runs). `Consequences` has
--- what else follows; the laws have the proofs.
+-- and each lent buffer as it is afterwards. The prover shows the promise of every call, so nobody has to read it. What a reader
+-- has to believe is what the conclusions are written in: reading with the first fault (TypeFiles, SliceFiles, PatchFiles,
+-- Checking), the rules (IsPrefix and Concat in Prefixes, Takes and Allowed in Nodes, Feeds in Feeding), and what is said of calls
+-- and runs (Calls, Runs). `Bytes` says that a list of numbers is one of bytes, as whatever a byte slice holds is; nobody has to
+-- test it. `Consequences` has what else follows; the laws have the proofs.
 use mathlib.Core.Path.{_≡_}
-use mathlib.Core.Logic.{_↔_, Iff·trans, _⊎_}
+use mathlib.Core.Logic.{_↔_, Iff·trans}
 use mathlib.Core.List.{List, [], _∷_, _++_}
-use Prim.Native.Nat.{ℕ, _≤_, _<_}
+use Prim.Native.Nat.{ℕ, _≤_}
 use lib.ListN.{length}
 use Rattle.stream.specs.Bounds.{type-file-limit, slice-file-limit, patch-file-limit}
-use Rattle.stream.specs.Prefixes.{Prefix, derivative, Concat}
+use Rattle.stream.specs.Prefixes.{Prefix, derivative}
 use Rattle.stream.specs.Reading.{Bytes}
-use Rattle.stream.specs.TypeFiles.{type-file-bytes, TypeFile}
+use Rattle.stream.specs.TypeFiles.{TypeFile}
 use Rattle.stream.specs.SliceFiles.{slice-file-bytes, SliceFile}
 use Rattle.node.specs.Nodes.{Patch}
 use Rattle.node.specs.Feeding.{FeedsPatch}
@@ -22,50 +23,47 @@ use Rattle.meaning.specs.declared.Admitted.{Admitted}
 use Rattle.meaning.specs.declared.Fed.{Fed}
 use Rattle.meaning.specs.Answers.Laws.{check-accepted, admit-accepted, left-accepted, join-accepted, feed-accepted, feed-accepted-of-bytes, check-sized, left-sized, join-sized, feed-sized, feed-sized-of-bytes}
 use Rattle.meaning.specs.Promises.{CheckPromise, AdmitPromise, LeftPromise, JoinPromise, FeedPromise}
-use Rattle.demands.specs.Calls.{type-and-slice, two-slices, patch-and-slice, Decided, WroteBoth}
+use Rattle.demands.specs.Calls.{type-and-slice, two-slices, patch-and-slice, CheckDue, AdmitDue, LeftDue, JoinDue, FeedDue, Decided, WroteBoth}
 use Rattle.demands.specs.Calls.Laws.{check-decided, admit-decided, left-decided, join-decided, feed-decided, check-kept, admit-kept, left-kept, join-kept, feed-kept, writes-zero, admits-zero, feeds-zero, feeds-as-check}
-use Rattle.demands.specs.Runs.{Call, ByteSlices, Run, Ran, Faithful, Through}
+use Rattle.demands.specs.Runs.{Call, ByteSlices, RunEnd, Ran, Faithful, Through}
 use Rattle.demands.specs.Runs.Laws.{feed-by-rules, feed-defined, run-faithful, run-faithful-so-far, every-list-runs}
 
 -- Demand 1. "A patch, type or slice handed in, whatever its bytes and length, is accepted or is refused with the number that
--- document 01 gives for its first fault.
+-- document 01 gives for its first fault. (`Decided`, by what the files are read as and by the files that are then due. The rules
+-- give such files: demand-2-defined, and for Join a-join in Consequences.)
 
-pub demand-1-check : (patch : List ℕ) {lent lent-after : List ℕ} {answer : Written} → CheckPromise patch lent answer lent-after
-    → Decided (patch-file patch) (λ c. length lent < length (type-file-bytes (c .output))) (answer .number) (lent ∷ []) (lent-after ∷ [])
-demand-1-check patch call = check-decided patch call
+pub demand-1-check : (file : List ℕ) {lent lent-after : List ℕ} {answer : Written} → CheckPromise file lent answer lent-after
+    → Decided (patch-file file) CheckDue (answer .number) (answer .written ∷ []) (lent ∷ []) (lent-after ∷ [])
+demand-1-check file call = check-decided file call
 
 pub demand-1-admit : (type slice : List ℕ) {answer : Admitted} → AdmitPromise type slice answer
-    → Decided (type-and-slice type slice) (λ x. ⊥) (answer .number) [] []
+    → Decided (type-and-slice type slice) AdmitDue (answer .number) [] [] []
 demand-1-admit type slice call = admit-decided type slice call
 
 pub demand-1-left : (type slice : List ℕ) {lent lent-after : List ℕ} {answer : Written} → LeftPromise type slice lent answer lent-after
-    → Decided (type-and-slice type slice) (λ x. length lent < length (type-file-bytes (derivative (x .0) (x .1))))
-    (answer .number) (lent ∷ []) (lent-after ∷ [])
+    → Decided (type-and-slice type slice) LeftDue (answer .number) (answer .written ∷ []) (lent ∷ []) (lent-after ∷ [])
 demand-1-left type slice call = left-decided type slice call
 
 pub demand-1-join : (type first second : List ℕ) {lent lent-after : List ℕ} {answer : Written} → JoinPromise type first second lent answer lent-after
-    → Decided (two-slices type first second) (λ x. (joined : Prefix) → Concat (x .0) (x .1) joined → length lent < length (slice-file-bytes joined))
-    (answer .number) (lent ∷ []) (lent-after ∷ [])
+    → Decided (two-slices type first second) JoinDue (answer .number) (answer .written ∷ []) (lent ∷ []) (lent-after ∷ [])
 demand-1-join type first second call = join-decided type first second call
 
-pub demand-1-feed : {patch slice output-lent patch-lent output-after patch-after : List ℕ} {answer : Fed}
-    → FeedPromise patch slice output-lent patch-lent answer output-after patch-after
-    → Decided (patch-and-slice patch slice)
-    (λ x. (sent : Prefix) (next : Patch) → FeedsPatch (x .0) (x .1) sent next
-    → (length output-lent < length (slice-file-bytes sent)) ⊎ (length patch-lent < length (patch-file-bytes next)))
-    (answer .number) (output-lent ∷ patch-lent ∷ []) (output-after ∷ patch-after ∷ [])
+pub demand-1-feed : {file slice output-lent patch-lent output-after patch-after : List ℕ} {answer : Fed}
+    → FeedPromise file slice output-lent patch-lent answer output-after patch-after
+    → Decided (patch-and-slice file slice) FeedDue (answer .number) (answer .output ∷ answer .patch ∷ [])
+    (output-lent ∷ patch-lent ∷ []) (output-after ∷ patch-after ∷ [])
 demand-1-feed call = feed-decided call
 
 -- Nothing is left for the caller to test first. (The exports have no `requires`; and a promise asks nothing of what is handed
 -- in: whatever that is, some answer and buffers keep it.)
 
 pub promises-can-be-kept :
-    ((patch lent : List ℕ) → (answer : Written) × (lent-after : List ℕ) × CheckPromise patch lent answer lent-after)
+    ((file lent : List ℕ) → (answer : Written) × (lent-after : List ℕ) × CheckPromise file lent answer lent-after)
     × ((type slice : List ℕ) → (answer : Admitted) × AdmitPromise type slice answer)
     × ((type slice lent : List ℕ) → (answer : Written) × (lent-after : List ℕ) × LeftPromise type slice lent answer lent-after)
     × ((type first second lent : List ℕ) → (answer : Written) × (lent-after : List ℕ) × JoinPromise type first second lent answer lent-after)
-    × ((patch slice output-lent patch-lent : List ℕ) → (answer : Fed) × (output-after : List ℕ) × (patch-after : List ℕ)
-    × FeedPromise patch slice output-lent patch-lent answer output-after patch-after)
+    × ((file slice output-lent patch-lent : List ℕ) → (answer : Fed) × (output-after : List ℕ) × (patch-after : List ℕ)
+    × FeedPromise file slice output-lent patch-lent answer output-after patch-after)
 promises-can-be-kept = (check-kept, admit-kept, left-kept, join-kept, feed-kept)
 
 -- Every call ends, (Rattle proves of each function that it ends; one without that proof is not built)
@@ -75,12 +73,12 @@ promises-can-be-kept = (check-kept, admit-kept, left-kept, join-kept, feed-kept)
 -- Demand 2. "A patch is accepted exactly when the kernel rules of stream types, as document 01 takes them for one input, and
 -- its limits allow it; (`PatchFile`, by Check; what Check refuses, Feed refuses with the same number)
 
-pub demand-2-patch : (patch : List ℕ) {lent lent-after : List ℕ} {answer : Written} → CheckPromise patch lent answer lent-after
-    → Bytes patch → type-file-limit ≤ length lent → answer .number ≡ 0 ↔ PatchFile patch
-demand-2-patch patch call b h = Iff·trans (writes-zero call (check-sized patch b) h) (check-accepted patch b)
+pub demand-2-patch : (file : List ℕ) {lent lent-after : List ℕ} {answer : Written} → CheckPromise file lent answer lent-after
+    → Bytes file → type-file-limit ≤ length lent → answer .number ≡ 0 ↔ PatchFile file
+demand-2-patch file call b h = Iff·trans (writes-zero call (check-sized file b) h) (check-accepted file b)
 
-pub demand-2-patch-fed : {patch slice lent lent-after output-lent patch-lent output-after patch-after : List ℕ} {checked : Written} {answer : Fed}
-    → CheckPromise patch lent checked lent-after → FeedPromise patch slice output-lent patch-lent answer output-after patch-after
+pub demand-2-patch-fed : {file slice lent lent-after output-lent patch-lent output-after patch-after : List ℕ} {checked : Written} {answer : Fed}
+    → CheckPromise file lent checked lent-after → FeedPromise file slice output-lent patch-lent answer output-after patch-after
     → (checked .number ≡ 0 → ⊥) → (checked .number ≡ 20 → ⊥) → answer ≡ record { number = checked .number; output = 0; patch = 0 }
 demand-2-patch-fed check-call feed-call not-0 not-20 = feeds-as-check check-call feed-call not-0 not-20
 
@@ -89,13 +87,13 @@ demand-2-patch-fed check-call feed-call not-0 not-20 = feeds-as-check check-call
 
 pub demand-2-slice : {file slice output-lent patch-lent output-after patch-after : List ℕ} {answer : Fed}
     → FeedPromise file slice output-lent patch-lent answer output-after patch-after → (patch : PatchFile file) → Bytes slice
-    → slice-file-limit ≤ length output-lent → patch-file-limit ≤ length patch-lent → answer .number ≡ 0 ↔ SliceFile (patch .patch .input) slice
+    → slice-file-limit ≤ length output-lent → patch-file-limit ≤ length patch-lent → answer .number ≡ 0 ↔ SliceFile (patch .trees .input) slice
 demand-2-slice {slice = slice} call patch b h k = Iff·trans (feeds-zero call (feed-sized slice patch b) h k) (feed-accepted slice patch b)
 
 pub demand-2-feed : {file slice output-lent patch-lent output-after patch-after : List ℕ} {answer : Fed}
     → FeedPromise file slice output-lent patch-lent answer output-after patch-after → Bytes file → Bytes slice
     → slice-file-limit ≤ length output-lent → patch-file-limit ≤ length patch-lent
-    → answer .number ≡ 0 ↔ ((patch : PatchFile file) × SliceFile (patch .patch .input) slice)
+    → answer .number ≡ 0 ↔ ((patch : PatchFile file) × SliceFile (patch .trees .input) slice)
 demand-2-feed call b c h k = Iff·trans (feeds-zero call (feed-sized-of-bytes _ _ b c) h k) (feed-accepted-of-bytes _ _ b c)
 
 pub demand-2-admit : (type slice : List ℕ) {answer : Admitted} → AdmitPromise type slice answer → Bytes type → Bytes slice
@@ -111,38 +109,38 @@ pub demand-2-join : (type first second : List ℕ) {lent lent-after : List ℕ} 
     → answer .number ≡ 0 ↔ ((t : TypeFile type) × (p : SliceFile (t .type) first) × SliceFile (derivative (t .type) (p .prefix)) second)
 demand-2-join type first second call b c d h = Iff·trans (writes-zero call (join-sized type first second b c d) h) (join-accepted type first second b c d)
 
--- Given long enough buffers, a feed sends the output and leaves the patch that those rules define." (They define one, of every
--- prefix.)
+-- Given long enough buffers, a feed sends the output and leaves the patch that those rules define." (For every prefix they define an
+-- output and a patch, and no other: one-rule in Consequences.)
 
 pub demand-2-sends : {file slice output-lent patch-lent output-after patch-after : List ℕ} {answer : Fed} {sent : Prefix} {next : Patch}
     → FeedPromise file slice output-lent patch-lent answer output-after patch-after
-    → (patch : PatchFile file) (taken : SliceFile (patch .patch .input) slice) → FeedsPatch (patch .patch) (taken .prefix) sent next
+    → (patch : PatchFile file) (taken : SliceFile (patch .trees .input) slice) → FeedsPatch (patch .trees) (taken .prefix) sent next
     → length (slice-file-bytes sent) ≤ length output-lent → length (patch-file-bytes next) ≤ length patch-lent
     → WroteBoth (slice-file-bytes sent) (patch-file-bytes next) output-lent patch-lent answer output-after patch-after
 demand-2-sends call patch taken rule h k = feed-by-rules call patch taken rule h k
 
-pub demand-2-defined : {file slice : List ℕ} (patch : PatchFile file) (taken : SliceFile (patch .patch .input) slice)
-    → (sent : Prefix) × (next : Patch) × FeedsPatch (patch .patch) (taken .prefix) sent next
+pub demand-2-defined : {file slice : List ℕ} (patch : PatchFile file) (taken : SliceFile (patch .trees .input) slice)
+    → (sent : Prefix) × (next : Patch) × FeedsPatch (patch .trees) (taken .prefix) sent next
 demand-2-defined patch taken = feed-defined patch taken
 
 -- Demand 3. "Take any accepted patch and any list of feeds from it, refused feeds included, whatever slices and buffers they are
 -- handed, each given the patch that the last accepted one before it left, or the patch at the start while there is none.
 -- (`PatchFile start`, by demand 2, and `Ran start calls r`. Every list of calls has such a run.)
 
-pub demand-3-any-list : (start : List ℕ) (calls : List Call) → (r : Run) × Ran start calls r
+pub demand-3-any-list : (start : List ℕ) (calls : List Call) → (r : RunEnd) × Ran start calls r
 demand-3-any-list start calls = every-list-runs start calls
 
 -- If any was accepted, the accepted slices joined in order, fed as one to the patch at the start with long enough buffers, are
 -- accepted too, send exactly the accepted feeds' outputs joined in order, and leave the patch that the list left, byte for
 -- byte; if none was, the patch is the one at the start. (`Faithful patch r`)
 
-pub demand-3 : {start : List ℕ} {calls : List Call} {r : Run} → Ran start calls r → (patch : PatchFile start) → ByteSlices calls → Faithful patch r
+pub demand-3 : {start : List ℕ} {calls : List Call} {r : RunEnd} → Ran start calls r → (patch : PatchFile start) → ByteSlices calls → Faithful patch r
 demand-3 ran patch b = run-faithful ran patch b
 
 -- After every feed the patch is itself accepted. Its input type is exactly what the slices taken so far, joined, leave of the
 -- input type at the start, and its output type exactly what the outputs so far, joined, leave of the output type at the
 -- start." (`Faithful` has this of the end of a list; it holds after each call of a list.)
 
-pub demand-3-after-every-feed : {start : List ℕ} {r : Run} (calls more : List Call) → Ran start (calls ++ more) r → (patch : PatchFile start)
+pub demand-3-after-every-feed : {start : List ℕ} {r : RunEnd} (calls more : List Call) → Ran start (calls ++ more) r → (patch : PatchFile start)
     → ByteSlices (calls ++ more) → (t : Through start calls more r) × Faithful patch (t .so-far)
 demand-3-after-every-feed calls more ran patch b = run-faithful-so-far calls more ran patch b

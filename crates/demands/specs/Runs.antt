@@ -26,25 +26,25 @@ ByteSlices (c ∷ calls) = Bytes (c .slice) × ByteSlices calls
 
 -- What a run comes to: the patch file that a further call would be handed, the slice files accepted, and the output files,
 -- both in the order of the calls.
-pub record Run : Type 0 where
-  pub patch : List ℕ
+pub record RunEnd : Type 0 where
+  pub file : List ℕ
   pub slices : List (List ℕ)
   pub outputs : List (List ℕ)
 
 -- Ran start calls r: these calls, each of which kept Feed's promise on the patch that it was handed, came to r. "Each call is
 -- handed the very bytes of the patch file that the last accepted call before it wrote, or of the starting file while none has
 -- been accepted. A call refused for any reason .. changes nothing for the next."
-pub data Ran : List ℕ → List Call → Run → Type 0 where
-  no-call : {patch : List ℕ} → Ran patch [] (record { patch = patch; slices = []; outputs = [] })
-  accepted-call : {patch : List ℕ} {c : Call} {calls : List Call} {answer : Fed} {output-after patch-after : List ℕ} {r : Run}
-      → FeedPromise patch (c .slice) (c .output-lent) (c .patch-lent) answer output-after patch-after → answer .number ≡ 0
+pub data Ran : List ℕ → List Call → RunEnd → Type 0 where
+  no-call : {file : List ℕ} → Ran file [] (record { file = file; slices = []; outputs = [] })
+  accepted-call : {file : List ℕ} {c : Call} {calls : List Call} {answer : Fed} {output-after patch-after : List ℕ} {r : RunEnd}
+      → FeedPromise file (c .slice) (c .output-lent) (c .patch-lent) answer output-after patch-after → answer .number ≡ 0
       → Ran (take (answer .patch) patch-after) calls r
-      → Ran patch (c ∷ calls)
-      (record { patch = r .patch; slices = c .slice ∷ r .slices; outputs = take (answer .output) output-after ∷ r .outputs })
-  refused-call : {patch : List ℕ} {c : Call} {calls : List Call} {answer : Fed} {output-after patch-after : List ℕ} {r : Run}
-      → FeedPromise patch (c .slice) (c .output-lent) (c .patch-lent) answer output-after patch-after → (answer .number ≡ 0 → ⊥)
-      → Ran patch calls r
-      → Ran patch (c ∷ calls) r
+      → Ran file (c ∷ calls)
+      (record { file = r .file; slices = c .slice ∷ r .slices; outputs = take (answer .output) output-after ∷ r .outputs })
+  refused-call : {file : List ℕ} {c : Call} {calls : List Call} {answer : Fed} {output-after patch-after : List ℕ} {r : RunEnd}
+      → FeedPromise file (c .slice) (c .output-lent) (c .patch-lent) answer output-after patch-after → (answer .number ≡ 0 → ⊥)
+      → Ran file calls r
+      → Ran file (c ∷ calls) r
 
 -- Joined t files p: the files are slices of t one after the other, and p is their join. "Slices are joined in the order of their
 -- calls, from the left: the first with the second, that with the third, and so on; one alone is its own join."
@@ -57,28 +57,29 @@ pub data Joined (t : Ty) : List (List ℕ) → Prefix → Type 0 where
 -- exactly the accepted feeds' outputs joined in order, and leave the patch that the list left, byte for byte": whatever call
 -- keeps the promise. "Its input type is exactly what the slices taken so far, joined, leave of the input type at the start,
 -- and its output type exactly what the outputs so far, joined, leave of the output type at the start."
-pub record AsOne {start : List ℕ} (patch : PatchFile start) (r : Run) (next : PatchFile (r .patch)) : Type 0 where
+pub record AsOne {start : List ℕ} (patch : PatchFile start) (r : RunEnd) (next : PatchFile (r .file)) : Type 0 where
   pub slice : Prefix
   pub output : Prefix
-  pub slices-joined : Joined (patch .patch .input) (r .slices) slice
+  pub slices-joined : Joined (patch .trees .input) (r .slices) slice
   pub outputs-joined : Joined (patch .output) (r .outputs) output
   pub fed-as-one : {output-lent patch-lent output-after patch-after : List ℕ} {answer : Fed}
       → FeedPromise start (slice-file-bytes slice) output-lent patch-lent answer output-after patch-after
-      → length (slice-file-bytes output) ≤ length output-lent → length (r .patch) ≤ length patch-lent
-      → WroteBoth (slice-file-bytes output) (r .patch) output-lent patch-lent answer output-after patch-after
-  pub input-left : next .patch .input ≡ derivative (patch .patch .input) slice
+      → length (slice-file-bytes output) ≤ length output-lent → length (r .file) ≤ length patch-lent
+      → WroteBoth (slice-file-bytes output) (r .file) output-lent patch-lent answer output-after patch-after
+  pub input-left : next .trees .input ≡ derivative (patch .trees .input) slice
   pub output-left : next .output ≡ derivative (patch .output) output
 
--- What demand 3 says of a run.
-pub record Faithful {start : List ℕ} (patch : PatchFile start) (r : Run) : Type 0 where
-  pub still-accepted : PatchFile (r .patch)
-  pub as-one : 1 ≤ length (r .slices) → AsOne patch r still-accepted
-  pub unmoved : r .slices ≡ [] → r .patch ≡ start
+-- What demand 3 says of a run. "After every feed the patch is itself accepted"; "if none was [accepted], the patch is the one at
+-- the start", and "both types are the starting ones".
+pub record Faithful {start : List ℕ} (patch : PatchFile start) (r : RunEnd) : Type 0 where
+  pub next : PatchFile (r .file)
+  pub as-one : (r .slices ≡ [] → ⊥) → AsOne patch r next
+  pub unmoved : r .slices ≡ [] → (r .file ≡ start) × (next .trees ≡ patch .trees) × (next .output ≡ patch .output)
 
 -- A run of `calls` and then `more` has come to something after `calls`, and goes on from there.
-pub record Through (start : List ℕ) (calls more : List Call) (r : Run) : Type 0 where
-  pub so-far : Run
+pub record Through (start : List ℕ) (calls more : List Call) (r : RunEnd) : Type 0 where
+  pub so-far : RunEnd
   pub ran : Ran start calls so-far
-  pub rest : Run
-  pub goes-on : Ran (so-far .patch) more rest
-  pub comes-to : r ≡ record { patch = rest .patch; slices = so-far .slices ++ rest .slices; outputs = so-far .outputs ++ rest .outputs }
+  pub rest : RunEnd
+  pub goes-on : Ran (so-far .file) more rest
+  pub comes-to : r ≡ record { file = rest .file; slices = so-far .slices ++ rest .slices; outputs = so-far .outputs ++ rest .outputs }

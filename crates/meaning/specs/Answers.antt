@@ -78,7 +78,7 @@ into-one lent r = with-room (fits-one (length lent)) r
 abbrev pub into-both : (output-lent patch-lent : List ℕ) → Result FedFiles → Result FedFiles
 into-both output-lent patch-lent r = with-room (fits-both (length output-lent) (length patch-lent)) r
 
--- "Accepted is 0, with the number of bytes written, for Feed one number for each buffer. Refused: the number alone." The
+-- "Accepted is 0, with the number of bytes written, for Feed one number for each buffer .. Refused: the number alone." The
 -- lengths, and Admit's `complete`, are free on a refusal; they are 0.
 abbrev pub number-of : {A : Type 0} → Result A → ℕ
 number-of (accepted a) = 0

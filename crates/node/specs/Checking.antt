@@ -11,7 +11,7 @@ pub mod Laws
 unfoldable pub gives : Ty → Result Ty
 gives t = require (leb (size t) type-limit) TypeTooLarge (accepted t)
 
--- "At a node, 7 if its input lacks the shape it takes, 6 if silent's type is not nullable; then its parts; then 4."
+-- "At a node, 7 if its input lacks the shape it takes, 6 if silent's type is not nullable; then its parts; then 4 .."
 unfoldable pub typing : Ty → Node → Result Ty
 typing s pass = gives s
 typing s (silent n) = require (nullable n) NotNullable (gives n)

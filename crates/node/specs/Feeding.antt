@@ -11,47 +11,47 @@ pub mod Examples
 
 -- Feeds s n p o n′: fed the prefix p of s, the node n sends o and leaves n′.
 pub data Feeds : Ty → Node → Prefix → Prefix → Node → Type 0 where
-  -- "pass: Sends the slice; pass."
+  -- 0 pass: "Sends the slice; pass."
   feeds-pass : {s : Ty} {p : Prefix} → Feeds s pass p p pass
-  -- "silent: Sends n's empty slice; itself."
+  -- 1 silent: "Sends n's empty slice; itself."
   feeds-silent : {s n : Ty} {p : Prefix} → Feeds s (silent n) p (empty-prefix n) (silent n)
-  -- "cue: Sends 2 at its first feed, even one that brings nothing; silent 0."
+  -- 2 cue: "Sends 2 at its first feed, even one that brings nothing; silent 0."
   feeds-cue : {s : Ty} {p : Prefix} → Feeds s emit-cue p cue-come (silent empty)
-  -- "level: as cue, sending 4 and the value."
+  -- 3 level: "as cue, sending 4 and the value."
   feeds-level : {s : Ty} {p : Prefix} {v : ℕ} → Feeds s (emit-level v) p (level-come v) (silent empty)
-  -- "both: Each gets the whole slice; sends 7 and both outputs; both of the nodes left."
+  -- 4 both: "Each gets the whole slice; sends 7 and both outputs; both of the nodes left."
   feeds-both : {s : Ty} {n m n′ m′ : Node} {p o u : Prefix} → Feeds s n p o n′ → Feeds s m p u m′
       → Feeds s (both n m) p (beside o u) (both n′ m′)
-  -- "left, right: one side of a type 4. Sends that side; itself."
+  -- 5 left, 6 right: "one side of a type 4. Sends that side; itself."
   feeds-left : {s t : Ty} {p q : Prefix} → Feeds (par s t) left-side (beside p q) p left-side
   feeds-right : {s t : Ty} {p q : Prefix} → Feeds (par s t) right-side (beside p q) q right-side
-  -- "first: On 5 p sends p; itself. On 6 b q sends b; silent with what b leaves of s."
+  -- 7 first: "On 5 p sends p; itself. On 6 b q sends b; silent with what b leaves of s."
   feeds-first-coming : {s t : Ty} {p : Prefix} → Feeds (seq s t) first (in-first p) p first
   feeds-first-crossed : {s t : Ty} {b q : Prefix} → Feeds (seq s t) first (crossed b q) b (silent (derivative s b))
-  -- "second: On 5 sends t's empty slice; itself. On 6 b q sends q; pass."
+  -- 8 second: "On 5 sends t's empty slice; itself. On 6 b q sends q; pass."
   feeds-second-coming : {s t : Ty} {p : Prefix} → Feeds (seq s t) second (in-first p) (empty-prefix t) second
   feeds-second-crossed : {s t : Ty} {b q : Prefix} → Feeds (seq s t) second (crossed b q) q pass
-  -- "then: On 5 p runs the first node: 5 and its output; then, with the first node replaced."
+  -- 9 then: "On 5 p runs the first node: 5 and its output; then, with the first node replaced.
   feeds-then-coming : {s t : Ty} {n m n′ : Node} {p o : Prefix} → Feeds s n p o n′
       → Feeds (seq s t) (then n m) (in-first p) (in-first o) (then n′ m)
-  -- "On 6 b q runs the first on b and the second on q: 6 and both outputs; the second node's remainder alone."
+  -- On 6 b q runs the first on b and the second on q: 6 and both outputs; the second node's remainder alone."
   feeds-then-crossed : {s t : Ty} {n m n′ m′ : Node} {b q o u : Prefix} → Feeds s n b o n′ → Feeds t m q u m′
       → Feeds (seq s t) (then n m) (crossed b q) (crossed o u) m′
-  -- "chain: the second takes what the first sends; chain of both left."
+  -- 10 chain: "the second takes what the first sends; chain of both left."
   feeds-chain : {s t : Ty} {n m n′ m′ : Node} {p o u : Prefix} → Takes s n t → Feeds s n p o n′ → Feeds t m o u m′
       → Feeds s (chain n m) p u (chain n′ m′)
-  -- "regroup right: 5 5 p gives 5 p, itself. 5 6 b q gives 6 b 5 q, pass. 6 6 b c q gives 6 b 6 c q, pass."
-  feeds-regroup-right-in-first : {s : Ty} {p : Prefix} → Feeds s regroup-right (in-first (in-first p)) (in-first p) regroup-right
-  feeds-regroup-right-in-second : {s : Ty} {b q : Prefix} → Feeds s regroup-right (in-first (crossed b q)) (crossed b (in-first q)) pass
-  feeds-regroup-right-in-third : {s : Ty} {b c q : Prefix} → Feeds s regroup-right (crossed (crossed b c) q) (crossed b (crossed c q)) pass
-  -- "regroup left: 5 p gives 5 5 p, itself. 6 b 5 q gives 5 6 b q, pass. 6 b 6 c q gives 6 6 b c q, pass."
-  feeds-regroup-left-in-first : {s : Ty} {p : Prefix} → Feeds s regroup-left (in-first p) (in-first (in-first p)) regroup-left
-  feeds-regroup-left-in-second : {s : Ty} {b q : Prefix} → Feeds s regroup-left (crossed b (in-first q)) (in-first (crossed b q)) pass
-  feeds-regroup-left-in-third : {s : Ty} {b c q : Prefix} → Feeds s regroup-left (crossed b (crossed c q)) (crossed (crossed b c) q) pass
-  -- "spread: 5 p gives 7 5 p 5 p, itself. 6 b 7 q r gives 7 6 b q 6 b r, pass."
-  feeds-spread-coming : {s : Ty} {p : Prefix} → Feeds s spread (in-first p) (beside (in-first p) (in-first p)) spread
-  feeds-spread-crossed : {s : Ty} {b q r : Prefix} → Feeds s spread (crossed b (beside q r)) (beside (crossed b q) (crossed b r)) pass
-  -- "front: p gives 6 0 p; pass."
+  -- 11 regroup right: "5 5 p gives 5 p, itself. 5 6 b q gives 6 b 5 q, pass. 6 6 b c q gives 6 b 6 c q, pass."
+  feeds-regroup-right-in-first : {s t r : Ty} {p : Prefix} → Feeds (seq (seq s t) r) regroup-right (in-first (in-first p)) (in-first p) regroup-right
+  feeds-regroup-right-in-second : {s t r : Ty} {b q : Prefix} → Feeds (seq (seq s t) r) regroup-right (in-first (crossed b q)) (crossed b (in-first q)) pass
+  feeds-regroup-right-in-third : {s t r : Ty} {b c q : Prefix} → Feeds (seq (seq s t) r) regroup-right (crossed (crossed b c) q) (crossed b (crossed c q)) pass
+  -- 12 regroup left: "5 p gives 5 5 p, itself. 6 b 5 q gives 5 6 b q, pass. 6 b 6 c q gives 6 6 b c q, pass."
+  feeds-regroup-left-in-first : {s t r : Ty} {p : Prefix} → Feeds (seq s (seq t r)) regroup-left (in-first p) (in-first (in-first p)) regroup-left
+  feeds-regroup-left-in-second : {s t r : Ty} {b q : Prefix} → Feeds (seq s (seq t r)) regroup-left (crossed b (in-first q)) (in-first (crossed b q)) pass
+  feeds-regroup-left-in-third : {s t r : Ty} {b c q : Prefix} → Feeds (seq s (seq t r)) regroup-left (crossed b (crossed c q)) (crossed (crossed b c) q) pass
+  -- 13 spread: "5 p gives 7 5 p 5 p, itself. 6 b 7 q r gives 7 6 b q 6 b r, pass."
+  feeds-spread-coming : {s t r : Ty} {p : Prefix} → Feeds (seq s (par t r)) spread (in-first p) (beside (in-first p) (in-first p)) spread
+  feeds-spread-crossed : {s t u : Ty} {b q r : Prefix} → Feeds (seq s (par t u)) spread (crossed b (beside q r)) (beside (crossed b q) (crossed b r)) pass
+  -- 14 front: "p gives 6 0 p; pass."
   feeds-front : {s : Ty} {p : Prefix} → Feeds s front p (crossed nothing p) pass
 
 -- FeedsPatch a p o b: fed p, the patch a sends o and leaves the patch b. "The patch left has as its input type what the slice

@@ -1,5 +1,5 @@
 -- Nodes, their typing and their limits (document 01, Nodes and Bounds). A node is one of the source's kernel transformers,
--- or a structural rule that document 01 keeps as a node.
+-- the source's cut, or a structural rule that document 01 keeps as a node.
 use Prim.Native.Nat.{ℕ, suc, _+_, _<_, _≤_}
 use Rattle.stream.specs.Types.{Ty, empty, cue, level, seq, par, Nullable, size, type-limit}
 use Rattle.stream.specs.Levels.{level-limit}
@@ -12,8 +12,8 @@ pub data Node : Type 0 where
   emit-cue : Node  -- 2, document 01's cue, the source's ()
   emit-level : ℕ → Node  -- 3, document 01's level, and its value
   both : Node → Node → Node  -- 4, the source's PAR-R
-  left-side : Node  -- 5
-  right-side : Node  -- 6
+  left-side : Node  -- 5, document 01's left
+  right-side : Node  -- 6, document 01's right
   first : Node  -- 7
   second : Node  -- 8
   then : Node → Node → Node  -- 9, the source's CAT-R

@@ -37,10 +37,10 @@ patch-file-bytes p = section-bytes (type-bytes (p .input) []) (section-bytes (no
 
 -- The bytes that are a patch file: those of trees that the rules and the limits allow.
 pub record PatchFile (file : List ℕ) : Type 0 where
-  pub patch : Patch
+  pub trees : Patch
   pub output : Ty
-  pub allowed : Allowed (patch .input) (patch .node) output
-  pub bytes : patch-file-bytes patch ≡ file
+  pub allowed : Allowed (trees .input) (trees .node) output
+  pub bytes : patch-file-bytes trees ≡ file
 
 -- What each kind byte begins, by its number.
 abbrev pub node-kinds : List (List ℕ → Reading (Root (Unit {0}) Node))

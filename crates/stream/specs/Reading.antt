@@ -58,7 +58,7 @@ followed-by r (refused e) = fault e
 unfoldable pub section-bytes : List ℕ → List ℕ → List ℕ
 section-bytes body r = length body / 256 ∷ length body % 256 ∷ (body ++ r)
 
--- "A section's length is tried before its contents", here the n bytes of its count. The contents fill the section.
+-- "A section's length is tried before its contents": the contents of a section whose count is n, which they have to fill.
 unfoldable pub counted : {A : Type 0} → Fault → Fault → (List ℕ → Reading A) → ℕ → List ℕ → Reading A
 counted cut-short left-over contents n s =
     elim (leb n (length s)) [ true ↦ followed-by (drop n s) (whole left-over (contents (take n s))) | false ↦ fault cut-short ]
@@ -69,7 +69,7 @@ section cut-short left-over contents (h ∷ []) = fault cut-short
 section cut-short left-over contents (h ∷ l ∷ s) = counted cut-short left-over contents (h * 256 + l) s
 
 -- "Trees are in preorder, root first, then the parts left to right." What the root's own bytes say: what is owed for each
--- part, and how the tree is made, which takes its parts off the front of the trees that follow.
+-- part, and `build`, which puts the tree made of the first trees that follow in their place.
 pub record Root (W A : Type 0) : Type 0 where
   pub parts : List W
   pub build : List A → List A

@@ -47,8 +47,8 @@ abbrev pub belongs : Bool → (List ℕ → Reading (Root Owed Prefix)) → List
 belongs true root s = root s
 belongs false root s = fault SliceMisplaced
 
--- What each kind byte begins where a prefix of t is owed, by its number; c says whether it has to be complete, from
--- which 1, 3 and 5 keep it.
+-- What each kind byte begins where a prefix of t is owed, by its number; c says whether it has to be complete: 1, 3 and 5
+-- never are.
 abbrev pub prefix-kinds : List (Ty → Bool → List ℕ → Reading (Root Owed Prefix))
 prefix-kinds =
     (λ t c. belongs (has-kind 0 t) (leaf nothing))

@@ -53,7 +53,7 @@ pub record FedSections (w : FedFiles) : Type 0 where
 pub fed-sections : (patch slice : List ℕ) (w : FedFiles) → Bytes patch → Bytes slice → feed patch slice ≡ accepted w → FedSections w
 unfolding slice-file-bytes type-file-bytes patch-file-bytes
 fed-sections patch slice w b c e =
-    let f = fed-patch patch slice w b e in go (f .patch .input) (f .patch .node) (f .output) (f .allowed) (rw (← f .bytes) at e)
+    let f = fed-patch patch slice w b e in go (f .trees .input) (f .trees .node) (f .output) (f .allowed) (rw (← f .bytes) at e)
   where
     sized : FedSized w
     sized = feed-sized-of-bytes patch slice b c .sized w e

@@ -2,19 +2,19 @@
 -- what the call has to write.
 use mathlib.Core.Path.{_≡_, refl, sym, ap, ap₂, _∙_}
 use mathlib.Core.Logic.{_↔_, Iff·trans, _⊎_, inl, inr, ⊎-elim}
-use mathlib.Core.Bool.{Bool, true, false, true≢false, or-true, _&&_}
+use mathlib.Core.Bool.{Bool, true, false, true≢false, or-true}
 use mathlib.Core.List.{List, [], _∷_}
-use Prim.Native.Nat.{ℕ, _≤_, _<_}
+use Prim.Native.Nat.{ℕ, _≤_}
 use native.Mathlib.Omega.{arith}
 use native.Mathlib.Nat.{le-trans}
 use lib.Dec.{eqb, leb}
 use lib.ListN.{length, take, drop}
 use lib.Seq.{take-append-seam}
-use borrow.Author.Tests.{le-leb, leb-false}
+use borrow.Author.Tests.{le-leb, leb-false, leb-true}
 use Rattle.stream.specs.declared.Fault.{Fault}
 use Rattle.stream.specs.declared.Fault.the-variants.{NoRoom}
 use Rattle.stream.specs.Faults.{number, contains, Listed}
-use Rattle.stream.specs.Prefixes.{Prefix, Complete, Concat, derivative}
+use Rattle.stream.specs.Prefixes.{Prefix, Complete, derivative}
 use Rattle.stream.specs.Prefixes.Functions.{complete, concat}
 use Rattle.stream.specs.Prefixes.Laws.{complete-sound, complete-complete, concat-only}
 use Rattle.stream.specs.Reading.{Bytes, Result, accepted, refused, IsAccepted, require, go-on}
@@ -27,7 +27,7 @@ use Rattle.stream.specs.Bounds.{slice-file-limit, patch-file-limit}
 use Rattle.meaning.specs.Answers.{with-room, number-of, value-of, as-number, after, fits-one, fits-both, written, admitted, fed, FedFiles, check, left, join, feed, admit, fed-files, into-both}
 use Rattle.meaning.specs.Answers.Laws.{number-positive, enough-room, room-accepted, room-refusals, both-fit, check-refused-feed, Refuses, WritesSized, FeedsSized}
 use Rattle.meaning.specs.Promises.{Writes, Admits, CheckPromise, AdmitPromise, LeftPromise, JoinPromise, FeedPromise}
-use Rattle.demands.specs.Calls.{type-and-slice, two-slices, patch-and-slice, Wrote, WroteBoth, Decided, is-accepted, is-refused, is-short, TooShortFor, Ty}
+use Rattle.demands.specs.Calls.{type-and-slice, two-slices, patch-and-slice, CheckDue, AdmitDue, LeftDue, JoinDue, FeedDue, Fit, Wrote, WroteBoth, Decided, is-accepted, is-refused, is-short, TooShortFor, Ty}
 use Rattle.stream.specs.TypeFiles.{type-file, type-file-bytes}
 use Rattle.stream.specs.SliceFiles.{slice-file, slice-file-bytes}
 use Rattle.node.specs.PatchFiles.{patch-file, patch-file-bytes}
@@ -35,6 +35,7 @@ use Rattle.node.specs.Nodes.{Patch}
 use Rattle.node.specs.Feeding.{FeedsPatch}
 use Rattle.node.specs.Feeding.Laws.{feeds-only}
 use Rattle.stream.specs.Types.{Ty}
+use Rattle.stream.specs.Types.Laws.{and-left, and-right}
 
 abbrev NotRoom : Fault → Type 0
 NotRoom e = number e ≡ 20 → ⊥
@@ -70,16 +71,16 @@ zero-accepted (refused e) = (
 
 twenty : {A : Type 0} (fits : A → Bool) (r : Result A) → Refusals NotRoom r → number-of (with-room fits r) ≡ 20 ↔ TooShortFor fits r
 unfolding with-room
-twenty fits (refused e) n = ((λ h. absurd (n h)), (λ t. let z : _≡_ {A = ℕ} 0 1 = let d = t .due in cc in absurd (omega arith)))
+twenty fits (refused e) n = ((λ h. absurd (n h)), (λ t. let z : _≡_ {A = ℕ} 0 1 = let d = t .is-due in cc in absurd (omega arith)))
 twenty {A} fits (accepted a) n = ((λ h. there (fits a) refl h), back)
   where
     there : (b : Bool) → fits a ≡ b → number-of (require b NoRoom (accepted a)) ≡ 20 → TooShortFor fits (accepted a)
     there true e h = absurd (omega arith)
-    there false e h = record { answer = a; due = refl; too-short = e }
+    there false e h = record { due = a; is-due = refl; too-short = e }
 
     back : TooShortFor fits (accepted a) → number-of (require (fits a) NoRoom (accepted a)) ≡ 20
     back t =
-        let e : a ≡ t .answer = let d = t .due in cc in
+        let e : a ≡ t .due = let d = t .is-due in cc in
         rw (ap fits e ∙ t .too-short)
 
 -- A bound on every answer holds of the length that the caller is told, and where all answers fit, 20 does not come.
@@ -92,7 +93,23 @@ module _ {A : Type 0} (fits : A → Bool) (r : Result A) where
       go (refused e) d = omega arith
 
   never-twenty : Refusals NotRoom r → ((a : A) → r ≡ accepted a → fits a ≡ true) → number-of (with-room fits r) ≡ 20 → ⊥
-  never-twenty n h e = let t = twenty fits r n .0 e in true≢false (sym (h (t .answer) (t .due)) ∙ t .too-short)
+  never-twenty n h e = let t = twenty fits r n .0 e in true≢false (sym (h (t .due) (t .is-due)) ∙ t .too-short)
+
+  -- With 20 aside, a call is accepted exactly if it would be with room set aside.
+  aside : Refusals NotRoom r → (number-of (with-room fits r) ≡ 0) ⊎ (number-of (with-room fits r) ≡ 20) ↔ IsAccepted r
+  aside n = (there, back)
+    where
+      there : (number-of (with-room fits r) ≡ 0) ⊎ (number-of (with-room fits r) ≡ 20) → IsAccepted r
+      there s =
+          ⊎-elim (λ e. let a = zero-accepted (with-room fits r) .0 e in (a .0, room-accepted fits r (a .0) (a .1) .0))
+          (λ e. let t = twenty fits r n .0 e in (t .due, t .is-due)) s
+
+      back : IsAccepted r → (number-of (with-room fits r) ≡ 0) ⊎ (number-of (with-room fits r) ≡ 20)
+      back (a, e) = go (fits a) refl
+        where
+          go : (b : Bool) → fits a ≡ b → (number-of (with-room fits r) ≡ 0) ⊎ (number-of (with-room fits r) ≡ 20)
+          go true h = inl (zero-accepted (with-room fits r) .1 (a, enough-room fits r e h))
+          go false h = inr (twenty fits r n .1 (record { due = a; is-due = e; too-short = h }))
 
   -- With room for every answer, a call is accepted exactly if it would be with room set aside.
   zero-with-room : ((a : A) → r ≡ accepted a → fits a ≡ true) → number-of (with-room fits r) ≡ 0 ↔ IsAccepted r
@@ -130,6 +147,9 @@ module _ {outcome : Result (List ℕ)} {lent : List ℕ} {answer : Written} {len
 
   pub writes-twenty : {ns : List ℕ} → Refuses ns outcome → answer .number ≡ 20 ↔ TooShortFor (fits-one (length lent)) outcome
   writes-twenty r = rw told (twenty (fits-one (length lent)) outcome (not-room outcome r))
+
+  pub writes-aside : {ns : List ℕ} → Refuses ns outcome → (answer .number ≡ 0) ⊎ (answer .number ≡ 20) ↔ IsAccepted outcome
+  writes-aside r = rw told (aside (fits-one (length lent)) outcome (not-room outcome r))
 
   pub writes-bounded : {most : ℕ} → WritesSized most outcome → answer .written ≤ most
   unfolding written
@@ -177,6 +197,9 @@ module _ {patch slice output-lent patch-lent : List ℕ} {answer : Fed} {output-
   pub feeds-twenty : {ns : List ℕ} → Refuses ns (feed patch slice)
       → answer .number ≡ 20 ↔ TooShortFor (fits-both (length output-lent) (length patch-lent)) (feed patch slice)
   feeds-twenty r = rw fed-told (twenty fits (feed patch slice) (not-room (feed patch slice) r))
+
+  pub feeds-aside : {ns : List ℕ} → Refuses ns (feed patch slice) → (answer .number ≡ 0) ⊎ (answer .number ≡ 20) ↔ IsAccepted (feed patch slice)
+  feeds-aside r = rw fed-told (aside fits (feed patch slice) (not-room (feed patch slice) r))
 
   pub feeds-bounded : FeedsSized (feed patch slice) → (answer .output ≤ slice-file-limit) × (answer .patch ≤ patch-file-limit)
   unfolding fed
@@ -239,6 +262,10 @@ one-true : (b : Bool) → as-number b ≡ 1 ↔ b ≡ true
 one-true true = ((λ e. refl), (λ e. refl))
 one-true false = ((λ e. absurd (omega arith)), (λ e. absurd (true≢false (sym e))))
 
+else-zero : (b : Bool) → (b ≡ true → ⊥) → as-number b ≡ 0
+else-zero true not = absurd (not refl)
+else-zero false not = refl
+
 module _ {o : Result Bool} {answer : Admitted} (promise : Admits o answer) where
   admit-told : answer .number ≡ number-of o
   unfolding admitted
@@ -250,11 +277,14 @@ module _ {o : Result Bool} {answer : Admitted} (promise : Admits o answer) where
   pub admits-zero : answer .number ≡ 0 ↔ IsAccepted o
   admits-zero = rw admit-told (zero-accepted o)
 
-  pub admits-complete : {p : Prefix} → o ≡ accepted (complete p) → answer .complete ≡ 1 ↔ Complete p
+  pub admits-complete : {p : Prefix} → o ≡ accepted (complete p)
+      → (answer .complete ≡ 1 ↔ Complete p) × ((Complete p → ⊥) → answer .complete ≡ 0)
   unfolding admitted
   admits-complete {p} d =
-      rw (ap (λ (a : Admitted). a .complete) (promise .answers ∙ ap admitted d))
-      (Iff·trans (one-true (complete p)) ((λ e. complete-sound p e), (λ c. complete-complete c)))
+      rw (ap (λ (a : Admitted). a .complete) (promise .answers ∙ ap admitted d)) (
+        Iff·trans (one-true (complete p)) ((λ e. complete-sound p e), (λ c. complete-complete c)),
+        (λ not. else-zero (complete p) (λ e. not (complete-sound p e))),
+      )
 
 -- Each promise can be kept, whatever is handed in, and in one way only.
 
@@ -308,32 +338,35 @@ feeds-as-check {patch} {slice} {lent} {output-lent = output-lent} {patch-lent = 
 
 -- A call is decided by what its files are read as.
 
-weaken : {A : Type 0} {read : Result A} {P Q : A → Type 0} {answered : ℕ} {lent lent-after : List (List ℕ)} → ((a : A) → P a → Q a)
-    → Decided read P answered lent lent-after → Decided read Q answered lent lent-after
-weaken f (is-accepted a e n) = is-accepted a e n
-weaken f (is-refused x e n u) = is-refused x e n u
-weaken f (is-short a e s n u) = is-short a e (f a s) n u
-
--- An operation with one lent buffer, which writes `file a` where its files are read as a.
-module _ {A : Type 0} (file : A → List ℕ) {lent : List ℕ} {answer : Written} {lent-after : List ℕ} where
+-- An operation with one lent buffer, which writes `file a` where its files are read as a: that is what is due.
+module _ {A : Type 0} {Due : A → List (List ℕ) → Type 0} (file : A → List ℕ) (only : (a : A) (files : List (List ℕ)) → Due a files → files ≡ file a ∷ [])
+    {lent : List ℕ} {answer : Written} {lent-after : List ℕ} where
   by-room : (a : A) (b : Bool) → leb (length (file a)) (length lent) ≡ b → answer ≡ written (require b NoRoom (accepted (file a)))
       → lent-after ≡ after (λ f. f) (require b NoRoom (accepted (file a))) lent
-      → Decided (accepted a) (λ x. length lent < length (file x)) (answer .number) (lent ∷ []) (lent-after ∷ [])
+      → Decided (accepted a) Due (answer .number) (answer .written ∷ []) (lent ∷ []) (lent-after ∷ [])
   unfolding written after
-  by-room a true e n u = is-accepted a refl (ap (λ (w : Written). w .number) n)
-  by-room a false e n u = is-short a refl (leb-false _ _ e) (ap (λ (w : Written). w .number) n) (ap (λ l. l ∷ []) u)
+  by-room a true e n u =
+      is-accepted a refl (ap (λ (w : Written). w .number) n)
+      (λ files d. rw (only a files d)
+      ((leb-true _ _ e, tt), ap (λ (w : Written). w .written ∷ []) n, ap (λ l. l ∷ []) u))
+  by-room a false e n u =
+      is-short a refl (ap (λ (w : Written). w .number) n) (λ files d fit. short a e (rw (only a files d) at fit)) (ap (λ l. l ∷ []) u)
+    where
+      short : (x : A) → leb (length (file x)) (length lent) ≡ false → Fit (file x ∷ []) (lent ∷ []) → ⊥
+      short x c fit = let h = fit .0 in omega (arith, leb-false (length (file x)) (length lent) c)
 
   pub writes-decided : (read : Result A) → Writes (go-on read (λ a. accepted (file a))) lent answer lent-after
-      → Decided read (λ a. length lent < length (file a)) (answer .number) (lent ∷ []) (lent-after ∷ [])
+      → Decided read Due (answer .number) (answer .written ∷ []) (lent ∷ []) (lent-after ∷ [])
   unfolding with-room written after
   writes-decided (accepted a) promise = by-room a (leb (length (file a)) (length lent)) refl (promise .answers) (promise .buffer)
   writes-decided (refused e) promise =
       is-refused e refl (ap (λ (w : Written). w .number) (promise .answers)) (ap (λ l. l ∷ []) (promise .buffer))
 
-pub admits-decided : {A : Type 0} (says : A → Bool) {answer : Admitted} (read : Result A) → Admits (go-on read (λ a. accepted (says a))) answer
-    → Decided read (λ a. ⊥) (answer .number) [] []
+admits-decided : (says : Ty × Prefix → Bool) {answer : Admitted} (read : Result (Ty × Prefix)) → Admits (go-on read (λ a. accepted (says a))) answer
+    → Decided read AdmitDue (answer .number) [] [] []
 unfolding admitted
-admits-decided says (accepted a) promise = is-accepted a refl (ap (λ (w : Admitted). w .number) (promise .answers))
+admits-decided says (accepted a) promise =
+    is-accepted a refl (ap (λ (w : Admitted). w .number) (promise .answers)) (λ files none. rw none (tt, refl, refl))
 admits-decided says (refused e) promise = is-refused e refl (ap (λ (w : Admitted). w .number) (promise .answers)) refl
 
 -- What files read one after the other come to is what comes of all of them together.
@@ -353,43 +386,39 @@ three-read : {A B C D : Type 0} (r : Result A) (s : A → Result B) (u : A → B
 three-read (refused e) s u f = refl
 three-read (accepted a) s u f = both-read (s a) (u a) (λ b. b) f
 
-pub check-decided : (patch : List ℕ) {lent lent-after : List ℕ} {answer : Written} → CheckPromise patch lent answer lent-after
-    → Decided (patch-file patch) (λ c. length lent < length (type-file-bytes (c .output))) (answer .number) (lent ∷ []) (lent-after ∷ [])
+pub check-decided : (file : List ℕ) {lent lent-after : List ℕ} {answer : Written} → CheckPromise file lent answer lent-after
+    → Decided (patch-file file) CheckDue (answer .number) (answer .written ∷ []) (lent ∷ []) (lent-after ∷ [])
 unfolding check
-check-decided patch call = writes-decided (λ c. type-file-bytes (c .output)) (patch-file patch) call
+check-decided file call = writes-decided (λ c. type-file-bytes (c .output)) (λ c files due. due) (patch-file file) call
 
 pub admit-decided : (type slice : List ℕ) {answer : Admitted} → AdmitPromise type slice answer
-    → Decided (type-and-slice type slice) (λ x. ⊥) (answer .number) [] []
+    → Decided (type-and-slice type slice) AdmitDue (answer .number) [] [] []
 unfolding admit
 admit-decided type slice call =
     admits-decided (λ (x : Ty × Prefix). complete (x .1)) (type-and-slice type slice)
     (rw (both-read (type-file type) (λ t. slice-file t slice) (λ t. t) (λ t p. accepted (complete p))) at call)
 
 pub left-decided : (type slice : List ℕ) {lent lent-after : List ℕ} {answer : Written} → LeftPromise type slice lent answer lent-after
-    → Decided (type-and-slice type slice) (λ x. length lent < length (type-file-bytes (derivative (x .0) (x .1)))) (answer .number)
-    (lent ∷ []) (lent-after ∷ [])
+    → Decided (type-and-slice type slice) LeftDue (answer .number) (answer .written ∷ []) (lent ∷ []) (lent-after ∷ [])
 unfolding left
 left-decided type slice call =
-    writes-decided (λ (x : Ty × Prefix). type-file-bytes (derivative (x .0) (x .1))) (type-and-slice type slice)
+    writes-decided (λ (x : Ty × Prefix). type-file-bytes (derivative (x .0) (x .1))) (λ x files due. due) (type-and-slice type slice)
     (rw (both-read (type-file type) (λ t. slice-file t slice) (λ t. t) (λ t p. accepted (type-file-bytes (derivative t p)))) at call)
 
+-- The rules join two slices in no other way than the function does.
+joined-only : (x : Prefix × Prefix) (files : List (List ℕ)) → JoinDue x files → files ≡ slice-file-bytes (concat (x .0) (x .1)) ∷ []
+joined-only x files (both, c, e) = e ∙ (λ i. slice-file-bytes (sym (concat-only c) i) ∷ [])
+
 pub join-decided : (type first second : List ℕ) {lent lent-after : List ℕ} {answer : Written} → JoinPromise type first second lent answer lent-after
-    → Decided (two-slices type first second) (λ x. (r : Prefix) → Concat (x .0) (x .1) r → length lent < length (slice-file-bytes r))
-    (answer .number) (lent ∷ []) (lent-after ∷ [])
+    → Decided (two-slices type first second) JoinDue (answer .number) (answer .written ∷ []) (lent ∷ []) (lent-after ∷ [])
 unfolding join
 join-decided type first second call =
-    weaken (λ x h r c. rw (← concat-only c) h)
-    (writes-decided (λ (x : Prefix × Prefix). slice-file-bytes (concat (x .0) (x .1))) (two-slices type first second)
+    writes-decided (λ (x : Prefix × Prefix). slice-file-bytes (concat (x .0) (x .1))) joined-only (two-slices type first second)
     (rw (three-read (type-file type) (λ t. slice-file t first) (λ t p. slice-file (derivative t p) second)
-    (λ p q. accepted (slice-file-bytes (concat p q)))) at call))
+    (λ p q. accepted (slice-file-bytes (concat p q)))) at call)
 
--- Feed, which has two buffers.
+-- Feed, which has two buffers. The rules leave no other files than the functions do.
 
-and-false : (a b : Bool) → (a && b) ≡ false → (a ≡ false) ⊎ (b ≡ false)
-and-false true b e = inr e
-and-false false b e = inl refl
-
--- The rules leave no other files than the functions do.
 pub left-only : {a b : Patch} {p o : Prefix} → FeedsPatch a p o b → fed-files a p ≡ record { output = slice-file-bytes o; patch = patch-file-bytes b }
 left-only {a} {b} {p} {o} f =
     let e = feeds-only (f .by-node) in
@@ -398,47 +427,54 @@ left-only {a} {b} {p} {o} f =
       patch = patch-file-bytes (record { input = sym (f .input-left) i; node = sym (e .node) i });
     }
 
-module _ (output-lent patch-lent : List ℕ) where
-  abbrev NoRoomFor : Patch × Prefix → Type 0
-  NoRoomFor x = fits-both (length output-lent) (length patch-lent) (fed-files (x .0) (x .1)) ≡ false
+abbrev both-files : FedFiles → List (List ℕ)
+both-files w = w .output ∷ w .patch ∷ []
 
-  too-short : (x : Patch × Prefix) → NoRoomFor x → (o : Prefix) (b : Patch) → FeedsPatch (x .0) (x .1) o b
-      → (length output-lent < length (slice-file-bytes o)) ⊎ (length patch-lent < length (patch-file-bytes b))
-  too-short x h o b f =
-      ⊎-elim (λ e. inl (leb-false _ _ e)) (λ e. inr (leb-false _ _ e))
-      (and-false (leb (length (slice-file-bytes o)) (length output-lent)) (leb (length (patch-file-bytes b)) (length patch-lent))
-      (ap (fits-both (length output-lent) (length patch-lent)) (sym (left-only f)) ∙ h))
+fed-only : (x : Patch × Prefix) (files : List (List ℕ)) → FeedDue x files → files ≡ both-files (fed-files (x .0) (x .1))
+fed-only x files (sent, next, rule, e) = e ∙ ap both-files (sym (left-only rule))
 
-  module _ {output-after patch-after : List ℕ} {answer : Fed} where
-    by-both : (x : Patch × Prefix) (b : Bool) → fits-both (length output-lent) (length patch-lent) (fed-files (x .0) (x .1)) ≡ b
-        → answer ≡ fed (require b NoRoom (accepted (fed-files (x .0) (x .1))))
-        → output-after ≡ after (λ w. w .output) (require b NoRoom (accepted (fed-files (x .0) (x .1)))) output-lent
-        → patch-after ≡ after (λ w. w .patch) (require b NoRoom (accepted (fed-files (x .0) (x .1)))) patch-lent
-        → Decided (accepted x) NoRoomFor (answer .number) (output-lent ∷ patch-lent ∷ []) (output-after ∷ patch-after ∷ [])
-    unfolding fed after
-    by-both x true e n u v = is-accepted x refl (ap (λ (w : Fed). w .number) n)
-    by-both x false e n u v = is-short x refl e (ap (λ (w : Fed). w .number) n) (ap₂ (λ k l. k ∷ l ∷ []) u v)
+module _ {output-lent patch-lent output-after patch-after : List ℕ} {answer : Fed} where
+  by-both : (x : Patch × Prefix) (w : FedFiles) → w ≡ fed-files (x .0) (x .1) → (b : Bool) → fits-both (length output-lent) (length patch-lent) w ≡ b
+      → answer ≡ fed (require b NoRoom (accepted w)) → output-after ≡ after (λ v. v .output) (require b NoRoom (accepted w)) output-lent
+      → patch-after ≡ after (λ v. v .patch) (require b NoRoom (accepted w)) patch-lent
+      → Decided (accepted x) FeedDue (answer .number) (answer .output ∷ answer .patch ∷ [])
+      (output-lent ∷ patch-lent ∷ []) (output-after ∷ patch-after ∷ [])
+  unfolding fed after
+  by-both x w is true e n u v =
+      is-accepted x refl (ap (λ (f : Fed). f .number) n)
+      (λ files d. rw (fed-only x files d ∙ ap both-files (sym is)) (
+        (
+          leb-true _ _ (and-left (leb (length (w .output)) (length output-lent)) _ e),
+          (leb-true _ _ (and-right (leb (length (w .output)) (length output-lent)) _ e), tt),
+        ),
+        ap (λ (f : Fed). f .output ∷ f .patch ∷ []) n,
+        ap₂ (λ k l. k ∷ l ∷ []) u v,
+      ))
+  by-both x w is false e n u v =
+      is-short x refl (ap (λ (f : Fed). f .number) n)
+      (λ files d fit. short (rw (fed-only x files d ∙ ap both-files (sym is)) at fit)) (ap₂ (λ k l. k ∷ l ∷ []) u v)
+    where
+      short : Fit (both-files w) (output-lent ∷ patch-lent ∷ []) → ⊥
+      short fit = true≢false (sym (both-fit w (fit .0) (fit .1 .0)) ∙ e)
 
-    fed-decided : (read : Result (Patch × Prefix)) (o : Result FedFiles) → o ≡ go-on read (λ x. accepted (fed-files (x .0) (x .1)))
-        → answer ≡ fed (into-both output-lent patch-lent o)
-        → output-after ≡ after (λ w. w .output) (into-both output-lent patch-lent o) output-lent
-        → patch-after ≡ after (λ w. w .patch) (into-both output-lent patch-lent o) patch-lent
-        → Decided read NoRoomFor (answer .number) (output-lent ∷ patch-lent ∷ []) (output-after ∷ patch-after ∷ [])
-    unfolding with-room fed after
-    fed-decided (accepted x) o e n u v =
-        by-both x (fits-both (length output-lent) (length patch-lent) (fed-files (x .0) (x .1))) refl (rw e at n) (rw e at u) (rw e at v)
-    fed-decided (refused f) o e n u v =
-        is-refused f refl (ap (λ (w : Fed). w .number) (rw e at n)) (ap₂ (λ k l. k ∷ l ∷ []) (rw e at u) (rw e at v))
+  fed-decided : (read : Result (Patch × Prefix)) (o : Result FedFiles) → o ≡ go-on read (λ x. accepted (fed-files (x .0) (x .1)))
+      → answer ≡ fed (into-both output-lent patch-lent o)
+      → output-after ≡ after (λ w. w .output) (into-both output-lent patch-lent o) output-lent
+      → patch-after ≡ after (λ w. w .patch) (into-both output-lent patch-lent o) patch-lent
+      → Decided read FeedDue (answer .number) (answer .output ∷ answer .patch ∷ []) (output-lent ∷ patch-lent ∷ []) (output-after ∷ patch-after ∷ [])
+  unfolding with-room fed after
+  fed-decided (accepted x) o e n u v =
+      by-both x (fed-files (x .0) (x .1)) refl (fits-both (length output-lent) (length patch-lent) (fed-files (x .0) (x .1))) refl
+      (rw e at n) (rw e at u) (rw e at v)
+  fed-decided (refused f) o e n u v =
+      is-refused f refl (ap (λ (w : Fed). w .number) (rw e at n)) (ap₂ (λ k l. k ∷ l ∷ []) (rw e at u) (rw e at v))
 
-pub feed-decided : {patch slice output-lent patch-lent output-after patch-after : List ℕ} {answer : Fed}
-    → FeedPromise patch slice output-lent patch-lent answer output-after patch-after
-    → Decided (patch-and-slice patch slice)
-    (λ x. (o : Prefix) (b : Patch) → FeedsPatch (x .0) (x .1) o b
-    → (length output-lent < length (slice-file-bytes o)) ⊎ (length patch-lent < length (patch-file-bytes b)))
-    (answer .number) (output-lent ∷ patch-lent ∷ []) (output-after ∷ patch-after ∷ [])
+pub feed-decided : {file slice output-lent patch-lent output-after patch-after : List ℕ} {answer : Fed}
+    → FeedPromise file slice output-lent patch-lent answer output-after patch-after
+    → Decided (patch-and-slice file slice) FeedDue (answer .number) (answer .output ∷ answer .patch ∷ [])
+    (output-lent ∷ patch-lent ∷ []) (output-after ∷ patch-after ∷ [])
 unfolding feed
-feed-decided {patch} {slice} {output-lent} {patch-lent} call =
-    weaken (too-short output-lent patch-lent)
-    (fed-decided output-lent patch-lent (patch-and-slice patch slice) (feed patch slice)
-    (both-read (patch-file patch) (λ c. slice-file (c .patch .input) slice) (λ c. c .patch) (λ a p. accepted (fed-files a p)))
-    (call .answers) (call .output-buffer) (call .patch-buffer))
+feed-decided {file} {slice} call =
+    fed-decided (patch-and-slice file slice) (feed file slice)
+    (both-read (patch-file file) (λ c. slice-file (c .patch .input) slice) (λ c. c .patch) (λ a p. accepted (fed-files a p)))
+    (call .answers) (call .output-buffer) (call .patch-buffer)

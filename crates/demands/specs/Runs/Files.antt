@@ -5,8 +5,8 @@ use mathlib.Core.List.{List, [], _∷_, _++_}
 use Prim.Native.Nat.{ℕ, _≤_}
 use lib.ListN.{length}
 use Rattle.stream.specs.Types.{Ty}
-use Rattle.stream.specs.Prefixes.{Prefix, IsPrefix}
-use Rattle.stream.specs.Prefixes.Laws.{concat-is-prefix, concat-only}
+use Rattle.stream.specs.Prefixes.{Prefix}
+use Rattle.stream.specs.Prefixes.Laws.{concat-only}
 use Rattle.stream.specs.Reading.{accepted}
 use Rattle.stream.specs.TypeFiles.{type-file-bytes}
 use Rattle.stream.specs.SliceFiles.{slice-file-bytes}
@@ -18,52 +18,49 @@ use Rattle.meaning.specs.Answers.{check, left, join, first-section}
 use Rattle.meaning.specs.Answers.Laws.{check-answers, left-answers, join-answers, first-section-of-patch}
 use Rattle.meaning.specs.Promises.{FeedPromise}
 use Rattle.demands.specs.Calls.{WroteBoth}
-use Rattle.demands.specs.Runs.{Run, Joined, alone, and-next, AsOne}
+use Rattle.demands.specs.Runs.Laws.{joined-is-prefix}
+use Rattle.demands.specs.Runs.{RunEnd, Joined, alone, and-next, AsOne}
 
 -- The files are joined from the left by Join, as slices of the type in the file `type`.
-pub data Joins (type : List ℕ) : List (List ℕ) → List ℕ → Type 0 where
-  join-alone : {file : List ℕ} → Joins type (file ∷ []) file
+pub data JoinedFiles (type : List ℕ) : List (List ℕ) → List ℕ → Type 0 where
+  join-alone : {file : List ℕ} → JoinedFiles type (file ∷ []) file
   join-next : {first second both all : List ℕ} {files : List (List ℕ)} → join type first second ≡ accepted both
-      → Joins type (both ∷ files) all → Joins type (first ∷ second ∷ files) all
+      → JoinedFiles type (both ∷ files) all → JoinedFiles type (first ∷ second ∷ files) all
 
-pub record OnFiles (start : List ℕ) (r : Run) : Type 0 where
+pub record OnFiles (start : List ℕ) (r : RunEnd) : Type 0 where
   pub slice : List ℕ
   pub output : List ℕ
   pub output-type : List ℕ
   pub checked : check start ≡ accepted output-type
-  pub slices-joined : Joins (first-section start) (r .slices) slice
-  pub outputs-joined : Joins output-type (r .outputs) output
+  pub slices-joined : JoinedFiles (first-section start) (r .slices) slice
+  pub outputs-joined : JoinedFiles output-type (r .outputs) output
   pub fed-as-one : {output-lent patch-lent output-after patch-after : List ℕ} {answer : Fed}
       → FeedPromise start slice output-lent patch-lent answer output-after patch-after
-      → length output ≤ length output-lent → length (r .patch) ≤ length patch-lent
-      → WroteBoth output (r .patch) output-lent patch-lent answer output-after patch-after
-  pub input-left : left (first-section start) slice ≡ accepted (first-section (r .patch))
-  pub output-left : left output-type output ≡ check (r .patch)
+      → length output ≤ length output-lent → length (r .file) ≤ length patch-lent
+      → WroteBoth output (r .file) output-lent patch-lent answer output-after patch-after
+  pub input-left : left (first-section start) slice ≡ accepted (first-section (r .file))
+  pub output-left : left output-type output ≡ check (r .file)
 
--- A join is a prefix, and Join writes it.
+-- Join writes the joined slice.
 
-joined-is-prefix : {t : Ty} {files : List (List ℕ)} {p : Prefix} → Joined t files p → IsPrefix t p
-joined-is-prefix (alone h) = h
-joined-is-prefix (and-next {q = q} j k c) = rw (← concat-only c) (concat-is-prefix q (joined-is-prefix j) k)
-
-join-last : {type : List ℕ} {files : List (List ℕ)} {all both : List ℕ} (next : List ℕ) → Joins type files all → join type all next ≡ accepted both
-    → Joins type (files ++ next ∷ []) both
+join-last : {type : List ℕ} {files : List (List ℕ)} {all both : List ℕ} (next : List ℕ) → JoinedFiles type files all → join type all next ≡ accepted both
+    → JoinedFiles type (files ++ next ∷ []) both
 join-last next join-alone e = join-next e join-alone
 join-last next (join-next d j) e = join-next d (join-last next j e)
 
-joined-files : {t : Ty} {files : List (List ℕ)} {p : Prefix} → Small t → Joined t files p → Joins (type-file-bytes t) files (slice-file-bytes p)
+joined-files : {t : Ty} {files : List (List ℕ)} {p : Prefix} → Small t → Joined t files p → JoinedFiles (type-file-bytes t) files (slice-file-bytes p)
 joined-files small (alone h) = join-alone
 joined-files small (and-next {q = q} j k c) =
     join-last (slice-file-bytes q) (joined-files small j)
     (join-answers q small (joined-is-prefix j) k ∙ ap (λ x. accepted (slice-file-bytes x)) (concat-only c))
 
-input-section : {file : List ℕ} (patch : PatchFile file) → first-section file ≡ type-file-bytes (patch .patch .input)
-input-section patch = ap first-section (sym (patch .bytes)) ∙ first-section-of-patch (patch .patch .input) (patch .patch .node)
+input-section : {file : List ℕ} (patch : PatchFile file) → first-section file ≡ type-file-bytes (patch .trees .input)
+input-section patch = ap first-section (sym (patch .bytes)) ∙ first-section-of-patch (patch .trees .input) (patch .trees .node)
 
 check-is : {file : List ℕ} (patch : PatchFile file) → check file ≡ accepted (type-file-bytes (patch .output))
 check-is patch = ap check (sym (patch .bytes)) ∙ check-answers (patch .allowed)
 
-pub on-files : {start : List ℕ} {r : Run} (patch : PatchFile start) (end : PatchFile (r .patch)) → AsOne patch r end → OnFiles start r
+pub on-files : {start : List ℕ} {r : RunEnd} (patch : PatchFile start) (end : PatchFile (r .file)) → AsOne patch r end → OnFiles start r
 on-files patch end one =
     let small = output-small (patch .allowed .types) (allowed-fits (patch .allowed)) in
     record {

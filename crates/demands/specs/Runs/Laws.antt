@@ -10,17 +10,17 @@ use lib.Seq.{take-append-seam}
 use borrow.Author.Tests.{eqb-true, eqb-false}
 use Rattle.stream.specs.Types.{Ty}
 use Rattle.stream.specs.Prefixes.{Prefix, IsPrefix, derivative}
-use Rattle.stream.specs.Prefixes.Laws.{concat-is-prefix, derivative-concat, concats}
+use Rattle.stream.specs.Prefixes.Laws.{concat-is-prefix, derivative-concat, concats, concat-only, derivative-size}
 use Rattle.stream.specs.Reading.{Bytes, accepted}
 use Rattle.stream.specs.Reading.Laws.{go-on-accepted}
 use Rattle.stream.specs.SliceFiles.{slice-file, slice-file-bytes, SliceFile}
-use Rattle.stream.specs.SliceFiles.Laws.{slice-file-sound}
-use Rattle.node.specs.Nodes.{Node, Allowed, patch-of, Patch}
+use Rattle.stream.specs.SliceFiles.Laws.{slice-file-sound, slice-file-complete}
+use Rattle.node.specs.Nodes.{Node, Allowed, patch-of, Patch, Small}
 use Rattle.node.specs.Feeding.{FeedsPatch}
 use Rattle.node.specs.Feeding.Functions.{sends, leaves, patch-left}
 use Rattle.node.specs.Feeding.Laws.{Preserved, preserved, leaves-allowed, feeds}
 use Rattle.node.specs.Feeding.Lists.{Pieces, no-more, piece, concat-all, derivative-all, sends-all, leaves-all, sends-pieces, concat-all-is-prefix, derivative-concat-all, sends-concat-all, leaves-concat-all, leaves-all-allowed}
-use Rattle.node.specs.PatchFiles.{patch-file-bytes, PatchFile}
+use Rattle.node.specs.PatchFiles.{patch-file-bytes, PatchFile, patch-file, Checked}
 use Rattle.stream.specs.Buffers.{at-front}
 use Rattle.meaning.specs.declared.Fed.{Fed}
 use Rattle.meaning.specs.Answers.{left, FedFiles, feed, fed-files}
@@ -28,19 +28,25 @@ use Rattle.meaning.specs.Answers.Laws.{feed-of-patch, feed-answers}
 use Rattle.meaning.specs.Promises.{FeedPromise}
 use Rattle.demands.specs.Calls.{WroteBoth}
 use Rattle.demands.specs.Calls.Laws.{feeds-exactly, feeds-accepted, feed-kept, feeds-alike, left-only}
-use Rattle.demands.specs.Runs.{Call, ByteSlices, Run, Ran, no-call, accepted-call, refused-call, Joined, alone, and-next, AsOne, Faithful, Through}
+use Rattle.demands.specs.Runs.{Call, ByteSlices, RunEnd, Ran, no-call, accepted-call, refused-call, Joined, alone, and-next, AsOne, Faithful, Through}
+use Rattle.stream.specs.Prefixes.Functions.{concat}
+use Rattle.node.specs.Nodes.Laws.{output-small, allowed-fits}
+use Rattle.stream.specs.TypeFiles.{type-file, TypeFile}
+use Rattle.stream.specs.TypeFiles.Laws.{type-file-complete}
+use Rattle.node.specs.PatchFiles.Laws.{patch-file-complete}
+use native.Mathlib.Nat.{le-trans}
 
 -- Where a run has come to, by trees.
-record Traced (s : Ty) (n : Node) (r : Run) : Type 0 where
+record Traced (s : Ty) (n : Node) (r : RunEnd) : Type 0 where
   pieces : List Prefix
   are-pieces : Pieces s pieces
-  patch : r .patch ≡ patch-file-bytes (patch-of (derivative-all s pieces) (leaves-all s n pieces))
+  patch : r .file ≡ patch-file-bytes (patch-of (derivative-all s pieces) (leaves-all s n pieces))
   slices : r .slices ≡ map slice-file-bytes pieces
   outputs : r .outputs ≡ map slice-file-bytes (sends-all s n pieces)
 
-one-more : {s : Ty} {n : Node} {p : Prefix} (r : Run) {slice output : List ℕ} → IsPrefix s p → slice-file-bytes p ≡ slice
+one-more : {s : Ty} {n : Node} {p : Prefix} (r : RunEnd) {slice output : List ℕ} → IsPrefix s p → slice-file-bytes p ≡ slice
     → slice-file-bytes (sends s n p) ≡ output → Traced (derivative s p) (leaves s n p) r
-    → Traced s n (record { patch = r .patch; slices = slice ∷ r .slices; outputs = output ∷ r .outputs })
+    → Traced s n (record { file = r .file; slices = slice ∷ r .slices; outputs = output ∷ r .outputs })
 unfolding derivative-all leaves-all sends-all
 one-more {p = p} r h d e t =
     record {
@@ -65,7 +71,7 @@ a-piece {s} {t} {n} {slice} {w} a b e =
     let z = slice-file-sound s slice (y .0) b (y .1) in
     record { prefix = y .0; is-prefix = z .1; bytes = z .0; files = let d = y .2 in cc }
 
-traced : {s t : Ty} {n : Node} {start : List ℕ} {r : Run} (calls : List Call) → patch-file-bytes (patch-of s n) ≡ start → Allowed s n t → ByteSlices calls
+traced : {s t : Ty} {n : Node} {start : List ℕ} {r : RunEnd} (calls : List Call) → patch-file-bytes (patch-of s n) ≡ start → Allowed s n t → ByteSlices calls
     → Ran start calls r → Traced s n r
 unfolding derivative-all leaves-all sends-all
 traced [] e a b no-call = record { pieces = []; are-pieces = no-more; patch = sym e; slices = refl; outputs = refl }
@@ -91,20 +97,20 @@ joined-all : {s : Ty} {p : Prefix} (ps : List Prefix) → IsPrefix s p → Piece
 joined-all {p = p} ps h k = joined-on (slice-file-bytes p ∷ []) ps (alone h) h k
 
 -- A run of one accepted call or more, by its pieces.
-record OneFeed {s : Ty} {n : Node} {t : Ty} (a : Allowed s n t) (ps : List Prefix) (r : Run) : Type 0 where
+record OneFeed {s : Ty} {n : Node} {t : Ty} (a : Allowed s n t) (ps : List Prefix) (r : RunEnd) : Type 0 where
   slice : Prefix
   output : Prefix
   slices-joined : Joined s (r .slices) slice
   outputs-joined : Joined t (r .outputs) output
-  fed-joined : feed (patch-file-bytes (patch-of s n)) (slice-file-bytes slice) ≡ accepted (record { output = slice-file-bytes output; patch = r .patch })
+  fed-joined : feed (patch-file-bytes (patch-of s n)) (slice-file-bytes slice) ≡ accepted (record { output = slice-file-bytes output; patch = r .file })
   input-left : derivative-all s ps ≡ derivative s slice
   output-left : derivative-all t (sends-all s n ps) ≡ derivative t output
 
-one-feed : {s t : Ty} {n : Node} (r : Run) (ps : List Prefix) (a : Allowed s n t) → Pieces s ps
-    → r .patch ≡ patch-file-bytes (patch-of (derivative-all s ps) (leaves-all s n ps)) → r .slices ≡ map slice-file-bytes ps
-    → r .outputs ≡ map slice-file-bytes (sends-all s n ps) → 1 ≤ length (r .slices) → OneFeed a ps r
+one-feed : {s t : Ty} {n : Node} (r : RunEnd) (ps : List Prefix) (a : Allowed s n t) → Pieces s ps
+    → r .file ≡ patch-file-bytes (patch-of (derivative-all s ps) (leaves-all s n ps)) → r .slices ≡ map slice-file-bytes ps
+    → r .outputs ≡ map slice-file-bytes (sends-all s n ps) → (r .slices ≡ [] → ⊥) → OneFeed a ps r
 unfolding derivative-all leaves-all sends-all
-one-feed r [] a no-more e d o l = absurd (omega (arith, ap length d))
+one-feed r [] a no-more e d o l = absurd (l d)
 one-feed {s} {t} {n} r (p ∷ ps) a (piece h k) e d o l =
     record {
       slice = concat-all p ps;
@@ -127,13 +133,13 @@ one-feed {s} {t} {n} r (p ∷ ps) a (piece h k) e d o l =
     outputs : Pieces (derivative t (sends s n p)) (sends-all (derivative s p) (leaves s n p) ps)
     outputs = sends-pieces ps (x .types) k
 
-    patches : patch-file-bytes (patch-left (patch-of s n) (concat-all p ps)) ≡ r .patch
+    patches : patch-file-bytes (patch-left (patch-of s n) (concat-all p ps)) ≡ r .file
     patches = ap₂ (λ u m. patch-file-bytes (patch-of u m)) (derivative-concat-all ps h k) (leaves-concat-all ps (a .types) h k) ∙ sym e
 
 -- Fed a prefix, a patch file sends and leaves what the rules say.
 pub feed-by-rules : {b : Patch} {o : Prefix} {file slice output-lent patch-lent output-after patch-after : List ℕ} {answer : Fed}
     → FeedPromise file slice output-lent patch-lent answer output-after patch-after
-    → (patch : PatchFile file) (taken : SliceFile (patch .patch .input) slice) → FeedsPatch (patch .patch) (taken .prefix) o b
+    → (patch : PatchFile file) (taken : SliceFile (patch .trees .input) slice) → FeedsPatch (patch .trees) (taken .prefix) o b
     → length (slice-file-bytes o) ≤ length output-lent → length (patch-file-bytes b) ≤ length patch-lent
     → WroteBoth (slice-file-bytes o) (patch-file-bytes b) output-lent patch-lent answer output-after patch-after
 feed-by-rules call patch taken rule i j =
@@ -141,43 +147,34 @@ feed-by-rules call patch taken rule i j =
     (rw (patch .bytes, taken .bytes) at (feed-answers (patch .allowed) (taken .is-prefix)) ∙ ap accepted (left-only rule)) i j
 
 -- The rules define what is sent and left, of every prefix.
-pub feed-defined : {file slice : List ℕ} (patch : PatchFile file) (taken : SliceFile (patch .patch .input) slice)
-    → (o : Prefix) × (b : Patch) × FeedsPatch (patch .patch) (taken .prefix) o b
+pub feed-defined : {file slice : List ℕ} (patch : PatchFile file) (taken : SliceFile (patch .trees .input) slice)
+    → (o : Prefix) × (b : Patch) × FeedsPatch (patch .trees) (taken .prefix) o b
 feed-defined patch taken =
-    (_, patch-left (patch .patch) (taken .prefix), record { by-node = feeds (patch .allowed .types) (taken .is-prefix); input-left = refl })
+    (_, patch-left (patch .trees) (taken .prefix), record { by-node = feeds (patch .allowed .types) (taken .is-prefix); input-left = refl })
 
 -- From any patch file, with any calls
 
-module _ {start : List ℕ} {calls : List Call} {r : Run} (ran : Ran start calls r) (patch : PatchFile start) (slices : ByteSlices calls) where
+module _ {start : List ℕ} {calls : List Call} {r : RunEnd} (ran : Ran start calls r) (patch : PatchFile start) (slices : ByteSlices calls) where
   abbrev input : Ty
-  input = patch .patch .input
+  input = patch .trees .input
 
   abbrev node : Node
-  node = patch .patch .node
+  node = patch .trees .node
 
   trace : Traced input node r
   trace = traced calls (patch .bytes) (patch .allowed) slices ran
 
-  run-none : r .slices ≡ [] → r .patch ≡ start
-  unfolding derivative-all leaves-all
-  run-none e = go (trace .pieces) (sym (trace .slices) ∙ e) (trace .patch)
-    where
-      go : (ps : List Prefix) → map slice-file-bytes ps ≡ []
-          → r .patch ≡ patch-file-bytes (patch-of (derivative-all input ps) (leaves-all input node ps)) → r .patch ≡ start
-      go [] d h = h ∙ patch .bytes
-      go (p ∷ ps) d h = let z : _≡_ {A = ℕ} 0 1 = cc in absurd (omega arith)
-
-  pub run-patch : PatchFile (r .patch)
+  pub run-patch : PatchFile (r .file)
   run-patch =
       let t = trace in
       record {
-        patch = patch-of (derivative-all input (t .pieces)) (leaves-all input node (t .pieces));
+        trees = patch-of (derivative-all input (t .pieces)) (leaves-all input node (t .pieces));
         output = derivative-all (patch .output) (sends-all input node (t .pieces));
         allowed = leaves-all-allowed (t .pieces) (patch .allowed) (t .are-pieces);
         bytes = sym (t .patch);
       }
 
-  run-as-one : 1 ≤ length (r .slices) → AsOne patch r run-patch
+  run-as-one : (r .slices ≡ [] → ⊥) → AsOne patch r run-patch
   unfolding run-patch
   run-as-one h =
       let t = trace in
@@ -192,12 +189,22 @@ module _ {start : List ℕ} {calls : List Call} {r : Run} (ran : Ran start calls
         output-left = one .output-left;
       }
 
+  run-none : r .slices ≡ [] → (r .file ≡ start) × (run-patch .trees ≡ patch .trees) × (run-patch .output ≡ patch .output)
+  unfolding run-patch derivative-all leaves-all sends-all
+  run-none e = go (trace .pieces) (sym (trace .slices) ∙ e) (trace .patch)
+    where
+      go : (ps : List Prefix) → map slice-file-bytes ps ≡ [] → r .file ≡ patch-file-bytes (patch-of (derivative-all input ps) (leaves-all input node ps))
+          → (r .file ≡ start) × (patch-of (derivative-all input ps) (leaves-all input node ps) ≡ patch .trees)
+          × (derivative-all (patch .output) (sends-all input node ps) ≡ patch .output)
+      go [] d h = (h ∙ patch .bytes, refl, refl)
+      go (p ∷ ps) d h = let z : _≡_ {A = ℕ} 0 1 = cc in absurd (omega arith)
+
   pub run-faithful : Faithful patch r
-  run-faithful = record { still-accepted = run-patch; as-one = run-as-one; unmoved = run-none }
+  run-faithful = record { next = run-patch; as-one = run-as-one; unmoved = run-none }
 
 -- A run goes through the runs of the initial parts of its list.
 
-pub run-through : {start : List ℕ} {r : Run} (calls more : List Call) → Ran start (calls ++ more) r → Through start calls more r
+pub run-through : {start : List ℕ} {r : RunEnd} (calls more : List Call) → Ran start (calls ++ more) r → Through start calls more r
 run-through [] more ran = record { so-far = _; ran = no-call; rest = _; goes-on = ran; comes-to = refl }
 run-through (c ∷ calls) more (refused-call k z ran) =
     let t = run-through calls more ran in
@@ -210,33 +217,33 @@ run-through (c ∷ calls) more (accepted-call {answer = answer} {output-after = 
       rest = t .rest;
       goes-on = t .goes-on;
       comes-to = λ i. let e = t .comes-to i in
-          record { patch = e .patch; slices = c .slice ∷ e .slices; outputs = take (answer .output) output ∷ e .outputs };
+          record { file = e .file; slices = c .slice ∷ e .slices; outputs = take (answer .output) output ∷ e .outputs };
     }
 
 first-slices : (calls more : List Call) → ByteSlices (calls ++ more) → ByteSlices calls
 first-slices [] more b = tt
 first-slices (c ∷ calls) more b = (b .0, first-slices calls more (b .1))
 
-pub run-faithful-so-far : {start : List ℕ} {r : Run} (calls more : List Call) → Ran start (calls ++ more) r → (patch : PatchFile start)
+pub run-faithful-so-far : {start : List ℕ} {r : RunEnd} (calls more : List Call) → Ran start (calls ++ more) r → (patch : PatchFile start)
     → ByteSlices (calls ++ more) → (t : Through start calls more r) × Faithful patch (t .so-far)
 run-faithful-so-far calls more ran patch b = let t = run-through calls more ran in (t, run-faithful (t .ran) patch (first-slices calls more b))
 
 -- Every list of calls runs, from whatever start, and comes to one thing.
 
-one-call : (start : List ℕ) (c : Call) (calls : List Call) → ((next : List ℕ) → (r : Run) × Ran next calls r)
+one-call : (start : List ℕ) (c : Call) (calls : List Call) → ((next : List ℕ) → (r : RunEnd) × Ran next calls r)
     → (answer : Fed) (output left : List ℕ) → FeedPromise start (c .slice) (c .output-lent) (c .patch-lent) answer output left
-    → (b : Bool) → eqb (answer .number) 0 ≡ b → (r : Run) × Ran start (c ∷ calls) r
+    → (b : Bool) → eqb (answer .number) 0 ≡ b → (r : RunEnd) × Ran start (c ∷ calls) r
 one-call start c calls next answer output left k true e = (_, accepted-call k (eqb-true _ _ e) (next (take (answer .patch) left) .1))
 one-call start c calls next answer output left k false e = (_, refused-call k (eqb-false _ _ e) (next start .1))
 
-pub every-list-runs : (start : List ℕ) (calls : List Call) → (r : Run) × Ran start calls r
+pub every-list-runs : (start : List ℕ) (calls : List Call) → (r : RunEnd) × Ran start calls r
 every-list-runs start [] = (_, no-call)
 every-list-runs start (c ∷ calls) =
     let k = feed-kept start (c .slice) (c .output-lent) (c .patch-lent) in
     one-call start c calls (λ next. every-list-runs next calls) (k .0) (k .1) (k .2) (k .3) (eqb (k .0 .number) 0) refl
 
 -- The same calls come to the same.
-pub runs-alike : {start : List ℕ} {r q : Run} (calls : List Call) → Ran start calls r → Ran start calls q → r ≡ q
+pub runs-alike : {start : List ℕ} {r q : RunEnd} (calls : List Call) → Ran start calls r → Ran start calls q → r ≡ q
 runs-alike [] no-call no-call = refl
 runs-alike (c ∷ calls) (refused-call h x ran) (refused-call k y also) = runs-alike calls ran also
 runs-alike (c ∷ calls) (refused-call h x ran) (accepted-call k y also) = absurd (x (ap (λ (a : Fed). a .number) (feeds-alike h k .0) ∙ y))
@@ -245,7 +252,7 @@ runs-alike (c ∷ calls) (accepted-call {answer = a} {output-after = o} {patch-a
     let e = feeds-alike h k in
     let next : take (b .patch) v ≡ take (a .patch) l = λ i. take (sym (e .0) i .patch) (sym (e .2) i) in
     let d = runs-alike calls ran (rw next at also) in
-    λ i. record { patch = d i .patch; slices = c .slice ∷ d i .slices; outputs = take (e .0 i .output) (e .1 i) ∷ d i .outputs }
+    λ i. record { file = d i .file; slices = c .slice ∷ d i .slices; outputs = take (e .0 i .output) (e .1 i) ∷ d i .outputs }
 
 -- Two runs of the same stream, however it is cut, leave the same patch and send the same joined output.
 
@@ -254,11 +261,11 @@ same-front x y lent n e =
     sym (take-append-seam x (drop (length x) lent)) ∙ ap (take (length x)) e
     ∙ rw n (take-append-seam y (drop (length y) lent))
 
-pub same-stream : {start : List ℕ} {patch : PatchFile start} {r q : Run} {m : PatchFile (r .patch)} {l : PatchFile (q .patch)}
+pub same-stream : {start : List ℕ} {patch : PatchFile start} {r q : RunEnd} {m : PatchFile (r .file)} {l : PatchFile (q .file)}
     (a : AsOne patch r m) (b : AsOne patch q l) → a .slice ≡ b .slice
-    → (r .patch ≡ q .patch) × (slice-file-bytes (a .output) ≡ slice-file-bytes (b .output))
+    → (r .file ≡ q .file) × (slice-file-bytes (a .output) ≡ slice-file-bytes (b .output))
 same-stream {start} {r = r} {q = q} a b e =
-    go (feed-kept start (slice-file-bytes (a .slice)) (one-output ++ other-output) (r .patch ++ q .patch))
+    go (feed-kept start (slice-file-bytes (a .slice)) (one-output ++ other-output) (r .file ++ q .file))
   where
     one-output : List ℕ
     one-output = slice-file-bytes (a .output)
@@ -268,14 +275,83 @@ same-stream {start} {r = r} {q = q} a b e =
 
     -- Both fed as one, with buffers that hold either answer.
     go : (answer : Fed) × (output : List ℕ) × (left : List ℕ)
-        × FeedPromise start (slice-file-bytes (a .slice)) (slice-file-bytes (a .output) ++ slice-file-bytes (b .output)) (r .patch ++ q .patch) answer output left
-        → (r .patch ≡ q .patch) × (slice-file-bytes (a .output) ≡ slice-file-bytes (b .output))
+        × FeedPromise start (slice-file-bytes (a .slice)) (slice-file-bytes (a .output) ++ slice-file-bytes (b .output)) (r .file ++ q .file) answer output left
+        → (r .file ≡ q .file) × (slice-file-bytes (a .output) ≡ slice-file-bytes (b .output))
     go (answer, output, left, k) =
         let m = length-append (slice-file-bytes (a .output)) (slice-file-bytes (b .output)) in
-        let n = length-append (r .patch) (q .patch) in
+        let n = length-append (r .file) (q .file) in
         let x = a .fed-as-one k (omega arith) (omega arith) in
         let y = b .fed-as-one (rw e at k) (omega arith) (omega arith) in
         let told = sym (x .0) ∙ y .0 in (
-          same-front (r .patch) (q .patch) _ (ap (λ (f : Fed). f .patch) told) (sym (x .2) ∙ y .2),
+          same-front (r .file) (q .file) _ (ap (λ (f : Fed). f .patch) told) (sym (x .2) ∙ y .2),
           same-front (slice-file-bytes (a .output)) (slice-file-bytes (b .output)) _ (ap (λ (f : Fed). f .output) told) (sym (x .1) ∙ y .1),
         )
+
+-- Files join to one slice, which is a prefix.
+
+pub joined-is-prefix : {t : Ty} {files : List (List ℕ)} {p : Prefix} → Joined t files p → IsPrefix t p
+joined-is-prefix (alone h) = h
+joined-is-prefix (and-next {q = q} j k c) = rw (← concat-only c) (concat-is-prefix q (joined-is-prefix j) k)
+
+some-files : {t : Ty} {files : List (List ℕ)} {p : Prefix} → Joined t files p → 1 ≤ length files
+some-files (alone h) = omega arith
+some-files (and-next {files = files} {q = q} j k c) = omega (arith, length-append files (slice-file-bytes q ∷ []))
+
+one-slice : {t : Ty} {p q : Prefix} → Small t → IsPrefix t p → IsPrefix t q → slice-file-bytes p ≡ slice-file-bytes q → p ≡ q
+one-slice {t} {p} {q} w h k e =
+    let x : accepted p ≡ accepted q = sym (slice-file-complete h w) ∙ ap (slice-file t) e ∙ slice-file-complete k w in cc
+
+one-last : (xs ys : List (List ℕ)) (x y : List ℕ) → xs ++ x ∷ [] ≡ ys ++ y ∷ [] → (xs ≡ ys) × (x ≡ y)
+one-last [] [] x y e = (refl, cc)
+one-last [] (z ∷ ys) x y e = absurd (omega (arith, ap length e, length-append ys (y ∷ [])))
+one-last (z ∷ xs) [] x y e = absurd (omega (arith, ap length e, length-append xs (x ∷ [])))
+one-last (z ∷ xs) (u ∷ ys) x y e =
+    let tail : xs ++ x ∷ [] ≡ ys ++ y ∷ [] = cc in
+    let head : z ≡ u = cc in
+    let i = one-last xs ys x y tail in
+    (ap₂ _∷_ head (i .0), i .1)
+
+pub one-joined : {t : Ty} {files also : List (List ℕ)} {p q : Prefix} → Small t → Joined t files p → Joined t also q → files ≡ also → p ≡ q
+one-joined w (alone h) (alone k) e = one-slice w h k (cc)
+one-joined w (alone h) (and-next {files = gs} {q = y} j k c) e =
+    absurd (omega (arith, ap length e, length-append gs (slice-file-bytes y ∷ []), some-files j))
+one-joined w (and-next {files = fs} {q = x} j k c) (alone h) e =
+    absurd (omega (arith, ap length e, length-append fs (slice-file-bytes x ∷ []), some-files j))
+one-joined w (and-next {files = fs} {p = p} {q = x} j k c) (and-next {files = gs} {p = u} {q = y} i l d) e =
+    let s = one-last fs gs (slice-file-bytes x) (slice-file-bytes y) e in
+    let same = one-joined w j i (s .0) in
+    let small = le-trans (derivative-size (joined-is-prefix j)) w in
+    let last = one-slice small k (rw (← same) at l) (s .1) in
+    sym (concat-only c) ∙ ap₂ concat same last ∙ concat-only d
+
+-- Two runs from one start whose slices join to the same slice leave the same patch, and their outputs join to the same output.
+module _ {start : List ℕ} {calls others : List Call} {r q : RunEnd} {p : Prefix} (ran : Ran start calls r) (also : Ran start others q)
+    (patch : PatchFile start) (b : ByteSlices calls) (c : ByteSlices others) where
+  pub runs-agree : Joined (patch .trees .input) (r .slices) p → Joined (patch .trees .input) (q .slices) p
+      → (r .file ≡ q .file) × ((o : Prefix) × Joined (patch .output) (r .outputs) o × Joined (patch .output) (q .outputs) o)
+  runs-agree j k =
+      let one = run-faithful ran patch b .as-one (λ e. omega (arith, some-files j, ap length e)) in
+      let other = run-faithful also patch c .as-one (λ e. omega (arith, some-files k, ap length e)) in
+      let w = patch .allowed .input-small in
+      let small = output-small (patch .allowed .types) (allowed-fits (patch .allowed)) in
+      let slice = one-joined w (one .slices-joined) j refl ∙ sym (one-joined w (other .slices-joined) k refl) in
+      let same = same-stream one other slice in
+      let output = one-slice small (joined-is-prefix (one .outputs-joined)) (joined-is-prefix (other .outputs-joined)) (same .1) in
+      (same .0, (one .output, one .outputs-joined, rw output (other .outputs-joined)))
+
+-- A file is read in one way.
+
+pub one-type : {file : List ℕ} (a b : TypeFile file) → a .type ≡ b .type
+one-type {file} a b =
+    let x : type-file file ≡ accepted (a .type) = rw (a .bytes) at (type-file-complete (a .type) (a .small)) in
+    let y : type-file file ≡ accepted (b .type) = rw (b .bytes) at (type-file-complete (b .type) (b .small)) in cc
+
+pub one-prefix : {t : Ty} {file : List ℕ} → Small t → (a b : SliceFile t file) → a .prefix ≡ b .prefix
+one-prefix w a b = one-slice w (a .is-prefix) (b .is-prefix) (a .bytes ∙ sym (b .bytes))
+
+pub one-patch : {file : List ℕ} (a b : PatchFile file) → (a .trees ≡ b .trees) × (a .output ≡ b .output)
+one-patch {file} a b =
+    let x : patch-file file ≡ accepted (record { patch = a .trees; output = a .output }) = rw (a .bytes) at (patch-file-complete (a .allowed)) in
+    let y : patch-file file ≡ accepted (record { patch = b .trees; output = b .output }) = rw (b .bytes) at (patch-file-complete (b .allowed)) in
+    let same : _≡_ {A = Checked} (record { patch = a .trees; output = a .output }) (record { patch = b .trees; output = b .output }) = cc in
+    (ap (λ (c : Checked). c .patch) same, ap (λ (c : Checked). c .output) same)

@@ -134,8 +134,8 @@ admit-accepted type slice b c = (
       (complete (p .prefix), rw (t .bytes, p .bytes) at (admit-answers (t .small) (p .is-prefix)))),
 )
 
-pub feed-accepted : {patch : List ℕ} (slice : List ℕ) (f : PatchFile patch) → Bytes slice → IsAccepted (feed patch slice) ↔ SliceFile (f .patch .input) slice
-feed-accepted slice f b = rw (← f .bytes) (go (f .patch .input) (f .patch .node) (f .output) (f .allowed))
+pub feed-accepted : {patch : List ℕ} (slice : List ℕ) (f : PatchFile patch) → Bytes slice → IsAccepted (feed patch slice) ↔ SliceFile (f .trees .input) slice
+feed-accepted slice f b = rw (← f .bytes) (go (f .trees .input) (f .trees .node) (f .output) (f .allowed))
   where
     go : (s : Ty) (n : Node) (t : Ty) → Allowed s n t → IsAccepted (feed (patch-file-bytes (patch-of s n)) slice) ↔ SliceFile s slice
     go s n t a = (
@@ -324,7 +324,7 @@ pub record FeedsSized (r : Result FedFiles) : Type 0 where
   pub sized : (w : FedFiles) → r ≡ accepted w → FedSized w
 
 pub feed-sized : {patch : List ℕ} (slice : List ℕ) → PatchFile patch → Bytes slice → FeedsSized (feed patch slice)
-feed-sized slice f b = record { sized = λ w e. go w (f .patch .input) (f .patch .node) (f .output) (f .allowed) (rw (← f .bytes) at e) }
+feed-sized slice f b = record { sized = λ w e. go w (f .trees .input) (f .trees .node) (f .output) (f .allowed) (rw (← f .bytes) at e) }
   where
     go : (w : FedFiles) (s : Ty) (n : Node) (t : Ty) → Allowed s n t → feed (patch-file-bytes (patch-of s n)) slice ≡ accepted w → FedSized w
     go w s n t a e =
@@ -346,7 +346,7 @@ feed-sized-of-bytes patch slice b c = record { sized = λ w e. (feed-sized slice
 
 -- Feed accepts exactly a patch file with a slice file of its input type.
 pub feed-accepted-of-bytes : (patch slice : List ℕ) → Bytes patch → Bytes slice
-    → IsAccepted (feed patch slice) ↔ ((f : PatchFile patch) × SliceFile (f .patch .input) slice)
+    → IsAccepted (feed patch slice) ↔ ((f : PatchFile patch) × SliceFile (f .trees .input) slice)
 feed-accepted-of-bytes patch slice b c = (
   (λ a. let f = fed-patch patch slice (a .0) b (a .1) in (f, feed-accepted slice f c .0 a)),
   (λ x. feed-accepted slice (x .0) c .1 (x .1)),

@@ -239,7 +239,7 @@ patch-file-accepted s b = (
   (λ a.
       let f = patch-file-sound s (a .0) b (a .1) in
       let c = a .0 in
-      record { patch = c .patch; output = c .output; allowed = f .allowed; bytes = f .bytes }),
+      record { trees = c .patch; output = c .output; allowed = f .allowed; bytes = f .bytes }),
   (λ f. (_, rw (f .bytes) at (patch-file-complete (f .allowed)))),
 )
 
