@@ -33,28 +33,28 @@ patch-and-slice patch slice = on-patch patch slice (λ a p. accepted (a, p))
 
 -- The files that are due for what was read: Check "writes its output type file", Admit writes nothing, Left what the slice leaves,
 -- Join the two slices as one, Feed "the output slice file and the patch file left".
-abbrev pub CheckDue : Checked → List (List ℕ) → Type 0
-CheckDue c files = files ≡ type-file-bytes (c .output) ∷ []
+abbrev pub DueFromCheck : Checked → List (List ℕ) → Type 0
+DueFromCheck c files = files ≡ type-file-bytes (c .output) ∷ []
 
-abbrev pub AdmitDue : Ty × Prefix → List (List ℕ) → Type 0
-AdmitDue (t, p) files = files ≡ []
+abbrev pub DueFromAdmit : Ty × Prefix → List (List ℕ) → Type 0
+DueFromAdmit (t, p) files = files ≡ []
 
-abbrev pub LeftDue : Ty × Prefix → List (List ℕ) → Type 0
-LeftDue (t, p) files = files ≡ type-file-bytes (derivative t p) ∷ []
+abbrev pub DueFromLeft : Ty × Prefix → List (List ℕ) → Type 0
+DueFromLeft (t, p) files = files ≡ type-file-bytes (derivative t p) ∷ []
 
-abbrev pub JoinDue : Prefix × Prefix → List (List ℕ) → Type 0
-JoinDue (p, q) files = (both : Prefix) × Concat p q both × (files ≡ slice-file-bytes both ∷ [])
+abbrev pub DueFromJoin : Prefix × Prefix → List (List ℕ) → Type 0
+DueFromJoin (p, q) files = (both : Prefix) × Concat p q both × (files ≡ slice-file-bytes both ∷ [])
 
-abbrev pub FeedDue : Patch × Prefix → List (List ℕ) → Type 0
-FeedDue (a, p) files =
+abbrev pub DueFromFeed : Patch × Prefix → List (List ℕ) → Type 0
+DueFromFeed (a, p) files =
     (sent : Prefix) × (next : Patch) × FeedsPatch a p sent next × (files ≡ slice-file-bytes sent ∷ patch-file-bytes next ∷ [])
 
 -- Each file fits the buffer that is lent for it; and what the buffers hold once they are written: "These stand at the front of the
 -- lent buffer, and the bytes behind them stay."
-abbrev pub Fit : (files lent : List (List ℕ)) → Type 0
-Fit [] lent = Unit
-Fit (file ∷ files) [] = ⊥
-Fit (file ∷ files) (buffer ∷ lent) = (length file ≤ length buffer) × Fit files lent
+abbrev pub RoomFor : (files lent : List (List ℕ)) → Type 0
+RoomFor [] lent = Unit
+RoomFor (file ∷ files) [] = ⊥
+RoomFor (file ∷ files) (buffer ∷ lent) = (length file ≤ length buffer) × RoomFor files lent
 
 abbrev pub fronts : (files lent : List (List ℕ)) → List (List ℕ)
 fronts [] lent = lent
@@ -67,10 +67,10 @@ fronts (file ∷ files) (buffer ∷ lent) = at-front file buffer ∷ fronts file
 pub data Decided {A : Type 0} (read : Result A) (Due : A → List (List ℕ) → Type 0)
     (answered : ℕ) (told : List ℕ) (lent lent-after : List (List ℕ)) : Type 0 where
   is-accepted : (a : A) → read ≡ accepted a → answered ≡ 0
-      → ((files : List (List ℕ)) → Due a files → Fit files lent × (told ≡ map length files) × (lent-after ≡ fronts files lent))
+      → ((files : List (List ℕ)) → Due a files → RoomFor files lent × (told ≡ map length files) × (lent-after ≡ fronts files lent))
       → Decided read Due answered told lent lent-after
   is-refused : (e : Fault) → read ≡ refused e → answered ≡ number e → lent-after ≡ lent → Decided read Due answered told lent lent-after
-  is-short : (a : A) → read ≡ accepted a → answered ≡ 20 → ((files : List (List ℕ)) → Due a files → Fit files lent → ⊥)
+  is-short : (a : A) → read ≡ accepted a → answered ≡ 20 → ((files : List (List ℕ)) → Due a files → RoomFor files lent → ⊥)
       → lent-after ≡ lent → Decided read Due answered told lent lent-after
 
 -- Accepted calls: one that wrote a file, and a feed that wrote the file sent and that of the patch for the next feed.

@@ -23,7 +23,7 @@ use Rattle.meaning.specs.declared.Admitted.{Admitted}
 use Rattle.meaning.specs.declared.Fed.{Fed}
 use Rattle.meaning.specs.Answers.Laws.{check-accepted, admit-accepted, left-accepted, join-accepted, feed-accepted, feed-accepted-of-bytes, check-sized, left-sized, join-sized, feed-sized, feed-sized-of-bytes}
 use Rattle.meaning.specs.Promises.{CheckPromise, AdmitPromise, LeftPromise, JoinPromise, FeedPromise}
-use Rattle.demands.specs.Calls.{type-and-slice, two-slices, patch-and-slice, CheckDue, AdmitDue, LeftDue, JoinDue, FeedDue, Decided, WroteBoth}
+use Rattle.demands.specs.Calls.{type-and-slice, two-slices, patch-and-slice, DueFromCheck, DueFromAdmit, DueFromLeft, DueFromJoin, DueFromFeed, Decided, WroteBoth}
 use Rattle.demands.specs.Calls.Laws.{check-decided, admit-decided, left-decided, join-decided, feed-decided, check-kept, admit-kept, left-kept, join-kept, feed-kept, writes-zero, admits-zero, feeds-zero, feeds-as-check}
 use Rattle.demands.specs.Runs.{Call, ByteSlices, RunEnd, Ran, Faithful, Through}
 use Rattle.demands.specs.Runs.Laws.{feed-by-rules, feed-defined, run-faithful, run-faithful-so-far, every-list-runs}
@@ -33,24 +33,24 @@ use Rattle.demands.specs.Runs.Laws.{feed-by-rules, feed-defined, run-fai
 -- give such files: demand-2-defined, and for Join a-join in Consequences.)
 
 pub demand-1-check : (file : List ℕ) {lent lent-after : List ℕ} {answer : Written} → CheckPromise file lent answer lent-after
-    → Decided (patch-file file) CheckDue (answer .number) (answer .written ∷ []) (lent ∷ []) (lent-after ∷ [])
+    → Decided (patch-file file) DueFromCheck (answer .number) (answer .written ∷ []) (lent ∷ []) (lent-after ∷ [])
 demand-1-check file call = check-decided file call
 
 pub demand-1-admit : (type slice : List ℕ) {answer : Admitted} → AdmitPromise type slice answer
-    → Decided (type-and-slice type slice) AdmitDue (answer .number) [] [] []
+    → Decided (type-and-slice type slice) DueFromAdmit (answer .number) [] [] []
 demand-1-admit type slice call = admit-decided type slice call
 
 pub demand-1-left : (type slice : List ℕ) {lent lent-after : List ℕ} {answer : Written} → LeftPromise type slice lent answer lent-after
-    → Decided (type-and-slice type slice) LeftDue (answer .number) (answer .written ∷ []) (lent ∷ []) (lent-after ∷ [])
+    → Decided (type-and-slice type slice) DueFromLeft (answer .number) (answer .written ∷ []) (lent ∷ []) (lent-after ∷ [])
 demand-1-left type slice call = left-decided type slice call
 
 pub demand-1-join : (type first second : List ℕ) {lent lent-after : List ℕ} {answer : Written} → JoinPromise type first second lent answer lent-after
-    → Decided (two-slices type first second) JoinDue (answer .number) (answer .written ∷ []) (lent ∷ []) (lent-after ∷ [])
+    → Decided (two-slices type first second) DueFromJoin (answer .number) (answer .written ∷ []) (lent ∷ []) (lent-after ∷ [])
 demand-1-join type first second call = join-decided type first second call
 
 pub demand-1-feed : {file slice output-lent patch-lent output-after patch-after : List ℕ} {answer : Fed}
     → FeedPromise file slice output-lent patch-lent answer output-after patch-after
-    → Decided (patch-and-slice file slice) FeedDue (answer .number) (answer .output ∷ answer .patch ∷ [])
+    → Decided (patch-and-slice file slice) DueFromFeed (answer .number) (answer .output ∷ answer .patch ∷ [])
     (output-lent ∷ patch-lent ∷ []) (output-after ∷ patch-after ∷ [])
 demand-1-feed call = feed-decided call
 

@@ -10,7 +10,7 @@ ghost use Rattle.files.specs.TypeReads.{SomeTypeAt};
 ghost use Rattle.files.specs.SliceReads.{type-kind-of, is-unfinished, belongs-at, leaf-width, first-complete, SomePrefixAt, PrefixEnds, TypeSpans, CompleteWide, leaf-walked, first-known, SumsFit, beside-walked, Walks, ReadsSlice};
 
 // No slice file is longer: the count, a byte for each of 255 nodes, and two for each of at most 128 levels.
-pub const MAX_FILE: usize = 513;
+pub const MAX_SLICE_FILE: usize = 513;
 
 // What is known of a prefix that was read against its type: whether it is complete, how many nodes the type has that it
 // leaves, and by how many bytes its join with a later prefix is shorter than the two. The lengths stand apart: side by side

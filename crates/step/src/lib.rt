@@ -1,6 +1,6 @@
 // One feed of a node: what it sends, written on `out`, the node left, written on `remainder`, and the type that it gives, written
 // on `given`. All three are work bytes with room for it; what is behind may be anything afterwards.
-use files::prefixes::MAX_FILE;
+use files::prefixes::MAX_SLICE_FILE;
 use files::prefixes::complete_width;
 use files::prefixes::type_kind_of;
 use files::types::skip_type;
@@ -321,7 +321,7 @@ fn feed_chain(
     requires { ⌜ getD (now nodes) from 0 ≡ 10 ⌝ }
     ensures { λ r. ⌜ FeedsNode (now (types .entry)) at (now (nodes .entry)) from (now (slice .entry)) place (now (out .entry)) (now (remainder .entry)) (now (given .entry)) (now (out .exit)) (now (remainder .exit)) (now (given .exit)) r ⌝ }
 {
-    let mut between = [0u8; MAX_FILE];
+    let mut between = [0u8; MAX_SLICE_FILE];
     let mut middle = [0u8; 255];
     remainder[0] = 10;
     let step = feed_node(

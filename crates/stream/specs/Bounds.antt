@@ -19,8 +19,8 @@ abbrev pub twice-node-bytes : ℕ → ℕ
 twice-node-bytes c = 257 * c + 255
 
 -- The nodes of a patch, and a patch file: both counts, and a type of 255 nodes. "No file is longer than 8,482 bytes."
-abbrev pub nodes-limit : ℕ
-nodes-limit = 8223
+abbrev pub node-bytes-limit : ℕ
+node-bytes-limit = 8223
 
 abbrev pub patch-file-limit : ℕ
 patch-file-limit = 8482

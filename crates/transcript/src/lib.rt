@@ -1,5 +1,5 @@
 // The program of document 01 without its reads and writes: what it prints for the files of a stream, played as they come.
-use files::prefixes::MAX_FILE;
+use files::prefixes::MAX_SLICE_FILE;
 use files::sections::TreeEnd;
 use files::sections::count_of;
 use files::sections::section_end;
@@ -159,7 +159,7 @@ fn take_slice(file: &[u8], size: usize, patch: &mut [u8], out: &mut [u8]) -> Lin
     requires { ⌜ Ready (Feeding size) (now patch) (now out) ⌝ }
     ensures { λ r. ⌜ TakesFile (Feeding size) (now (patch .entry)) (now (file .entry)) (now (out .entry)) r (now (patch .exit)) (now (out .exit)) ⌝ }
 {
-    let mut output = [0u8; MAX_FILE];
+    let mut output = [0u8; MAX_SLICE_FILE];
     let mut next = [0u8; PatchPlace::MAX_FILE];
     feed_slice(file, size, patch, &mut output, &mut next, out)
 }

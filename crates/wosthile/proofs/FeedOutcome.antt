@@ -38,7 +38,7 @@ use Rattle.step.specs.Steps.Laws.{leads-inside, leads-taken, left-width}
 use Rattle.meaning.specs.Answers.{FedFiles, feed, with-room, fed as told, after, fed-files}
 use Rattle.meaning.specs.Promises.{FeedPromise}
 use Rattle.wosthile.specs.FeedReads.{FeedRead}
-use Rattle.stream.specs.Bounds.{slice-limit, slice-file-limit, twice-node-bytes, nodes-limit}
+use Rattle.stream.specs.Bounds.{slice-limit, slice-file-limit, twice-node-bytes, node-bytes-limit}
 
 -- How the answers of Feed keep its promise.
 module _ (output patch-lent : List ℕ) {patch slice : List ℕ} where
@@ -153,7 +153,7 @@ module _ {patch : List ℕ} {place : PatchPlace} {slice : List ℕ} {remains : �
   pub few-room : length patch - place .nodes < 16 → twice-node-bytes (count node) ≤ 2 * 2055
   few-room short = omega (arith, ends-inside (due .read .node-at), count-within node)
 
-  pub nodes-room : twice-node-bytes (count node) ≤ 2 * nodes-limit
+  pub nodes-room : twice-node-bytes (count node) ≤ 2 * node-bytes-limit
   nodes-room = omega (arith, few)
 
   pub small-left : remains ≤ 255
@@ -162,7 +162,7 @@ module _ {patch : List ℕ} {place : PatchPlace} {slice : List ℕ} {remains : �
   -- What is sent and the node left stand in front of the work arrays, and how long both files are.
   pub record Stepped (sent nodes : List ℕ) (step : Step) : Type 0 where
     pub sent-small : step .sent ≤ slice-limit
-    pub nodes-small : step .kept ≤ nodes-limit
+    pub nodes-small : step .kept ≤ node-bytes-limit
     pub sent-inside : step .sent ≤ length sent
     pub nodes-inside : step .kept ≤ length nodes
     pub sent-taken : take (step .sent) sent ≡ prefix-bytes (sends input node prefix) []

@@ -1,6 +1,6 @@
 // The operations on files, for the frame loop: any bytes may be handed to them. What each promises stands in
 // Promises.antt of the crate `meaning`; `exports` has their names for C.
-use files::prefixes::MAX_FILE;
+use files::prefixes::MAX_SLICE_FILE;
 use files::prefixes::SliceRead;
 use files::prefixes::read_slice_file;
 use files::types::TypeRead;
@@ -173,7 +173,7 @@ fn send(
     requires { ⌜ SendDue (now patch) place (now slice) remains (now nodes) ⌝ }
     ensures { λ r. ⌜ FeedPromise (now (patch .entry)) (now (slice .entry)) (now (out .entry)) (now (next .entry)) r (now (out .exit)) (now (next .exit)) ⌝ }
 {
-    let mut sent = [0u8; MAX_FILE];
+    let mut sent = [0u8; MAX_SLICE_FILE];
     let mut given = [0u8; 255];
     let start = place.input.start;
     let step = feed_node(

@@ -27,7 +27,7 @@ use Rattle.stream.specs.Bounds.{slice-file-limit, patch-file-limit}
 use Rattle.meaning.specs.Answers.{with-room, number-of, value-of, as-number, after, fits-one, fits-both, written, admitted, fed, FedFiles, check, left, join, feed, admit, fed-files, into-both}
 use Rattle.meaning.specs.Answers.Laws.{number-positive, enough-room, room-accepted, room-refusals, both-fit, check-refused-feed, Refuses, WritesSized, FeedsSized}
 use Rattle.meaning.specs.Promises.{Writes, Admits, CheckPromise, AdmitPromise, LeftPromise, JoinPromise, FeedPromise}
-use Rattle.demands.specs.Calls.{type-and-slice, two-slices, patch-and-slice, CheckDue, AdmitDue, LeftDue, JoinDue, FeedDue, Fit, Wrote, WroteBoth, Decided, is-accepted, is-refused, is-short, TooShortFor, Ty}
+use Rattle.demands.specs.Calls.{type-and-slice, two-slices, patch-and-slice, DueFromCheck, DueFromAdmit, DueFromLeft, DueFromJoin, DueFromFeed, RoomFor, Wrote, WroteBoth, Decided, is-accepted, is-refused, is-short, TooShortFor, Ty}
 use Rattle.stream.specs.TypeFiles.{type-file, type-file-bytes}
 use Rattle.stream.specs.SliceFiles.{slice-file, slice-file-bytes}
 use Rattle.node.specs.PatchFiles.{patch-file, patch-file-bytes}
@@ -52,12 +52,6 @@ number-listed ns (refused e) h = rw h (or-true (eqb 0 (number e)))
 
 listed-more : (n : ℕ) (ns : List ℕ) (e : Fault) → Listed ns e → Listed (n ∷ ns) e
 listed-more n ns e h = rw h (or-true (eqb n (number e)))
-
--- A refused call leaves its buffer as it was.
-unaltered : {A : Type 0} (file : A → List ℕ) (o : Result A) (lent lent-after : List ℕ) (e : Fault)
-    → lent-after ≡ after file o lent → o ≡ refused e → lent-after ≡ lent
-unfolding after
-unaltered file o lent l e h d = h ∙ ap (λ r. after file r lent) d
 
 -- The number is 0 exactly for what is accepted.
 zero-accepted : {A : Type 0} (o : Result A) → number-of o ≡ 0 ↔ IsAccepted o
@@ -95,28 +89,20 @@ module _ {A : Type 0} (fits : A → Bool) (r : Result A) where
   never-twenty : Refusals NotRoom r → ((a : A) → r ≡ accepted a → fits a ≡ true) → number-of (with-room fits r) ≡ 20 → ⊥
   never-twenty n h e = let t = twenty fits r n .0 e in true≢false (sym (h (t .due) (t .is-due)) ∙ t .too-short)
 
+  zero-only : number-of (with-room fits r) ≡ 0 → IsAccepted r
+  zero-only e = let a = zero-accepted (with-room fits r) .0 e in (a .0, room-accepted fits r (a .0) (a .1) .0)
+
   -- With 20 aside, a call is accepted exactly if it would be with room set aside.
   aside : Refusals NotRoom r → (number-of (with-room fits r) ≡ 0) ⊎ (number-of (with-room fits r) ≡ 20) ↔ IsAccepted r
-  aside n = (there, back)
+  aside n = ((λ s. ⊎-elim zero-only (λ e. let t = twenty fits r n .0 e in (t .due, t .is-due)) s), (λ (a, e). go a e (fits a) refl))
     where
-      there : (number-of (with-room fits r) ≡ 0) ⊎ (number-of (with-room fits r) ≡ 20) → IsAccepted r
-      there s =
-          ⊎-elim (λ e. let a = zero-accepted (with-room fits r) .0 e in (a .0, room-accepted fits r (a .0) (a .1) .0))
-          (λ e. let t = twenty fits r n .0 e in (t .due, t .is-due)) s
+      go : (a : A) → r ≡ accepted a → (b : Bool) → fits a ≡ b → (number-of (with-room fits r) ≡ 0) ⊎ (number-of (with-room fits r) ≡ 20)
+      go a e true h = inl (zero-accepted (with-room fits r) .1 (a, enough-room fits r e h))
+      go a e false h = inr (twenty fits r n .1 (record { due = a; is-due = e; too-short = h }))
 
-      back : IsAccepted r → (number-of (with-room fits r) ≡ 0) ⊎ (number-of (with-room fits r) ≡ 20)
-      back (a, e) = go (fits a) refl
-        where
-          go : (b : Bool) → fits a ≡ b → (number-of (with-room fits r) ≡ 0) ⊎ (number-of (with-room fits r) ≡ 20)
-          go true h = inl (zero-accepted (with-room fits r) .1 (a, enough-room fits r e h))
-          go false h = inr (twenty fits r n .1 (record { due = a; is-due = e; too-short = h }))
-
-  -- With room for every answer, a call is accepted exactly if it would be with room set aside.
+  -- With room for every answer, so is a call with number 0.
   zero-with-room : ((a : A) → r ≡ accepted a → fits a ≡ true) → number-of (with-room fits r) ≡ 0 ↔ IsAccepted r
-  zero-with-room h = (
-    (λ e. let a = zero-accepted (with-room fits r) .0 e in (a .0, room-accepted fits r (a .0) (a .1) .0)),
-    (λ a. zero-accepted (with-room fits r) .1 (a .0, enough-room fits r (a .1) (h (a .0) (a .1)))),
-  )
+  zero-with-room h = (zero-only, (λ a. zero-accepted (with-room fits r) .1 (a .0, enough-room fits r (a .1) (h (a .0) (a .1)))))
 
 -- Bytes stay bytes in a buffer, if what is written are bytes.
 still-bytes : {A : Type 0} (fits : A → Bool) (r : Result A) (file : A → List ℕ) (lent : List ℕ)
@@ -352,7 +338,7 @@ module _ {A : Type 0} {Due : A → List (List ℕ) → Type 0} (file : A → Lis
   by-room a false e n u =
       is-short a refl (ap (λ (w : Written). w .number) n) (λ files d fit. short a e (rw (only a files d) at fit)) (ap (λ l. l ∷ []) u)
     where
-      short : (x : A) → leb (length (file x)) (length lent) ≡ false → Fit (file x ∷ []) (lent ∷ []) → ⊥
+      short : (x : A) → leb (length (file x)) (length lent) ≡ false → RoomFor (file x ∷ []) (lent ∷ []) → ⊥
       short x c fit = let h = fit .0 in omega (arith, leb-false (length (file x)) (length lent) c)
 
   pub writes-decided : (read : Result A) → Writes (go-on read (λ a. accepted (file a))) lent answer lent-after
@@ -363,7 +349,7 @@ module _ {A : Type 0} {Due : A → List (List ℕ) → Type 0} (file : A → Lis
       is-refused e refl (ap (λ (w : Written). w .number) (promise .answers)) (ap (λ l. l ∷ []) (promise .buffer))
 
 admits-decided : (says : Ty × Prefix → Bool) {answer : Admitted} (read : Result (Ty × Prefix)) → Admits (go-on read (λ a. accepted (says a))) answer
-    → Decided read AdmitDue (answer .number) [] [] []
+    → Decided read DueFromAdmit (answer .number) [] [] []
 unfolding admitted
 admits-decided says (accepted a) promise =
     is-accepted a refl (ap (λ (w : Admitted). w .number) (promise .answers)) (λ files none. rw none (tt, refl, refl))
@@ -387,30 +373,30 @@ three-read (refused e) s u f = refl
 three-read (accepted a) s u f = both-read (s a) (u a) (λ b. b) f
 
 pub check-decided : (file : List ℕ) {lent lent-after : List ℕ} {answer : Written} → CheckPromise file lent answer lent-after
-    → Decided (patch-file file) CheckDue (answer .number) (answer .written ∷ []) (lent ∷ []) (lent-after ∷ [])
+    → Decided (patch-file file) DueFromCheck (answer .number) (answer .written ∷ []) (lent ∷ []) (lent-after ∷ [])
 unfolding check
 check-decided file call = writes-decided (λ c. type-file-bytes (c .output)) (λ c files due. due) (patch-file file) call
 
 pub admit-decided : (type slice : List ℕ) {answer : Admitted} → AdmitPromise type slice answer
-    → Decided (type-and-slice type slice) AdmitDue (answer .number) [] [] []
+    → Decided (type-and-slice type slice) DueFromAdmit (answer .number) [] [] []
 unfolding admit
 admit-decided type slice call =
     admits-decided (λ (x : Ty × Prefix). complete (x .1)) (type-and-slice type slice)
     (rw (both-read (type-file type) (λ t. slice-file t slice) (λ t. t) (λ t p. accepted (complete p))) at call)
 
 pub left-decided : (type slice : List ℕ) {lent lent-after : List ℕ} {answer : Written} → LeftPromise type slice lent answer lent-after
-    → Decided (type-and-slice type slice) LeftDue (answer .number) (answer .written ∷ []) (lent ∷ []) (lent-after ∷ [])
+    → Decided (type-and-slice type slice) DueFromLeft (answer .number) (answer .written ∷ []) (lent ∷ []) (lent-after ∷ [])
 unfolding left
 left-decided type slice call =
     writes-decided (λ (x : Ty × Prefix). type-file-bytes (derivative (x .0) (x .1))) (λ x files due. due) (type-and-slice type slice)
     (rw (both-read (type-file type) (λ t. slice-file t slice) (λ t. t) (λ t p. accepted (type-file-bytes (derivative t p)))) at call)
 
 -- The rules join two slices in no other way than the function does.
-joined-only : (x : Prefix × Prefix) (files : List (List ℕ)) → JoinDue x files → files ≡ slice-file-bytes (concat (x .0) (x .1)) ∷ []
+joined-only : (x : Prefix × Prefix) (files : List (List ℕ)) → DueFromJoin x files → files ≡ slice-file-bytes (concat (x .0) (x .1)) ∷ []
 joined-only x files (both, c, e) = e ∙ (λ i. slice-file-bytes (sym (concat-only c) i) ∷ [])
 
 pub join-decided : (type first second : List ℕ) {lent lent-after : List ℕ} {answer : Written} → JoinPromise type first second lent answer lent-after
-    → Decided (two-slices type first second) JoinDue (answer .number) (answer .written ∷ []) (lent ∷ []) (lent-after ∷ [])
+    → Decided (two-slices type first second) DueFromJoin (answer .number) (answer .written ∷ []) (lent ∷ []) (lent-after ∷ [])
 unfolding join
 join-decided type first second call =
     writes-decided (λ (x : Prefix × Prefix). slice-file-bytes (concat (x .0) (x .1))) joined-only (two-slices type first second)
@@ -430,14 +416,14 @@ left-only {a} {b} {p} {o} f =
 abbrev both-files : FedFiles → List (List ℕ)
 both-files w = w .output ∷ w .patch ∷ []
 
-fed-only : (x : Patch × Prefix) (files : List (List ℕ)) → FeedDue x files → files ≡ both-files (fed-files (x .0) (x .1))
+fed-only : (x : Patch × Prefix) (files : List (List ℕ)) → DueFromFeed x files → files ≡ both-files (fed-files (x .0) (x .1))
 fed-only x files (sent, next, rule, e) = e ∙ ap both-files (sym (left-only rule))
 
 module _ {output-lent patch-lent output-after patch-after : List ℕ} {answer : Fed} where
   by-both : (x : Patch × Prefix) (w : FedFiles) → w ≡ fed-files (x .0) (x .1) → (b : Bool) → fits-both (length output-lent) (length patch-lent) w ≡ b
       → answer ≡ fed (require b NoRoom (accepted w)) → output-after ≡ after (λ v. v .output) (require b NoRoom (accepted w)) output-lent
       → patch-after ≡ after (λ v. v .patch) (require b NoRoom (accepted w)) patch-lent
-      → Decided (accepted x) FeedDue (answer .number) (answer .output ∷ answer .patch ∷ [])
+      → Decided (accepted x) DueFromFeed (answer .number) (answer .output ∷ answer .patch ∷ [])
       (output-lent ∷ patch-lent ∷ []) (output-after ∷ patch-after ∷ [])
   unfolding fed after
   by-both x w is true e n u v =
@@ -454,14 +440,14 @@ module _ {output-lent patch-lent output-after patch-after : List ℕ} {answer : 
       is-short x refl (ap (λ (f : Fed). f .number) n)
       (λ files d fit. short (rw (fed-only x files d ∙ ap both-files (sym is)) at fit)) (ap₂ (λ k l. k ∷ l ∷ []) u v)
     where
-      short : Fit (both-files w) (output-lent ∷ patch-lent ∷ []) → ⊥
+      short : RoomFor (both-files w) (output-lent ∷ patch-lent ∷ []) → ⊥
       short fit = true≢false (sym (both-fit w (fit .0) (fit .1 .0)) ∙ e)
 
   fed-decided : (read : Result (Patch × Prefix)) (o : Result FedFiles) → o ≡ go-on read (λ x. accepted (fed-files (x .0) (x .1)))
       → answer ≡ fed (into-both output-lent patch-lent o)
       → output-after ≡ after (λ w. w .output) (into-both output-lent patch-lent o) output-lent
       → patch-after ≡ after (λ w. w .patch) (into-both output-lent patch-lent o) patch-lent
-      → Decided read FeedDue (answer .number) (answer .output ∷ answer .patch ∷ []) (output-lent ∷ patch-lent ∷ []) (output-after ∷ patch-after ∷ [])
+      → Decided read DueFromFeed (answer .number) (answer .output ∷ answer .patch ∷ []) (output-lent ∷ patch-lent ∷ []) (output-after ∷ patch-after ∷ [])
   unfolding with-room fed after
   fed-decided (accepted x) o e n u v =
       by-both x (fed-files (x .0) (x .1)) refl (fits-both (length output-lent) (length patch-lent) (fed-files (x .0) (x .1))) refl
@@ -471,7 +457,7 @@ module _ {output-lent patch-lent output-after patch-after : List ℕ} {answer : 
 
 pub feed-decided : {file slice output-lent patch-lent output-after patch-after : List ℕ} {answer : Fed}
     → FeedPromise file slice output-lent patch-lent answer output-after patch-after
-    → Decided (patch-and-slice file slice) FeedDue (answer .number) (answer .output ∷ answer .patch ∷ [])
+    → Decided (patch-and-slice file slice) DueFromFeed (answer .number) (answer .output ∷ answer .patch ∷ [])
     (output-lent ∷ patch-lent ∷ []) (output-after ∷ patch-after ∷ [])
 unfolding feed
 feed-decided {file} {slice} call =

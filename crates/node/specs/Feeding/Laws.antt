@@ -9,7 +9,7 @@ use Rattle.stream.specs.Prefixes.Functions.{concat}
 use Rattle.stream.specs.Prefixes.Laws.{crossed-second, beside-first, beside-second, empty-prefix-is-prefix, empty-prefix-complete, derivative-empty, complete→nullable, derivative-size, derivative-concat, concat-empty-left, concat-empty-right}
 use Rattle.node.specs.Nodes.{Node, silent, both, then, chain, Takes, takes-pass, takes-silent, takes-cue, takes-level, takes-both, takes-left, takes-right, takes-first, takes-second, takes-then, takes-chain, takes-regroup-right, takes-regroup-left, takes-spread, takes-front, count, Allowed}
 use Rattle.node.specs.Nodes.Functions.{output-type, Fits}
-use Rattle.node.specs.Nodes.Laws.{output-type-is, allowed, allowed-fits}
+use Rattle.node.specs.Nodes.Laws.{output-type-is, is-allowed, allowed-fits}
 use Rattle.node.specs.Feeding.{Feeds, feeds-pass, feeds-silent, feeds-cue, feeds-level, feeds-both, feeds-left, feeds-right, feeds-first-coming, feeds-first-crossed, feeds-second-coming, feeds-second-crossed, feeds-then-coming, feeds-then-crossed, feeds-chain, feeds-regroup-right-in-first, feeds-regroup-right-in-second, feeds-regroup-right-in-third, feeds-regroup-left-in-first, feeds-regroup-left-in-second, feeds-regroup-left-in-third, feeds-spread-coming, feeds-spread-crossed, feeds-front}
 use Rattle.node.specs.Feeding.Functions.{sends, leaves}
 
@@ -269,5 +269,5 @@ leaves-fits takes-front h f = omega (arith, derivative-size h)
 pub leaves-allowed : {s t : Ty} {n : Node} {p : Prefix} → Allowed s n t → IsPrefix s p
     → Allowed (derivative s p) (leaves s n p) (derivative t (sends s n p))
 leaves-allowed a h =
-    allowed ((preserved (a .types) h) .types) (le-trans (derivative-size h) (a .input-small))
+    is-allowed ((preserved (a .types) h) .types) (le-trans (derivative-size h) (a .input-small))
     (le-trans (leaves-count (a .types) h) (a .few)) (leaves-fits (a .types) h (allowed-fits a))

@@ -57,8 +57,8 @@ arises-small (in-chain-second d a) f = arises-small a (rw (output-type-is d) at 
 abbrev EachSmall : Ty → Node → Type 0
 EachSmall s n = (t : Ty) → Arises s n t → Small t
 
-gives-small : {s t : Ty} {n : Node} → Takes s n t → EachSmall s n → Small (output-type s n)
-gives-small d h = rw (output-type-is d) (h _ (given d))
+output-type-small : {s t : Ty} {n : Node} → Takes s n t → EachSmall s n → Small (output-type s n)
+output-type-small d h = rw (output-type-is d) (h _ (given d))
 
 pub fits-of : {s t : Ty} {n : Node} → Takes s n t → ((u : Ty) → Arises s n u → Small u) → Fits s n
 unfolding output-type
@@ -67,17 +67,17 @@ fits-of (takes-silent z) h = h _ (given (takes-silent z))
 fits-of takes-cue h = h _ (given takes-cue)
 fits-of (takes-level v) h = h _ (given (takes-level v))
 fits-of (takes-both d e) h =
-    (fits-of d (λ u a. h u (in-both-first a)), fits-of e (λ u a. h u (in-both-second a)), gives-small (takes-both d e) h)
+    (fits-of d (λ u a. h u (in-both-first a)), fits-of e (λ u a. h u (in-both-second a)), output-type-small (takes-both d e) h)
 fits-of takes-left h = h _ (given takes-left)
 fits-of takes-right h = h _ (given takes-right)
 fits-of takes-first h = h _ (given takes-first)
 fits-of takes-second h = h _ (given takes-second)
 fits-of (takes-then d e) h =
-    (fits-of d (λ u a. h u (in-then-first a)), fits-of e (λ u a. h u (in-then-second a)), gives-small (takes-then d e) h)
+    (fits-of d (λ u a. h u (in-then-first a)), fits-of e (λ u a. h u (in-then-second a)), output-type-small (takes-then d e) h)
 fits-of (takes-chain d e) h = (
   fits-of d (λ u a. h u (in-chain-first a)),
   rw (output-type-is d) (fits-of e (λ u a. h u (in-chain-second d a))),
-  gives-small (takes-chain d e) h,
+  output-type-small (takes-chain d e) h,
 )
 fits-of takes-regroup-right h = h _ (given takes-regroup-right)
 fits-of takes-regroup-left h = h _ (given takes-regroup-left)
@@ -86,8 +86,8 @@ fits-of takes-front h = h _ (given takes-front)
 
 -- A patch that is allowed, by the function
 module _ {s t : Ty} {n : Node} where
-  pub allowed : Takes s n t → Small s → count n ≤ node-limit → Fits s n → Allowed s n t
-  allowed d small few fits = record { types = d; input-small = small; few = few; each-small = λ u a. arises-small a fits }
+  pub is-allowed : Takes s n t → Small s → count n ≤ node-limit → Fits s n → Allowed s n t
+  is-allowed d small few fits = record { types = d; input-small = small; few = few; each-small = λ u a. arises-small a fits }
 
   pub allowed-fits : Allowed s n t → Fits s n
   allowed-fits a = fits-of (a .types) (a .each-small)

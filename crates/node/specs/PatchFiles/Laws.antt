@@ -8,7 +8,7 @@ use lib.ListN.{length, getD, length-append}
 use Rattle.stream.specs.declared.Fault.{Fault}
 use Rattle.stream.specs.declared.Fault.the-variants.{CutShort, Unlisted, LeftOver, TooManyNodes}
 use Rattle.stream.specs.Types.{Ty, type-limit}
-use Rattle.stream.specs.Bounds.{twice-node-bytes, nodes-limit, patch-file-limit}
+use Rattle.stream.specs.Bounds.{twice-node-bytes, node-bytes-limit, patch-file-limit}
 use Rattle.stream.specs.Faults.{type-numbers, patch-numbers, Listed}
 use Rattle.stream.specs.Levels.{value-bytes, read-value}
 use Rattle.stream.specs.Levels.Laws.{value-length, value-is-bytes, value-reads, value-sound, value-faults}
@@ -18,7 +18,7 @@ use Rattle.stream.specs.Reading.Refusals.{Faults, Refusals, read-on-faults, go-
 use Rattle.stream.specs.TypeFiles.{type-bytes, read-type, type-section}
 use Rattle.stream.specs.TypeFiles.Laws.{type-length, type-is-bytes, type-section-is-bytes, read-type-reads, read-type-sound, type-section-reads, type-section-sound, read-type-faults, type-section-faults}
 use Rattle.node.specs.Nodes.{Node, pass, silent, emit-cue, emit-level, both, left-side, right-side, first, second, then, chain, regroup-right, regroup-left, spread, front, count, node-limit, Small, Allowed, Patch, patch-of}
-use Rattle.node.specs.Nodes.Laws.{allowed as is-allowed, allowed-fits}
+use Rattle.node.specs.Nodes.Laws.{is-allowed, allowed-fits}
 use Rattle.node.specs.Checking.{typing}
 use Rattle.node.specs.Checking.Laws.{types-carries, typing-sound, typing-complete, typing-refusals}
 use Rattle.node.specs.Nodes.Functions.{Carries}
@@ -45,7 +45,7 @@ node-length regroup-left r f = omega arith
 node-length spread r f = omega arith
 node-length front r f = omega arith
 
-pub nodes-length : (n : Node) → Carries n → count n ≤ node-limit → length (node-bytes n []) ≤ nodes-limit
+pub nodes-length : (n : Node) → Carries n → count n ≤ node-limit → length (node-bytes n []) ≤ node-bytes-limit
 unfolding node-limit
 nodes-length n f h = omega (arith, node-length n [] f)
 
