@@ -1,7 +1,7 @@
 // Case 10 of document 01: 63 nodes pass, 65 give 5; a type of 255 passes, 257 gives 4. The tests hold what this prints to the
 // second interpreter's answers.
-use files::types::TypePlace;
 use libc::STDOUT_FILENO;
+use reading::types::TypePlace;
 use wosthile::check;
 ghost use mathlib.Core.Path.{_≡_};
 ghost use Prim.Native.Nat.{_+_, _*_, _≤_};

@@ -2,7 +2,7 @@
 // prints a line for each slice. What it prints for what it reads is the library's (`transcript`); here are the reads and writes.
 use libc::STDIN_FILENO;
 use libc::STDOUT_FILENO;
-use patches::PatchPlace;
+use patch_reading::PatchPlace;
 use transcript::Line;
 use transcript::Stage;
 use transcript::has_stopped;

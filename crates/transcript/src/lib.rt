@@ -1,10 +1,10 @@
 // The program of document 01 without its reads and writes: what it prints for the files of a stream, played as they come.
-use files::prefixes::MAX_SLICE_FILE;
-use files::sections::TreeEnd;
-use files::sections::count_of;
-use files::sections::section_end;
-use files::types::TypePlace;
-use patches::PatchPlace;
+use patch_reading::PatchPlace;
+use reading::prefixes::MAX_SLICE_FILE;
+use reading::sections::TreeEnd;
+use reading::sections::count_of;
+use reading::sections::section_end;
+use reading::types::TypePlace;
 use wosthile::check;
 use wosthile::feed;
 use writing::copy;

@@ -13,8 +13,8 @@ use Rattle.stream.specs.Types.Laws.{limit-is, and-both}
 use Rattle.stream.specs.Reading.{Result, require}
 use Rattle.stream.specs.TypeFiles.{type-bytes}
 use Rattle.stream.specs.TypeFiles.Laws.{type-length}
-use Rattle.files.specs.TypeReads.{TypeAt, SomeTypeAt, TypeEnds}
-use Rattle.files.specs.TypeReads.Laws.{type-before, type-width, fork-size, ends-inside, bytes-at, first-at, second-at, second-behind}
+use Rattle.reading.specs.TypeReads.{TypeAt, SomeTypeAt, TypeEnds}
+use Rattle.reading.specs.TypeReads.Laws.{type-before, type-width, fork-size, ends-inside, bytes-at, first-at, second-at, second-behind}
 use Rattle.node.specs.Checking.{gives}
 use Rattle.typing.specs.declared.Typed.{Typed}
 use Rattle.typing.specs.declared.Typed.the-variants.{Failed}

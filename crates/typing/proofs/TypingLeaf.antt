@@ -8,14 +8,14 @@ use Rattle.stream.specs.Types.{Ty, size}
 use Rattle.stream.specs.Levels.{value-bytes}
 use Rattle.stream.specs.Reading.{Result}
 use Rattle.stream.specs.TypeFiles.{type-bytes}
-use Rattle.files.specs.TypeReads.{TypeAt, SomeTypeAt}
+use Rattle.reading.specs.TypeReads.{TypeAt, SomeTypeAt}
 use Rattle.node.specs.Nodes.{Small}
 use Rattle.node.specs.Checking.{gives, typing}
 use Rattle.node.specs.PatchFiles.{node-bytes}
 use Rattle.typing.specs.declared.Typed.{Typed}
 use Rattle.typing.specs.declared.Typed.the-variants.{Gives}
-use Rattle.patches.specs.PatchReads.{node-arity, node-width}
-use Rattle.patches.specs.PatchReads.Laws.{ends-inside, Case, by-byte, silent-at}
+use Rattle.patch_reading.specs.PatchReads.{node-arity, node-width}
+use Rattle.patch_reading.specs.PatchReads.Laws.{ends-inside, Case, by-byte, silent-at}
 use Rattle.writing.specs.Appending.{Appends}
 use Rattle.typing.specs.Typing.{Answers, GivenCarried, TypingDue, TypesNode}
 use Rattle.writing.specs.Appending.Laws.{nothing-written, written-on}

@@ -10,8 +10,8 @@ use Rattle.stream.specs.declared.Fault.the-variants.{WrongShape}
 use Rattle.stream.specs.Types.{Ty, size, type-limit, kind, first-part, second-part}
 use Rattle.stream.specs.Reading.{Result, accepted, refused, go-on}
 use Rattle.stream.specs.TypeFiles.{type-bytes}
-use Rattle.files.specs.TypeReads.{TypeAt, SomeTypeAt, TypeEnds}
-use Rattle.files.specs.TypeReads.Laws.{type-before, type-width, first-at, second-behind}
+use Rattle.reading.specs.TypeReads.{TypeAt, SomeTypeAt, TypeEnds}
+use Rattle.reading.specs.TypeReads.Laws.{type-before, type-width, first-at, second-behind}
 use Rattle.writing.specs.Writing.Laws.{part, back}
 use Rattle.writing.specs.Writing.Standing.{written-stands}
 use Rattle.node.specs.Nodes.{Node, both, then, chain}
@@ -20,8 +20,8 @@ use Rattle.node.specs.Checking.Laws.{gives-small}
 use Rattle.node.specs.Nodes.Functions.{Carries}
 use Rattle.typing.specs.declared.Typed.{Typed}
 use Rattle.typing.specs.declared.Typed.the-variants.{Gives, Failed}
-use Rattle.patches.specs.PatchReads.{node-width, NodeAt}
-use Rattle.patches.specs.PatchReads.Laws.{ends-inside, width-positive, Forks, both-forks, then-forks, chain-forks, Parts, parts-at}
+use Rattle.patch_reading.specs.PatchReads.{node-width, NodeAt}
+use Rattle.patch_reading.specs.PatchReads.Laws.{ends-inside, width-positive, Forks, both-forks, then-forks, chain-forks, Parts, parts-at}
 use Rattle.writing.specs.Appending.{Appends, Within}
 use Rattle.typing.specs.Typing.{limited, Answers, TypingDue, TypesNode, TypePartsDue, fork, parts-typing, TypesParts}
 use Rattle.writing.specs.Appending.Laws.{back-length, WrittenSoFar, nothing-written, written-on, written-part}

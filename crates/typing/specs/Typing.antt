@@ -11,12 +11,12 @@ use Rattle.stream.specs.Types.{Ty, seq, par, nullable, size, type-limit, first-
 use Rattle.stream.specs.Reading.{Result, accepted, refused, require, go-on}
 use Rattle.writing.specs.Appending.{Holds}
 use Rattle.stream.specs.TypeFiles.{type-bytes}
-use Rattle.files.specs.TypeReads.{TypeAt}
+use Rattle.reading.specs.TypeReads.{TypeAt}
 use Rattle.node.specs.Nodes.{Node}
 use Rattle.node.specs.Checking.{gives, typing}
 use Rattle.typing.specs.declared.Typed.{Typed}
 use Rattle.typing.specs.declared.Typed.the-variants.{Gives, Failed}
-use Rattle.patches.specs.PatchReads.{node-width, NodeAt}
+use Rattle.patch_reading.specs.PatchReads.{node-width, NodeAt}
 pub mod Laws
 
 -- What is told of a node that ends at `end`.

@@ -3,9 +3,9 @@
 // A type is written on work bytes that may be too short for it: at a node with two parts a fault of the second part comes
 // before the size of the type that both give. So every writer here says how long its answer is, and writes it only if there
 // is room.
-use files::types::TypePlace;
-use files::types::is_nullable;
-use files::types::skip_type;
+use reading::types::TypePlace;
+use reading::types::is_nullable;
+use reading::types::skip_type;
 use stream::Fault;
 use writing::appending::append;
 use writing::appending::append_kind;
@@ -13,10 +13,10 @@ use writing::appending::within;
 ghost use mathlib.Core.Path.{_≡_};
 ghost use Prim.Native.Nat.{_≤_};
 ghost use lib.ListN.{getD};
-ghost use Rattle.files.specs.TypeReads.{SomeTypeAt};
+ghost use Rattle.reading.specs.TypeReads.{SomeTypeAt};
 ghost use Rattle.node.specs.Nodes.{regroup-right, regroup-left, spread, front};
 ghost use Rattle.node.specs.Checking.{gives, typing};
-ghost use Rattle.patches.specs.PatchReads.{node-arity};
+ghost use Rattle.patch_reading.specs.PatchReads.{node-arity};
 ghost use Rattle.typing.specs.Typing.{limited, first-of, second-of, Given, GivenCarried, TypingDue, TypesNode, TypePartsDue, TypesParts};
 
 // How the second pass leaves a node: where the node ends and how many nodes the type has that it gives, or the first fault.

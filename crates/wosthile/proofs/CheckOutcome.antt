@@ -11,14 +11,14 @@ use Rattle.stream.specs.Types.Laws.{limit-is}
 use Rattle.stream.specs.Reading.{accepted, refused, section-bytes}
 use Rattle.stream.specs.Buffers.{at-front}
 use Rattle.stream.specs.TypeFiles.{type-bytes, type-file-bytes}
-use Rattle.files.specs.TypeReads.Laws.{bytes-at, type-width}
+use Rattle.reading.specs.TypeReads.Laws.{bytes-at, type-width}
 use Rattle.writing.specs.Writing.Standing.{type-file-size, written-stands}
 use Rattle.node.specs.Checking.{typing}
 use Rattle.node.specs.PatchFiles.{first-pass, second-pass, patch-file}
-use Rattle.patches.specs.declared.PatchPlace.{PatchPlace}
+use Rattle.patch_reading.specs.declared.PatchPlace.{PatchPlace}
 use Rattle.typing.specs.declared.Typed.{Typed}
 use Rattle.typing.specs.declared.Typed.the-variants.{Gives, Failed}
-use Rattle.patches.specs.PatchReads.{AcceptedPatch}
+use Rattle.patch_reading.specs.PatchReads.{AcceptedPatch}
 use Rattle.typing.specs.Typing.{Answers}
 use Rattle.typing.specs.Typing.Laws.{IsGiven, is-given, is-refused, typing-small}
 use Rattle.meaning.specs.Answers.{check}

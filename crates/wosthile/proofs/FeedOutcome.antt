@@ -18,9 +18,9 @@ use Rattle.stream.specs.Buffers.{at-front}
 use Rattle.stream.specs.TypeFiles.{type-bytes}
 use Rattle.stream.specs.SliceFiles.{prefix-bytes, slice-file-bytes, slice-file}
 use Rattle.stream.specs.SliceFiles.Laws.{prefix-length}
-use Rattle.files.specs.TypeReads.Laws.{type-width}
-use Rattle.files.specs.SliceReads.{prefix-width}
-use Rattle.files.specs.SliceReads.Laws.{prefix-bytes-length}
+use Rattle.reading.specs.TypeReads.Laws.{type-width}
+use Rattle.reading.specs.SliceReads.{prefix-width}
+use Rattle.reading.specs.SliceReads.Laws.{prefix-bytes-length}
 use Rattle.writing.specs.Writing.Standing.{slice-file-size}
 use Rattle.node.specs.Nodes.{Node, count, node-limit}
 use Rattle.node.specs.Nodes.Laws.{output-type-is, output-small}
@@ -29,12 +29,12 @@ use Rattle.node.specs.Feeding.Laws.{preserved}
 use Rattle.node.specs.Checking.{typing}
 use Rattle.node.specs.Checking.Laws.{WellTyped, typing-sound}
 use Rattle.node.specs.PatchFiles.{node-bytes, patch-file-bytes, first-pass, second-pass, patch-file}
-use Rattle.patches.specs.declared.PatchPlace.{PatchPlace}
-use Rattle.patches.specs.PatchReads.Laws.{ends-inside, count-within}
-use Rattle.patches.specs.PatchReads.{AcceptedPatch}
-use Rattle.step.specs.declared.Step.{Step}
-use Rattle.step.specs.Steps.{Feedable, FeedDue, Steps, PatchLeftDue}
-use Rattle.step.specs.Steps.Laws.{leads-inside, leads-taken, left-width}
+use Rattle.patch_reading.specs.declared.PatchPlace.{PatchPlace}
+use Rattle.patch_reading.specs.PatchReads.Laws.{ends-inside, count-within}
+use Rattle.patch_reading.specs.PatchReads.{AcceptedPatch}
+use Rattle.feeding.specs.declared.Step.{Step}
+use Rattle.feeding.specs.Steps.{Feedable, FeedDue, Steps, PatchLeftDue}
+use Rattle.feeding.specs.Steps.Laws.{leads-inside, leads-taken, left-width}
 use Rattle.meaning.specs.Answers.{FedFiles, feed, with-room, fed as told, after, fed-files}
 use Rattle.meaning.specs.Promises.{FeedPromise}
 use Rattle.wosthile.specs.FeedReads.{FeedRead}

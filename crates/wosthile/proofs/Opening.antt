@@ -3,14 +3,14 @@ use mathlib.Core.Path.{_≡_}
 use mathlib.Core.List.{List}
 use Prim.Native.Nat.{ℕ}
 use Rattle.stream.specs.declared.Fault.{Fault}
-use Rattle.files.specs.declared.prefixes.Known.{Known}
+use Rattle.reading.specs.declared.prefixes.Known.{Known}
 use Rattle.stream.specs.Types.{Ty}
 use Rattle.stream.specs.Prefixes.{Prefix}
 use Rattle.stream.specs.Reading.{Result, refused, go-on}
 use Rattle.stream.specs.TypeFiles.{type-file}
 use Rattle.stream.specs.SliceFiles.{slice-file}
-use Rattle.files.specs.SliceReads.{AcceptedSlice}
-use Rattle.files.specs.TypeReads.{AcceptedType}
+use Rattle.reading.specs.SliceReads.{AcceptedSlice}
+use Rattle.reading.specs.TypeReads.{AcceptedType}
 
 -- Every operation on a type and a slice begins in this way, and goes on as k says.
 abbrev pub with-both : {A : Type 0} → (types file : List ℕ) → (Ty → Prefix → Result A) → Result A

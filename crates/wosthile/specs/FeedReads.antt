@@ -5,12 +5,12 @@ use Prim.Native.Nat.{ℕ, _*_, _≤_}
 use lib.ListN.{length}
 use Rattle.stream.specs.Types.{Ty}
 use Rattle.stream.specs.Reading.{accepted}
-use Rattle.files.specs.declared.prefixes.Known.{Known}
-use Rattle.files.specs.SliceReads.{AcceptedSlice}
+use Rattle.reading.specs.declared.prefixes.Known.{Known}
+use Rattle.reading.specs.SliceReads.{AcceptedSlice}
 use Rattle.node.specs.Nodes.{count}
 use Rattle.node.specs.Checking.{typing}
-use Rattle.patches.specs.declared.PatchPlace.{PatchPlace}
-use Rattle.patches.specs.PatchReads.{AcceptedPatch}
+use Rattle.patch_reading.specs.declared.PatchPlace.{PatchPlace}
+use Rattle.patch_reading.specs.PatchReads.{AcceptedPatch}
 use Rattle.stream.specs.Bounds.{twice-node-bytes}
 
 -- The patch is read and typed, the slice is a prefix of its input type, and leaves a type of `remains` nodes.

@@ -1,18 +1,18 @@
 // The operations on files, for the frame loop: any bytes may be handed to them. What each promises stands in
 // Promises.antt of the crate `meaning`; `exports` has their names for C.
-use files::prefixes::MAX_SLICE_FILE;
-use files::prefixes::SliceRead;
-use files::prefixes::read_slice_file;
-use files::types::TypeRead;
-use files::types::read_type_file;
+use feeding::feed_node;
+use feeding::write_patch_left;
 use meaning::Admitted;
 use meaning::Fed;
 use meaning::Written;
-use patches::PatchPlace;
-use patches::PatchRead;
-use patches::read_patch_file;
-use step::feed_node;
-use step::write_patch_left;
+use patch_reading::PatchPlace;
+use patch_reading::PatchRead;
+use patch_reading::read_patch_file;
+use reading::prefixes::MAX_SLICE_FILE;
+use reading::prefixes::SliceRead;
+use reading::prefixes::read_slice_file;
+use reading::types::TypeRead;
+use reading::types::read_type_file;
 use stream::Fault;
 use stream::number_of;
 use typing::Typed;

@@ -9,10 +9,10 @@ use Rattle.stream.specs.Types.{Ty, seq, par, size}
 use Rattle.stream.specs.Types.Laws.{size-positive}
 use Rattle.stream.specs.Prefixes.{Prefix, in-first, crossed, beside, Complete, IsPrefix, derivative}
 use Rattle.stream.specs.TypeFiles.{type-bytes}
-use Rattle.files.specs.TypeReads.{TypeAt, SomeTypeAt, TypeEnds}
-use Rattle.files.specs.TypeReads.Laws.{type-before, type-width, starts-inside, ends-inside, bytes-at, first-at, second-at}
-use Rattle.files.specs.SliceReads.{prefix-width, leaf-width, PrefixAt, SomePrefixAt, PrefixEnds}
-use Rattle.files.specs.SliceReads.Laws.{prefix-kind, width-positive, prefix-inside, kind-at, in-first-at, crossed-first-at, crossed-second-at, beside-first-at, beside-second-at}
+use Rattle.reading.specs.TypeReads.{TypeAt, SomeTypeAt, TypeEnds}
+use Rattle.reading.specs.TypeReads.Laws.{type-before, type-width, starts-inside, ends-inside, bytes-at, first-at, second-at}
+use Rattle.reading.specs.SliceReads.{prefix-width, leaf-width, PrefixAt, SomePrefixAt, PrefixEnds}
+use Rattle.reading.specs.SliceReads.Laws.{prefix-kind, width-positive, prefix-inside, kind-at, in-first-at, crossed-first-at, crossed-second-at, beside-first-at, beside-second-at}
 use Rattle.stream.specs.Buffers.{at-front}
 use Rattle.writing.specs.Writing.{leaf-left, Stands, DerivativeDue, Moves, DerivativeWritten, Begun}
 use Rattle.writing.specs.Writing.Laws.{part, back, byte, front-length, begins, goes-on, room-left, length-kept}

@@ -11,9 +11,9 @@ use Rattle.stream.specs.Types.Laws.{size-positive, limit-is}
 use Rattle.stream.specs.Prefixes.{empty-prefix}
 use Rattle.stream.specs.TypeFiles.{type-bytes}
 use Rattle.stream.specs.SliceFiles.{prefix-bytes}
-use Rattle.files.specs.TypeReads.{TypeAt, SomeTypeAt, TypeEnds}
-use Rattle.files.specs.TypeReads.Laws.{type-drop, kind-at, starts-inside, same-type}
-use Rattle.files.specs.SliceReads.Laws.{prefix-bytes-length}
+use Rattle.reading.specs.TypeReads.{TypeAt, SomeTypeAt, TypeEnds}
+use Rattle.reading.specs.TypeReads.Laws.{type-drop, kind-at, starts-inside, same-type}
+use Rattle.reading.specs.SliceReads.Laws.{prefix-bytes-length}
 use Rattle.writing.specs.Writing.{empty-kind, EmptyDue, EmptyWritten}
 use Rattle.writing.specs.Appending.Laws.{WrittenSoFar, nothing-written, written-on}
 use Rattle.writing.proofs.RoomBehind.{appended-byte}

@@ -6,7 +6,7 @@ use native.Mathlib.Omega.{arith}
 use Rattle.writing.specs.declared.Moved.{Moved}
 use Rattle.stream.specs.Prefixes.Functions.{concat}
 use Rattle.stream.specs.SliceFiles.{prefix-bytes, slice-file-bytes}
-use Rattle.files.specs.SliceReads.Laws.{prefix-bytes-length}
+use Rattle.reading.specs.SliceReads.Laws.{prefix-bytes-length}
 use Rattle.stream.specs.Buffers.{at-front}
 use Rattle.writing.specs.Writing.{ConcatDue, ConcatWritten, JoinedFileDue, JoinedFileWritten}
 use Rattle.writing.specs.Writing.Laws.{part, back, count-bytes, room-behind-count, section-written}

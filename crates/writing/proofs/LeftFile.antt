@@ -9,7 +9,7 @@ use Rattle.stream.specs.Types.{type-limit}
 use Rattle.stream.specs.Prefixes.{derivative}
 use Rattle.stream.specs.Prefixes.Laws.{derivative-size}
 use Rattle.stream.specs.TypeFiles.{type-bytes, type-file-bytes}
-use Rattle.files.specs.TypeReads.Laws.{type-width}
+use Rattle.reading.specs.TypeReads.Laws.{type-width}
 use Rattle.stream.specs.Buffers.{at-front}
 use Rattle.writing.specs.Writing.{DerivativeDue, DerivativeWritten, LeftFileDue, LeftFileWritten}
 use Rattle.writing.specs.Writing.Laws.{part, back, count-bytes, room-behind-count, section-written}

@@ -7,8 +7,8 @@ use Rattle.stream.specs.Types.{Ty, empty, cue, level, seq, par, size}
 use Rattle.stream.specs.Levels.{level-limit}
 use Rattle.stream.specs.Prefixes.{Prefix, nothing, cue-awaited, cue-come, level-awaited, level-come, in-first, crossed, beside, Complete, IsPrefix, of-empty, of-cue-awaited, of-cue-come, of-level-awaited, of-level-come, of-first, of-crossed, of-beside, derivative}
 use Rattle.stream.specs.TypeFiles.{type-bytes}
-use Rattle.files.specs.SliceReads.{prefix-width, leaf-width}
-use Rattle.files.specs.SliceReads.Laws.{prefix-kind}
+use Rattle.reading.specs.SliceReads.{prefix-width, leaf-width}
+use Rattle.reading.specs.SliceReads.Laws.{prefix-kind}
 use Rattle.writing.specs.Writing.{leaf-left}
 
 -- What has to be shown for the kind k.

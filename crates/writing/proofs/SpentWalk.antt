@@ -12,9 +12,9 @@ use Rattle.stream.specs.Buffers.{at-front}
 use Rattle.stream.specs.Prefixes.{Prefix, Complete, whole-nothing, whole-cue, whole-level, whole-crossed, whole-beside, derivative}
 use Rattle.stream.specs.TypeFiles.{type-bytes}
 use Rattle.stream.specs.TypeFiles.Laws.{type-length}
-use Rattle.files.specs.TypeReads.Laws.{type-width}
-use Rattle.files.specs.SliceReads.{prefix-width, leaf-width, PrefixAt, SomePrefixAt, PrefixEnds}
-use Rattle.files.specs.SliceReads.Laws.{width-positive, leaf-positive, prefix-inside, kind-at, crossed-first-at, crossed-second-at, beside-first-at, beside-second-at}
+use Rattle.reading.specs.TypeReads.Laws.{type-width}
+use Rattle.reading.specs.SliceReads.{prefix-width, leaf-width, PrefixAt, SomePrefixAt, PrefixEnds}
+use Rattle.reading.specs.SliceReads.Laws.{width-positive, leaf-positive, prefix-inside, kind-at, crossed-first-at, crossed-second-at, beside-first-at, beside-second-at}
 use Rattle.writing.specs.Writing.{SpentDue, SpentWritten}
 use Rattle.writing.specs.Appending.Laws.{WrittenSoFar, nothing-written, written-on}
 use Rattle.writing.proofs.RoomBehind.{appended-byte}

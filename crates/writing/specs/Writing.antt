@@ -10,8 +10,8 @@ use Rattle.stream.specs.Prefixes.{Prefix, Complete, IsPrefix, empty-prefix, der
 use Rattle.stream.specs.Prefixes.Functions.{concat}
 use Rattle.stream.specs.TypeFiles.{type-bytes, type-file-bytes}
 use Rattle.stream.specs.SliceFiles.{prefix-bytes, slice-file-bytes}
-use Rattle.files.specs.TypeReads.{TypeAt}
-use Rattle.files.specs.SliceReads.{prefix-width, PrefixAt}
+use Rattle.reading.specs.TypeReads.{TypeAt}
+use Rattle.reading.specs.SliceReads.{prefix-width, PrefixAt}
 pub mod Laws
 pub mod Standing
 

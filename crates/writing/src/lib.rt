@@ -1,9 +1,9 @@
 // Types and slices in bytes: the code that writes them. Each writer is handed the part of the lent buffer where it has to
 // write, with room that was measured before, and hands the later parts on.
-use files::prefixes::is_unfinished;
-use files::prefixes::leaf_width;
-use files::prefixes::skip_prefix;
-use files::types::skip_type;
+use reading::prefixes::is_unfinished;
+use reading::prefixes::leaf_width;
+use reading::prefixes::skip_prefix;
+use reading::types::skip_type;
 ghost use mathlib.Core.Path.{_≡_};
 ghost use mathlib.Core.List.{_∷_, []};
 ghost use Prim.Native.Nat.{_+_, _-_, _/_, _%_, _≤_};

@@ -11,10 +11,10 @@ use borrow.Author.Tests.{leb-true, leb-false}
 use Rattle.stream.specs.declared.Fault.{Fault}
 use Rattle.stream.specs.declared.Fault.the-variants.{CutShort, LeftOver}
 use Rattle.stream.specs.Reading.{Bytes, section}
-use Rattle.files.specs.declared.sections.TreeEnd.{TreeEnd}
-use Rattle.files.specs.declared.sections.TreeEnd.the-variants.{At, Failed}
-use Rattle.files.specs.Sections.{end-of, any-bytes}
-use Rattle.files.specs.Sections.Laws.{section-ended, section-there}
+use Rattle.reading.specs.declared.sections.TreeEnd.{TreeEnd}
+use Rattle.reading.specs.declared.sections.TreeEnd.the-variants.{At, Failed}
+use Rattle.reading.specs.Sections.{end-of, any-bytes}
+use Rattle.reading.specs.Sections.Laws.{section-ended, section-there}
 use Rattle.writing.specs.Writing.Laws.{part, back, part-is, goes-on, room-left}
 use Rattle.transcript.specs.declared.Stage.{Stage}
 use Rattle.transcript.specs.declared.Stage.the-variants.{Awaiting, Feeding, Stopped}

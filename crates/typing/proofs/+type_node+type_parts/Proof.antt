@@ -7,8 +7,8 @@ use borrow.Author.Needs.{needs}
 use borrow.Fn.Kinds.{In}
 use borrow.Fn.PlainCycle.{Measures, is, falls, and}
 use lib.ListN.{length}
-use Rattle.files.specs.TypeReads.Laws.{starts-inside as type-inside}
-use Rattle.patches.specs.PatchReads.Laws.{starts-inside, leaf-arity}
+use Rattle.reading.specs.TypeReads.Laws.{starts-inside as type-inside}
+use Rattle.patch_reading.specs.PatchReads.Laws.{starts-inside, leaf-arity}
 use Rattle.typing.proofs.TypingParts.{FirstAnswer, FirstGiven, first-due, first-kept, first-failed, first-given, second-due, second-kept, second-failed, second-small, both-given, both-splits, sequence-first, then-splits, then-refused, parts-due, parts-typed, chain-first, chain-failed, middle-kept, chain-later, chain-second, chain-typed}
 use Rattle.typing.proofs.type_node.Reads as type-node
 use Rattle.typing.proofs.type_node.Kinds as type-node-kinds
@@ -16,7 +16,7 @@ use Rattle.typing.proofs.+type_node+type_parts.Lts-type_node as type-no
 use Rattle.typing.proofs.type_parts.Reads as type-parts
 use Rattle.typing.proofs.type_parts.Kinds as type-parts-kinds
 use Rattle.typing.proofs.+type_node+type_parts.Lts-type_parts as type-parts-lts
-use Rattle.files.proofs.types.skip_type.Reads as skip-type-reads
+use Rattle.reading.proofs.types.skip_type.Reads as skip-type-reads
 use Rattle.writing.proofs.appending.append_kind.Reads as append-kind-reads
 use Rattle.typing.proofs.limit.Reads as limit-reads
 use Rattle.typing.proofs.type_leaf.Reads as type-leaf-reads

@@ -6,7 +6,7 @@ use native.Mathlib.Omega.{arith}
 use Rattle.stream.specs.Types.{empty, seq}
 use Rattle.stream.specs.Types.Laws.{limit-is}
 use Rattle.stream.specs.TypeFiles.{type-bytes}
-use Rattle.files.specs.TypeReads.Laws.{type-width, ends-inside}
+use Rattle.reading.specs.TypeReads.Laws.{type-width, ends-inside}
 use Rattle.node.specs.Checking.{typing}
 use Rattle.writing.specs.Appending.Laws.{nothing-written, written-on}
 use Rattle.typing.specs.Typing.Laws.{type-taken, answers-written}

@@ -4,7 +4,7 @@ use mathlib.Core.Path.{refl}
 use native.Mathlib.Omega.{arith}
 use Rattle.stream.specs.declared.Fault.the-variants.{WrongShape}
 use Rattle.stream.specs.Types.{first-part, second-part}
-use Rattle.files.specs.TypeReads.Laws.{starts-inside, first-at, second-behind}
+use Rattle.reading.specs.TypeReads.Laws.{starts-inside, first-at, second-behind}
 use Rattle.node.specs.Checking.{gives}
 use Rattle.typing.specs.Typing.Laws.{other-shape, same-shape, is-fork, requires-fails, requires-holds}
 use Rattle.typing.proofs.give_second.Statement.{statement}

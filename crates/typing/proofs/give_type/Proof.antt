@@ -1,7 +1,7 @@
 -- `give_type` meets its contract: from `at` up to where `skip_type` says that the type ends stand its bytes, few enough.
 use borrow.Author.Needs.{needs}
 use native.Mathlib.Omega.{arith}
-use Rattle.files.specs.TypeReads.Laws.{ends-inside}
+use Rattle.reading.specs.TypeReads.Laws.{ends-inside}
 use Rattle.writing.specs.Appending.Laws.{nothing-written, written-on}
 use Rattle.typing.specs.Typing.Laws.{type-taken, answers-small}
 use Rattle.typing.proofs.give_type.Statement.{statement}

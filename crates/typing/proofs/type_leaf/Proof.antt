@@ -9,7 +9,7 @@ use Rattle.stream.specs.Levels.{value-bytes}
 use Rattle.stream.specs.TypeFiles.{type-bytes}
 use Rattle.node.specs.Checking.{typing}
 use Rattle.node.specs.PatchFiles.{node-bytes}
-use Rattle.patches.specs.PatchReads.Laws.{starts-inside, kind-listed}
+use Rattle.patch_reading.specs.PatchReads.Laws.{starts-inside, kind-listed}
 use Rattle.typing.proofs.TypingLeaf.{leaf-typed, emitter-typed, carried-type, silent-typed, level-inside, front-left}
 use Rattle.typing.proofs.type_leaf.Statement.{statement}
 use Rattle.typing.proofs.type_leaf.Tie as tie

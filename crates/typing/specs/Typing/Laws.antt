@@ -12,8 +12,8 @@ use Rattle.stream.specs.declared.Fault.the-variants.{TypeTooLarge}
 use Rattle.stream.specs.Types.{Ty, size, type-limit, kind, has-kind}
 use Rattle.stream.specs.Reading.{Result, accepted, refused, require}
 use Rattle.stream.specs.TypeFiles.{type-bytes}
-use Rattle.files.specs.TypeReads.{TypeAt, TypeEnds}
-use Rattle.files.specs.TypeReads.Laws.{type-width, bytes-at, kind-at}
+use Rattle.reading.specs.TypeReads.{TypeAt, TypeEnds}
+use Rattle.reading.specs.TypeReads.Laws.{type-width, bytes-at, kind-at}
 use Rattle.writing.specs.Appending.Laws.{WrittenSoFar}
 use Rattle.node.specs.Nodes.{Node, Small}
 use Rattle.node.specs.Nodes.Laws.{output-small}

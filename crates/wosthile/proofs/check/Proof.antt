@@ -7,8 +7,8 @@ use Prim.Native.Nat.{ℕ}
 use native.Mathlib.Omega.{arith}
 use lib.Seq.{length-take-le}
 use Rattle.stream.specs.TypeFiles.{type-file-bytes}
-use Rattle.patches.specs.PatchReads.Standing.{patch-accepted, patch-refused}
-use Rattle.patches.specs.PatchReads.{AcceptedPatch}
+use Rattle.patch_reading.specs.PatchReads.Standing.{patch-accepted, patch-refused}
+use Rattle.patch_reading.specs.PatchReads.{AcceptedPatch}
 use Rattle.typing.specs.Typing.{TypingDue}
 use Rattle.wosthile.proofs.Keeping.{refusal-keeps, shortage-keeps, file-keeps}
 use Rattle.wosthile.proofs.CheckOutcome.{not-read, TypeGiven, not-typed, type-given, type-section-due, type-section-written}

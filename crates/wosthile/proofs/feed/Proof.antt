@@ -6,8 +6,8 @@ use Prim.Native.Nat.{_+_}
 use native.Mathlib.Omega.{arith}
 use Rattle.writing.specs.Writing.Standing.{slice-accepted, slice-refused}
 use Rattle.node.specs.Checking.{typing}
-use Rattle.patches.specs.PatchReads.{node-width, AcceptedPatch}
-use Rattle.patches.specs.PatchReads.Standing.{patch-accepted, patch-refused}
+use Rattle.patch_reading.specs.PatchReads.{node-width, AcceptedPatch}
+use Rattle.patch_reading.specs.PatchReads.Standing.{patch-accepted, patch-refused}
 use Rattle.typing.specs.Typing.{TypingDue}
 use Rattle.typing.specs.Typing.Laws.{IsGiven, is-given, is-refused}
 use Rattle.wosthile.proofs.FeedOutcome.{refused-keeps, patch-unread, patch-untyped, slice-unread}

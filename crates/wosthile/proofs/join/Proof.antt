@@ -15,9 +15,9 @@ use Rattle.stream.specs.Prefixes.Laws.{derivative-size}
 use Rattle.stream.specs.declared.Fault.{Fault}
 use Rattle.stream.specs.Reading.{accepted, refused}
 use Rattle.stream.specs.SliceFiles.{slice-file, slice-file-bytes}
-use Rattle.files.specs.TypeReads.{TypeAt, AcceptedType}
+use Rattle.reading.specs.TypeReads.{TypeAt, AcceptedType}
 use Rattle.writing.specs.Writing.Standing.{type-accepted, type-refused, slice-accepted, slice-refused, slice-file-size, written-stands, derivative-due, slice-short, joined-width, overlap-less, joined-file-due}
-use Rattle.files.specs.SliceReads.{AcceptedSlice}
+use Rattle.reading.specs.SliceReads.{AcceptedSlice}
 use Rattle.meaning.specs.Answers.{join}
 use Rattle.wosthile.proofs.Keeping.{refusal-keeps, shortage-keeps, file-keeps}
 use Rattle.wosthile.proofs.Opening.{no-type, no-slice, goes-on}

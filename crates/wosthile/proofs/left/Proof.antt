@@ -10,8 +10,8 @@ use Rattle.stream.specs.Prefixes.{derivative}
 use Rattle.stream.specs.Reading.{accepted}
 use Rattle.stream.specs.TypeFiles.{type-file-bytes}
 use Rattle.writing.specs.Writing.Standing.{type-accepted, type-refused, slice-accepted, slice-refused, type-file-size, left-small, left-file-due}
-use Rattle.files.specs.SliceReads.{AcceptedSlice}
-use Rattle.files.specs.TypeReads.{AcceptedType}
+use Rattle.reading.specs.SliceReads.{AcceptedSlice}
+use Rattle.reading.specs.TypeReads.{AcceptedType}
 use Rattle.meaning.specs.Answers.{left}
 use Rattle.wosthile.proofs.Keeping.{refusal-keeps, shortage-keeps, file-keeps}
 use Rattle.wosthile.proofs.Opening.{no-type, no-slice, goes-on}

@@ -2,7 +2,7 @@
 -- array has room for what is left (`FeedOutcome`).
 use borrow.Author.Needs.{needs}
 use native.Mathlib.Omega.{arith}
-use Rattle.patches.specs.PatchReads.Laws.{starts-inside}
+use Rattle.patch_reading.specs.PatchReads.Laws.{starts-inside}
 use Rattle.wosthile.proofs.FeedOutcome.{few-room, nodes-room}
 use Rattle.wosthile.proofs.send_on.Statement.{statement}
 use Rattle.wosthile.proofs.send_on.Tie as tie

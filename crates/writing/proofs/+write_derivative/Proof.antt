@@ -11,9 +11,9 @@ use Rattle.writing.proofs.Derivative.{Inside, FirstWritten, SecondEnds,
 use Rattle.writing.proofs.write_derivative.Reads as write-derivative
 use Rattle.writing.proofs.write_derivative.Kinds as write-derivative-kinds
 use Rattle.writing.proofs.+write_derivative.Lts-write_derivative as lts
-use Rattle.files.proofs.prefixes.leaf_width.Reads as leaf-width-reads
-use Rattle.files.proofs.prefixes.skip_prefix.Reads as skip-prefix-reads
-use Rattle.files.proofs.types.skip_type.Reads as skip-type-reads
+use Rattle.reading.proofs.prefixes.leaf_width.Reads as leaf-width-reads
+use Rattle.reading.proofs.prefixes.skip_prefix.Reads as skip-prefix-reads
+use Rattle.reading.proofs.types.skip_type.Reads as skip-type-reads
 use Rattle.writing.proofs.Moved.new.Reads as new-reads
 use Rattle.writing.proofs.copy.Reads as copy-reads
 use Rattle.writing.proofs.leaf_left.Reads as leaf-left-reads

@@ -3,7 +3,7 @@ use borrow.Author.Needs.{needs}
 use native.Mathlib.Omega.{arith}
 use Prim.Native.Nat.{ℕ, _-_}
 use mathlib.Core.List.{[]}
-use Rattle.files.specs.SliceReads.Laws.{prefix-bytes-length, prefix-inside, prefix-taken}
+use Rattle.reading.specs.SliceReads.Laws.{prefix-bytes-length, prefix-inside, prefix-taken}
 use Rattle.writing.proofs.copy_prefix.Statement.{statement}
 use Rattle.writing.proofs.copy_prefix.Tie as tie
 

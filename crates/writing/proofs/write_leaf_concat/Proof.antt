@@ -3,8 +3,8 @@
 use borrow.Author.Needs.{needs}
 use native.Mathlib.Omega.{arith}
 use mathlib.Core.Path.{sym, _∙_}
-use Rattle.files.specs.SliceReads.{is-unfinished}
-use Rattle.files.specs.SliceReads.Laws.{width-positive, prefix-inside}
+use Rattle.reading.specs.SliceReads.{is-unfinished}
+use Rattle.reading.specs.SliceReads.Laws.{width-positive, prefix-inside}
 use Rattle.writing.proofs.JoiningLeaf.{awaited-due, awaited-written, come-due, come-written}
 use Rattle.writing.proofs.write_leaf_concat.Statement.{statement}
 use Rattle.writing.proofs.write_leaf_concat.Tie as tie

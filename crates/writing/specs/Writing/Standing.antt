@@ -6,12 +6,12 @@ use Prim.Native.Nat.{ℕ, _+_, _-_, _≤_}
 use native.Mathlib.Omega.{arith}
 use lib.ListN.{length, drop}
 use Rattle.stream.specs.declared.Fault.{Fault}
-use Rattle.files.specs.declared.types.TypePlace.{TypePlace}
-use Rattle.files.specs.declared.types.TypeRead.{TypeRead}
-use Rattle.files.specs.declared.types.TypeRead.the-variants.{Whole as WholeType, Refused as RefusedType}
-use Rattle.files.specs.declared.prefixes.Known.{Known}
-use Rattle.files.specs.declared.prefixes.SliceRead.{SliceRead}
-use Rattle.files.specs.declared.prefixes.SliceRead.the-variants.{Whole, Refused}
+use Rattle.reading.specs.declared.types.TypePlace.{TypePlace}
+use Rattle.reading.specs.declared.types.TypeRead.{TypeRead}
+use Rattle.reading.specs.declared.types.TypeRead.the-variants.{Whole as WholeType, Refused as RefusedType}
+use Rattle.reading.specs.declared.prefixes.Known.{Known}
+use Rattle.reading.specs.declared.prefixes.SliceRead.{SliceRead}
+use Rattle.reading.specs.declared.prefixes.SliceRead.the-variants.{Whole, Refused}
 use Rattle.stream.specs.Types.{Ty, size, type-limit}
 use Rattle.stream.specs.Prefixes.{Prefix, derivative}
 use Rattle.stream.specs.Prefixes.Functions.{complete, concat}
@@ -21,10 +21,10 @@ use Rattle.stream.specs.TypeFiles.{type-bytes, type-file-bytes, type-file}
 use Rattle.stream.specs.TypeFiles.Laws.{type-length, type-file-sound}
 use Rattle.stream.specs.SliceFiles.{prefix-bytes, slice-file-bytes, slice-file}
 use Rattle.stream.specs.SliceFiles.Laws.{prefix-length, slice-file-sound}
-use Rattle.files.specs.TypeReads.{type-read, TypeAt, AcceptedType}
-use Rattle.files.specs.TypeReads.Laws.{type-before}
-use Rattle.files.specs.SliceReads.{prefix-width, known, slice-read, ReadsSlice, AcceptedSlice}
-use Rattle.files.specs.SliceReads.Laws.{prefix-bytes-length, overlap-within, concat-width}
+use Rattle.reading.specs.TypeReads.{type-read, TypeAt, AcceptedType}
+use Rattle.reading.specs.TypeReads.Laws.{type-before}
+use Rattle.reading.specs.SliceReads.{prefix-width, known, slice-read, ReadsSlice, AcceptedSlice}
+use Rattle.reading.specs.SliceReads.Laws.{prefix-bytes-length, overlap-within, concat-width}
 use Rattle.stream.specs.Buffers.{at-front}
 use Rattle.writing.specs.Writing.{Stands, DerivativeDue, LeftFileDue, JoinedFileDue}
 use Rattle.stream.specs.Bounds.{slice-file-limit}

@@ -1,0 +1,48 @@
+-- `feed_left` meets its contract: the first side stands behind the kind byte.
+use borrow.Author.Needs.{needs}
+use mathlib.Core.Path.{refl}
+use native.Mathlib.Omega.{arith}
+use Rattle.node.specs.Feeding.Functions.{leaves}
+use Rattle.node.specs.PatchFiles.{node-bytes}
+use Rattle.leaf_feeding.specs.Sending.Laws.{leaf-inside, copy-due, copied}
+use Rattle.leaf_feeding.proofs.PartsSent.{left-part-at}
+use Rattle.leaf_feeding.proofs.feed_left.Statement.{statement}
+use Rattle.leaf_feeding.proofs.feed_left.Tie as tie
+
+add-copy-prefix : tie.Need-add-copy-prefix
+add-copy-prefix c = omega (arith, leaf-inside (c .before .before .before .pre))
+
+copy-prefix-requires : tie.Need-copy-prefix-requires
+copy-prefix-requires c κs =
+    let due = c .before .before .before .before .pre in
+    copy-due due (left-part-at (due .types) (due .is-prefix) (due .prefix-at))
+
+leave-requires : tie.Need-leave-requires
+leave-requires c κs = search needs
+
+same-length : tie.Need-same-length
+same-length c = search needs
+
+same-length-2 : tie.Need-same-length-2
+same-length-2 c = search needs
+
+returns : tie.Need-returns
+unfolding leaves node-bytes
+returns c =
+    let left = c .before .before in
+    let sent = left .before .before .before .before in
+    record {
+      each = λ due.
+          copied due (left-part-at (due .types) (due .is-prefix) (due .prefix-at)) (sent .copy-prefix .ensures) (left .leave .ensures) refl;
+    }
+
+pub feed-left-spec : {M : Type 1} → statement M
+feed-left-spec =
+    tie.close
+    (tie.spec
+    add-copy-prefix
+    copy-prefix-requires
+    leave-requires
+    same-length
+    same-length-2
+    returns)

@@ -1,0 +1,269 @@
+-- The root of a node, by its kind byte: where it ends, how many parts it owes, and which bytes it leaves.
+use mathlib.Core.Path.{_≡_, refl, sym, ap, _∙_}
+use mathlib.Core.List.{List, [], _∷_}
+use Prim.Native.Nat.{ℕ, _+_, _-_, _≤_, _<_}
+use native.Mathlib.Omega.{arith}
+use native.Mathlib.Numerals.{add-one}
+use lib.ListN.{length, getD, drop, length-drop, drop-of-length-le, List·getD-eq-default}
+use lib.Seq.{drop-cons, drop-drop}
+use Rattle.stream.specs.declared.Fault.{Fault}
+use Rattle.stream.specs.declared.Fault.the-variants.{CutShort, Unlisted, TooManyNodes}
+use Rattle.reading.specs.declared.sections.TreeEnd.{TreeEnd}
+use Rattle.reading.specs.declared.sections.TreeEnd.the-variants.{At, Failed}
+use Rattle.stream.specs.Types.{Ty, size}
+use Rattle.stream.specs.Levels.{value-bytes, read-value}
+use Rattle.stream.specs.Levels.Laws.{value-length, value-sound}
+use Rattle.stream.specs.Reading.{Bytes, Reading, read, fault, read-on, Root, leaf, two-parts}
+use Rattle.stream.specs.Reading.Laws.{_&_, past, every, bytes-drop}
+use Rattle.stream.specs.Reading.Walking.{Owes, MakesOne, leaf-makes, two-makes}
+use Rattle.stream.specs.TypeFiles.{read-type}
+use Rattle.stream.specs.TypeFiles.Laws.{type-length, read-type-sound}
+use Rattle.reading.specs.Sections.{end-of}
+use Rattle.reading.specs.Sections.Laws.{failed, Within, tree-within}
+use Rattle.reading.specs.TypeReads.Laws.{type-drop, read-type-within}
+use Rattle.node.specs.Nodes.{Node, pass, silent, emit-cue, emit-level, both, left-side, right-side, first, second, then, chain, regroup-right, regroup-left, spread, front, node-limit}
+use Rattle.node.specs.PatchFiles.{node-kinds, node-root, read-node}
+use Rattle.patch_reading.specs.PatchReads.{node-arity}
+use Rattle.patch_reading.specs.PatchReads.Laws.{leaf-arity}
+
+-- A tree ends within the bytes that it was read from.
+pub ends-within : {A : Type 0} (n : ℕ) (g : Reading A) (k : ℕ) → end-of n g ≡ At k → k ≤ n
+unfolding end-of
+ends-within n (read a r) k h = let e : n - length r ≡ k = cc in omega arith
+ends-within n (fault e) k h = let z : _≡_ {A = ℕ} 0 1 = cc in absurd (omega arith)
+
+-- What a kind byte may begin; the second number is how many parts the root owes.
+abbrev ReadsRoot : Type 0
+ReadsRoot = List ℕ → Reading (Root (Unit {0}) Node)
+
+abbrev carried : ReadsRoot
+carried s = read-on (read-type s) (λ n r. leaf (silent n) r)
+
+abbrev valued : ReadsRoot
+valued s = read-on (read-value CutShort s) (λ v r. leaf (emit-level v) r)
+
+data Shape : ℕ → ℕ → ReadsRoot → Type 0 where
+  plain : {k : ℕ} (n : Node) → Shape k 0 (leaf n)
+  carries : Shape 1 0 carried
+  values : Shape 3 0 valued
+  forks : {k : ℕ} (f : Node → Node → Node) → Shape k 2 (two-parts f tt tt)
+  unlisted : {k : ℕ} → 15 ≤ k → Shape k 0 (λ s. fault Unlisted)
+
+abbrev kind-root : ℕ → ReadsRoot
+kind-root k = getD node-kinds k (λ r. fault Unlisted)
+
+shape : (k : ℕ) → Shape k (node-arity k) (kind-root k)
+shape =
+    every (λ k f. Shape k (node-arity k) f) (λ r. fault Unlisted) node-kinds
+    (plain pass & carries & plain emit-cue & values & forks both
+    & plain left-side & plain right-side & plain first & plain second & forks then & forks chain
+    & plain regroup-right & plain regroup-left & plain spread & plain front
+    & past none)
+  where
+    none : (k : ℕ) → 15 ≤ k → Shape k (node-arity k) (λ r. fault Unlisted)
+    none k h = rw (leaf-arity k (λ e. omega arith) (λ e. omega arith) (λ e. omega arith)) (unlisted h)
+
+arity-of : {k parts : ℕ} {f : ReadsRoot} → Shape k parts f → parts ≤ 2
+arity-of (plain n) = omega arith
+arity-of carries = omega arith
+arity-of values = omega arith
+arity-of (forks f) = omega arith
+arity-of (unlisted h) = omega arith
+
+pub few-parts : (k : ℕ) → node-arity k ≤ 2
+few-parts k = arity-of (shape k)
+
+-- Each root makes one tree.
+
+leaf-after : {A : Type 0} (g : Reading A) (make : A → Node) → MakesOne {W = Unit {0}} (read-on g (λ a r. leaf (make a) r))
+leaf-after (read a r) make = leaf-makes {W = Unit {0}} tt (make a) r
+leaf-after (fault e) make = tt
+
+makes : {k parts : ℕ} {f : ReadsRoot} → Shape k parts f → (s : List ℕ) → MakesOne (f s)
+makes (plain n) s = leaf-makes {W = Unit {0}} tt n s
+makes carries s = leaf-after (read-type s) silent
+makes values s = leaf-after (read-value CutShort s) emit-level
+makes (forks f) s = two-makes {W = Unit {0}} f tt tt s
+makes (unlisted h) s = tt
+
+pub makes-one : (w : Unit {0}) (s : List ℕ) → MakesOne (node-root w s)
+unfolding node-root
+makes-one w [] = tt
+makes-one w (k ∷ s) = makes (shape k) s
+
+-- None leaves more bytes than there were.
+
+within-after : {A : Type 0} (k : ℕ) (s : List ℕ) (g : Reading A) (make : A → Node) → Within s g
+    → Within (k ∷ s) (read-on g (λ a r. leaf {W = Unit {0}} (make a) r))
+within-after k s (read a r) make h = omega arith
+within-after k s (fault e) make h = tt
+
+value-within : (s : List ℕ) → Within s (read-value CutShort s)
+unfolding read-value
+value-within [] = tt
+value-within (a ∷ []) = tt
+value-within (a ∷ b ∷ s) = omega arith
+
+within : {k parts : ℕ} {f : ReadsRoot} → Shape k parts f → (s : List ℕ) → Within (k ∷ s) (f s)
+within (plain n) s = omega arith
+within carries s = within-after 1 s (read-type s) silent (read-type-within s)
+within values s = within-after 3 s (read-value CutShort s) emit-level (value-within s)
+within (forks f) s = omega arith
+within (unlisted h) s = tt
+
+root-within : (w : Unit {0}) (s : List ℕ) → Within s (node-root w s)
+unfolding node-root
+root-within w [] = tt
+root-within w (k ∷ s) = within (shape k) s
+
+pub node-within : (s : List ℕ) → Within s (read-node s)
+unfolding read-node
+node-within s = tree-within TooManyNodes node-root root-within node-limit tt s
+
+-- A type, or a value, behind the kind byte.
+
+module _ (m : ℕ) (s : List ℕ) where
+  carried-fails : (e : Fault) → end-of (length s) (read-type s) ≡ Failed e → end-of m (carried s) ≡ Failed e
+  unfolding end-of
+  carried-fails e h = rw (failed (length s) (read-type s) e h)
+
+  carried-ends : length s ≤ m → (k : ℕ) → end-of (length s) (read-type s) ≡ At k → end-of m (carried s) ≡ At (m - length s + k)
+  unfolding end-of
+  carried-ends h k told = go (read-type s) (read-type-within s) told
+    where
+      go : (g : Reading Ty) → Within s g → end-of (length s) g ≡ At k
+          → end-of m (read-on g (λ n r. leaf {W = Unit {0}} (silent n) r)) ≡ At (m - length s + k)
+      go (read t r) w told = let e : length s - length r ≡ k = cc in ap At (omega arith)
+      go (fault e) w told = let z : _≡_ {A = ℕ} 0 1 = cc in absurd (omega arith)
+
+valued-fails : (m : ℕ) (s : List ℕ) → length s < 2 → end-of m (valued s) ≡ Failed CutShort
+unfolding end-of read-value
+valued-fails m [] h = refl
+valued-fails m (a ∷ []) h = refl
+valued-fails m (a ∷ b ∷ s) h = absurd (omega arith)
+
+valued-ends : (m : ℕ) (s : List ℕ) → 2 ≤ length s → length s ≤ m → end-of m (valued s) ≡ At (m - length s + 2)
+unfolding end-of read-value
+valued-ends m [] h l = absurd (omega arith)
+valued-ends m (a ∷ []) h l = absurd (omega arith)
+valued-ends m (a ∷ b ∷ s) h l = ap At (omega arith)
+
+plain-ends : {k parts : ℕ} {f : ReadsRoot} → Shape k parts f → (k ≡ 1 → ⊥) → (k ≡ 3 → ⊥) → k < 15
+    → (m : ℕ) (s : List ℕ) → end-of m (f s) ≡ At (m - length s)
+unfolding end-of
+plain-ends (plain n) one three h m s = refl
+plain-ends carries one three h m s = absurd (one refl)
+plain-ends values one three h m s = absurd (three refl)
+plain-ends (forks f) one three h m s = refl
+plain-ends (unlisted l) one three h m s = absurd (omega arith)
+
+-- A root was read at the front of s, before which m - length s bytes stand: it ends at `end` and leaves what stands there.
+record Leaves (parts m : ℕ) (s : List ℕ) (g : Reading (Root (Unit {0}) Node)) (end : ℕ) : Type 0 where
+  width : ℕ
+  inside : width ≤ length s
+  place : end ≡ m - length s + width
+  owes : Owes tt parts (drop width s) g
+
+module _ (m : ℕ) (s : List ℕ) (l : length s ≤ m) (end : ℕ) where
+  leaves-after : {A : Type 0} (g : Reading A) (make : A → Node)
+      → ((a : A) (r : List ℕ) → g ≡ read a r → (w : ℕ) × (w ≤ length s) × (r ≡ drop w s))
+      → end-of m (read-on g (λ a r. leaf {W = Unit {0}} (make a) r)) ≡ At end → Leaves 0 m s (read-on g (λ a r. leaf (make a) r)) end
+  unfolding end-of
+  leaves-after (fault e) make h k = let z : _≡_ {A = ℕ} 0 1 = cc in absurd (omega arith)
+  leaves-after (read a r) make h k =
+      let (w, inside, e) = h a r refl in
+      let n : m - length r ≡ end = cc in
+      record { width = w; inside = inside; place = omega (arith, simp length-drop at (ap length e)); owes = (_, ap (leaf (make a)) e, refl) }
+
+  leaves : {k parts : ℕ} {f : ReadsRoot} → Shape k parts f → Bytes s → end-of m (f s) ≡ At end → Leaves parts m s (f s) end
+  unfolding end-of value-bytes
+  leaves (plain n) b h = let e : m - length s ≡ end = cc in record { width = 0; inside = omega arith; place = omega arith; owes = (_, refl, refl) }
+  leaves carries b h = leaves-after (read-type s) silent behind h
+    where
+      behind : (t : Ty) (r : List ℕ) → read-type s ≡ read t r → (w : ℕ) × (w ≤ length s) × (r ≡ drop w s)
+      behind t r e =
+          let f = read-type-sound s t r b e in
+          (size t, omega (arith, type-length t r, ap length (f .bytes)), rw (← f .bytes) (sym (type-drop t r)))
+  leaves values b h = leaves-after (read-value CutShort s) emit-level behind h
+    where
+      behind : (v : ℕ) (r : List ℕ) → read-value CutShort s ≡ read v r → (w : ℕ) × (w ≤ length s) × (r ≡ drop w s)
+      behind v r e =
+          let f = value-sound CutShort s v r b e in
+          (2, omega (arith, value-length v r, ap length (f .bytes)), rw (← f .bytes) refl)
+  leaves (forks f) b h = let e : m - length s ≡ end = cc in record { width = 0; inside = omega arith; place = omega arith; owes = (_, refl, refl) }
+  leaves (unlisted i) b h = let z : _≡_ {A = ℕ} 0 1 = cc in absurd (omega arith)
+
+-- The root at a place.
+module _ (s : List ℕ) (at : ℕ) where
+  abbrev pub root-end : TreeEnd
+  root-end = end-of (length s) (node-root tt (drop at s))
+
+  pub cut-short : at ≡ length s → root-end ≡ Failed CutShort
+  unfolding end-of node-root
+  cut-short e =
+      let h : length s ≤ at = omega arith in
+      let z : drop at s ≡ [] = drop-of-length-le s h in
+      rw z
+
+  module _ (inside : at < length s) where
+    root-at : node-root tt (drop at s) ≡ kind-root (getD s at 0) (drop (at + 1) s)
+    unfolding node-root
+    root-at = rw (drop-cons s at 0 inside, add-one)
+
+    by-kind : root-end ≡ end-of (length s) (kind-root (getD s at 0) (drop (at + 1) s))
+    by-kind = ap (end-of (length s)) root-at
+
+    behind-kind : length s - length (drop (at + 1) s) ≡ at + 1
+    behind-kind = simp length-drop (omega arith)
+
+    pub plain-end : (getD s at 0 ≡ 1 → ⊥) → (getD s at 0 ≡ 3 → ⊥) → getD s at 0 < 15 → root-end ≡ At (at + 1)
+    plain-end one three h =
+        by-kind ∙ plain-ends (shape (getD s at 0)) one three h (length s) (drop (at + 1) s) ∙ ap At behind-kind
+
+    pub unlisted-end : 15 ≤ getD s at 0 → root-end ≡ Failed Unlisted
+    unfolding end-of
+    unlisted-end h =
+        let e : kind-root (getD s at 0) ≡ (λ r. fault Unlisted) = List·getD-eq-default node-kinds _ h in
+        by-kind ∙ ap (λ f. end-of (length s) (f (drop (at + 1) s))) e
+
+    module _ (one : getD s at 0 ≡ 1) where
+      pub type-failed : (e : Fault) → end-of (length (drop (at + 1) s)) (read-type (drop (at + 1) s)) ≡ Failed e → root-end ≡ Failed e
+      type-failed e h = by-kind ∙ rw one (carried-fails (length s) (drop (at + 1) s) e h)
+
+      pub type-ended : (k : ℕ) → end-of (length (drop (at + 1) s)) (read-type (drop (at + 1) s)) ≡ At k → root-end ≡ At (at + 1 + k)
+      type-ended k h =
+          let l : length (drop (at + 1) s) ≤ length s = simp length-drop (omega arith) in
+          by-kind ∙ rw one (carried-ends (length s) (drop (at + 1) s) l k h) ∙ ap (λ n. At (n + k)) behind-kind
+
+    module _ (three : getD s at 0 ≡ 3) where
+      pub value-failed : length s - (at + 1) < 2 → root-end ≡ Failed CutShort
+      value-failed h = by-kind ∙ rw three (valued-fails (length s) (drop (at + 1) s) (simp length-drop h))
+
+      pub value-ended : 2 ≤ length s - (at + 1) → root-end ≡ At (at + 1 + 2)
+      value-ended h =
+          let l : length (drop (at + 1) s) ≤ length s = simp length-drop (omega arith) in
+          by-kind ∙ rw three (valued-ends (length s) (drop (at + 1) s) (simp length-drop h) l) ∙ ap (λ n. At (n + 2)) behind-kind
+
+  -- A root that ends at `end` was read.
+  pub record RootRead (end : ℕ) : Type 0 where
+    pub starts-inside : at < length s
+    pub ends-inside : end ≤ length s
+    pub owes : Owes tt (node-arity (getD s at 0)) (drop end s) (node-root tt (drop at s))
+
+  pub root-read : (end : ℕ) → Bytes s → root-end ≡ At end → RootRead end
+  unfolding end-of node-root
+  root-read end b h = go (drop at s) refl
+    where
+      go : (r : List ℕ) → drop at s ≡ r → RootRead end
+      go [] e = let f = rw e at h in let z : _≡_ {A = ℕ} 0 1 = cc in absurd (omega arith)
+      go (k ∷ r) e =
+          let inside : at < length s = omega (arith, simp length-drop at (ap length e)) in
+          let l : length (drop (at + 1) s) ≤ length s = simp length-drop (omega arith) in
+          let v = leaves (length s) (drop (at + 1) s) l end (shape (getD s at 0)) (bytes-drop (at + 1) s b) (sym (by-kind inside) ∙ h) in
+          let e : at + 1 + v .width ≡ end = omega (arith, v .place, behind-kind inside) in
+          let there = drop-drop (v .width) (at + 1) s ∙ ap (λ n. drop n s) e in
+          record {
+            starts-inside = inside;
+            ends-inside = omega (arith, v .place, v .inside, behind-kind inside, length-drop (at + 1) s);
+            owes = rw (root-at inside, ← there) (v .owes);
+          }

@@ -1,0 +1,124 @@
+-- `root_end` meets its contract: the kind byte says whether a type, a value or nothing stands behind it (`NodeRoots`), and
+-- `type_end` says where the type ends.
+use borrow.Author.Needs.{needs}
+use mathlib.Core.Path.{_≡_, sym, _∙_}
+use mathlib.Core.List.{List}
+use Prim.Native.Nat.{ℕ, _+_, _-_, _≤_}
+use native.Mathlib.Omega.{arith}
+use lib.ListN.{length, drop, length-drop}
+use lib.Seq.{take-all}
+use Rattle.stream.specs.TypeFiles.{read-type}
+use Rattle.reading.specs.Sections.{end-of}
+use Rattle.patch_reading.proofs.NodeRoots.{ends-within, cut-short, plain-end, unlisted-end, type-failed, type-ended, value-failed, value-ended}
+use Rattle.patch_reading.proofs.root_end.Statement.{statement}
+use Rattle.patch_reading.proofs.root_end.Tie as tie
+
+returns : tie.Need-returns
+returns c = sym (cut-short (c .before .before .args .bytes .now) (c .before .before .args .at) (c .if1 .taken))
+
+add-next : tie.Need-add-next
+add-next c = search needs
+
+shared-slice-read-match : tie.Need-shared-slice-read-match
+shared-slice-read-match c = search needs
+
+sub-type-end : tie.Need-sub-type-end
+sub-type-end c = search needs
+
+part-type-end-start : tie.Need-part-type-end-start
+part-type-end-start c = search needs
+
+part-type-end-end : tie.Need-part-type-end-end
+part-type-end-end c = search needs
+
+type-end-requires : tie.Need-type-end-requires
+type-end-requires c κs = search needs
+
+enum-known-fault : tie.Need-enum-known-fault
+enum-known-fault c = search needs
+
+enum-known-read : tie.Need-enum-known-read
+enum-known-read c = search needs
+
+-- What is known at the kind byte, and once `type_end` has answered.
+abbrev bytes : tie.After-shared-slice-known2 → List ℕ
+bytes c = c .before .before .before .args .bytes .now
+
+abbrev place : tie.After-shared-slice-known2 → ℕ
+place c = c .before .before .before .args .at
+
+abbrev behind : tie.After-shared-slice-known2 → List ℕ
+behind c = drop (place c + 1) (bytes c)
+
+ended : (c : tie.After-type-end) → end-of (length (behind (c .before .before .before))) (read-type (behind (c .before .before .before))) ≡ c .type-end .result
+ended c =
+    let a = c .before .before .before in
+    let h : length (behind a) ≤ length (bytes a) - (place a + 1) = simp length-drop (omega arith) in
+    sym (rw (take-all (length (bytes a) - (place a + 1)) (behind a) h) at (c .type-end .ensures))
+
+add-t19 : tie.Need-add-t19
+add-t19 c =
+    let e = c .before .before .before in
+    let f = ends-within _ _ _ (ended e ∙ c .before .read .given .1) in
+    omega (arith, f, length-drop (place (e .before .before .before) + 1) (bytes (e .before .before .before)))
+
+sub-if2 : tie.Need-sub-if2
+sub-if2 c = search needs
+
+add-t24 : tie.Need-add-t24
+add-t24 c = search needs
+
+returns-2 : tie.Need-returns-2
+returns-2 c =
+    let e = c .before .before .before in
+    let a = e .before .before .before in
+    sym (type-failed (bytes a) (place a) (omega arith) (omega arith) _ (ended e ∙ c .before .fault .given .1))
+
+returns-3 : tie.Need-returns-3
+returns-3 c =
+    let e = c .before .before .before in
+    let a = e .before .before .before in
+    sym (type-ended (bytes a) (place a) (omega arith) (omega arith) _ (ended e ∙ c .before .read .given .1))
+
+returns-4 : tie.Need-returns-4
+returns-4 c =
+    let a = c .before .before in
+    sym (value-failed (bytes a) (place a) (omega arith) (c .before .match .keys2) (c .if2 .taken))
+
+returns-5 : tie.Need-returns-5
+returns-5 c =
+    let a = c .before .before in
+    sym (value-ended (bytes a) (place a) (omega arith) (c .before .match .keys2) (omega arith))
+
+returns-6 : tie.Need-returns-6
+returns-6 c =
+    let a = c .before .before in
+    sym (plain-end (bytes a) (place a) (omega arith) (c .before .match .rest .0 .1) (c .before .match .rest .1) (c .if3 .taken))
+
+returns-7 : tie.Need-returns-7
+returns-7 c =
+    let a = c .before .before in
+    sym (unlisted-end (bytes a) (place a) (omega arith) (omega arith))
+
+pub root-end-spec : {M : Type 1} → statement M
+root-end-spec =
+    tie.close
+    (tie.spec
+    returns
+    add-next
+    shared-slice-read-match
+    sub-type-end
+    part-type-end-start
+    part-type-end-end
+    type-end-requires
+    enum-known-fault
+    enum-known-read
+    add-t19
+    sub-if2
+    add-t24
+    returns-2
+    returns-3
+    returns-4
+    returns-5
+    returns-6
+    returns-7)

@@ -1,0 +1,46 @@
+-- What the reader of patch files tells its caller: where a patch stands, or the first fault.
+use mathlib.Core.Path.{_≡_}
+use mathlib.Core.List.{List, [], _∷_}
+use Prim.Native.Nat.{ℕ, _+_, _≤_}
+use lib.ListN.{length, getD, drop}
+use Rattle.reading.specs.TypeReads.{in-file, TypeAt}
+use Rattle.stream.specs.Types.{size}
+use Rattle.stream.specs.Reading.{Result, accepted, refused}
+use Rattle.node.specs.Nodes.{Node, Patch, count, node-limit}
+use Rattle.node.specs.Nodes.Functions.{Carries}
+use Rattle.node.specs.PatchFiles.{node-bytes, first-pass}
+use Rattle.patch_reading.specs.declared.PatchPlace.{PatchPlace}
+use Rattle.patch_reading.specs.declared.PatchRead.{PatchRead}
+use Rattle.patch_reading.specs.declared.PatchRead.the-variants.{Whole, Refused}
+pub mod Laws
+pub mod Standing
+
+-- How many parts a node's kind has.
+abbrev pub node-arity : ℕ → ℕ
+node-arity k = getD (0 ∷ 0 ∷ 0 ∷ 0 ∷ 2 ∷ 0 ∷ 0 ∷ 0 ∷ 0 ∷ 2 ∷ 2 ∷ []) k 0
+
+-- The input type of a patch file stands behind the two bytes of its section's count, and the nodes behind those of theirs.
+abbrev pub in-patch-file : Patch → PatchPlace
+in-patch-file p = record { input = in-file (p .input); nodes = 2 + size (p .input) + 2 }
+
+unfoldable pub patch-read : Result Patch → PatchRead
+patch-read (accepted p) = Whole (in-patch-file p)
+patch-read (refused e) = Refused e
+
+-- The number of a node's bytes.
+abbrev pub node-width : Node → ℕ
+node-width n = length (node-bytes n [])
+
+-- A node stands at a place of some bytes, and what it carries is within the limits; what stands behind it is free.
+pub record NodeAt (bytes : List ℕ) (at : ℕ) (n : Node) : Type 0 where
+  pub rest : List ℕ
+  pub here : drop at bytes ≡ node-bytes n rest
+  pub carries : Carries n
+
+-- A patch file that its reader accepts.
+pub record AcceptedPatch (file : List ℕ) (place : PatchPlace) : Type 0 where
+  pub patch : Patch
+  pub is-accepted : first-pass file ≡ accepted patch
+  pub type-at : TypeAt file (place .input .start) (patch .input)
+  pub node-at : NodeAt file (place .nodes) (patch .node)
+  pub few : count (patch .node) ≤ node-limit

@@ -1,0 +1,138 @@
+// Check's first pass: whether a file is a patch file, and where its parts stand.
+use reading::sections::TreeEnd;
+use reading::sections::fill;
+use reading::sections::section_end;
+use reading::types::TypePlace;
+use reading::types::type_end;
+use reading::types::type_section_end;
+use stream::Fault;
+ghost use mathlib.Core.Path.{_≡_};
+ghost use Prim.Native.Nat.{_≤_};
+ghost use lib.ListN.{length, drop};
+ghost use Rattle.reading.specs.Sections.{end-of};
+ghost use Rattle.node.specs.PatchFiles.{node-root, read-node, node-section, first-pass};
+ghost use Rattle.patch_reading.specs.PatchReads.{node-arity, patch-read};
+
+// Where a patch stands in its file: its input type, and from `nodes` to the end its nodes.
+pub struct PatchPlace {
+    pub input: TypePlace,
+    pub nodes: usize,
+}
+
+impl PatchPlace {
+    // "At most 63 nodes in a patch."
+    pub const MAX_NODES: usize = 63;
+
+    // The nodes of a patch have at most so many bytes: 31 nodes with parts, and 32 silents with the largest type.
+    pub const MAX_NODE_BYTES: usize = 8223;
+
+    // No patch file is longer: both counts, and an input type of 255 nodes.
+    pub const MAX_FILE: usize = 8482;
+
+    // Only the place: that a patch stands there is for whoever made it to know.
+    pub fn new(input: TypePlace, nodes: usize) -> PatchPlace
+        ensures { λ r. ⌜ r ≡ record { input = input; nodes = nodes } ⌝ }
+    {
+        PatchPlace { input, nodes }
+    }
+}
+
+// How many parts a node's kind has.
+fn node_arity(kind: u8) -> usize
+    ensures { λ r. ⌜ r ≡ node-arity kind ⌝ }
+{
+    match kind {
+        4 => 2,
+        9 => 2,
+        10 => 2,
+        _ => 0,
+    }
+}
+
+// Where the root of the node at `at` ends: its kind byte, and a type or a value behind it.
+fn root_end(bytes: &[u8], at: usize) -> TreeEnd
+    requires { ⌜ at ≤ length (now bytes) ⌝ }
+    ensures { λ r. ⌜ r ≡ end-of (length (now (bytes .entry))) (node-root tt (drop at (now (bytes .entry)))) ⌝ }
+{
+    let length = bytes.len();
+    if at == length {
+        return TreeEnd::Failed(Fault::CutShort);
+    }
+    let next = at + 1;
+    match bytes[at] {
+        1 => match type_end(&bytes[next..]) {
+            TreeEnd::Failed(fault) => TreeEnd::Failed(fault),
+            TreeEnd::At(read) => TreeEnd::At(next + read),
+        },
+        3 => {
+            if length - next < 2 {
+                TreeEnd::Failed(Fault::CutShort)
+            } else {
+                TreeEnd::At(next + 2)
+            }
+        }
+        15..=255 => TreeEnd::Failed(Fault::Unlisted),
+        _ => TreeEnd::At(next),
+    }
+}
+
+// Where the node at the front of the bytes ends. What stands behind it is not looked at.
+pub fn node_end(bytes: &[u8]) -> TreeEnd
+    ensures { λ r. ⌜ r ≡ end-of (length (now (bytes .entry))) (read-node (now (bytes .entry))) ⌝ }
+{
+    let mut owed: usize = 1;
+    let mut count: usize = 0;
+    let mut at: usize = 0;
+    while 0 < owed {
+        // The limit is tried before the end of the bytes. A type that silent carries does not count.
+        if count == PatchPlace::MAX_NODES {
+            return TreeEnd::Failed(Fault::TooManyNodes);
+        }
+        match root_end(bytes, at) {
+            TreeEnd::Failed(fault) => {
+                return TreeEnd::Failed(fault);
+            }
+            TreeEnd::At(end) => {
+                owed = owed - 1 + node_arity(bytes[at]);
+                count += 1;
+                at = end;
+            }
+        }
+    }
+    TreeEnd::At(at)
+}
+
+// Where the section at the front of the bytes ends, if a node fills it.
+fn node_section_end(bytes: &[u8]) -> TreeEnd
+    ensures { λ r. ⌜ r ≡ end-of (length (now (bytes .entry))) (node-section (now (bytes .entry))) ⌝ }
+{
+    match section_end(bytes) {
+        TreeEnd::Failed(fault) => TreeEnd::Failed(fault),
+        TreeEnd::At(end) => fill(end, node_end(&bytes[2..end])),
+    }
+}
+
+// What became of a patch file: where its patch stands in it, or why it is refused.
+pub enum PatchRead {
+    Whole(PatchPlace),
+    Refused(Fault),
+}
+
+// Whether the bytes are a patch file, and where its parts stand; otherwise the first fault. Any bytes may be handed in.
+pub fn read_patch_file(file: &[u8]) -> PatchRead
+    ensures { λ r. ⌜ r ≡ patch-read (first-pass (now (file .entry))) ⌝ }
+{
+    match type_section_end(file) {
+        TreeEnd::Failed(fault) => PatchRead::Refused(fault),
+        TreeEnd::At(type_end) => match node_section_end(&file[type_end..]) {
+            TreeEnd::Failed(fault) => PatchRead::Refused(fault),
+            TreeEnd::At(read) => {
+                if type_end + read < file.len() {
+                    PatchRead::Refused(Fault::LeftOver)
+                } else {
+                    PatchRead::Whole(PatchPlace::new(TypePlace::new(2, type_end), type_end + 2))
+                }
+            }
+        },
+    }
+}

@@ -1,0 +1,215 @@
+-- `walk_prefix` meets its contract: the byte at `from` says whether a prefix can begin there (`Begins`) and whether it has
+-- parts (`Forks`), and the walks through the parts, which stand further on in the types' bytes, say how it ends.
+use borrow.Author.Needs.{needs}
+use borrow.Author.Tests.{not-true, not-false}
+use native.Mathlib.Omega.{arith}
+use mathlib.Core.Path.{sym, _∙_}
+use Prim.Native.Nat.{ℕ, _-_, _<_, _≤_}
+use lib.ListN.{length}
+use Rattle.reading.specs.TypeReads.{SomeTypeAt}
+use Rattle.reading.specs.TypeReads.Laws.{starts-inside}
+use Rattle.reading.proofs.SliceWalk.{cut-short, unlisted, misplaced, Begins, leaf-walks, Forks, first-stands, first-failed, Halfway, first-came, second-stands, further, first-sums, both-sums, still-first, crossing, both-come}
+use borrow.Fn.Kinds.{In}
+use borrow.Fn.PlainCycle.{Measures, is, falls, and}
+use Rattle.reading.proofs.prefixes.walk_prefix.Reads as walk-prefix
+use Rattle.reading.proofs.prefixes.walk_prefix.Kinds as walk-prefix-kinds
+use Rattle.reading.proofs.prefixes.+walk_prefix.Lts-walk_prefix as lts
+use Rattle.reading.proofs.prefixes.belongs.Reads as belongs-reads
+use Rattle.reading.proofs.prefixes.beside.Reads as beside-reads
+use Rattle.reading.proofs.prefixes.first_complete.Reads as first-complete-reads
+use Rattle.reading.proofs.prefixes.in_first.Reads as in-first-reads
+use Rattle.reading.proofs.prefixes.walk_leaf.Reads as walk-leaf-reads
+use Rattle.reading.proofs.types.skip_type.Reads as skip-type-reads
+use Rattle.reading.proofs.prefixes.+walk_prefix.{statement}
+use Rattle.reading.proofs.prefixes.+walk_prefix.Tie.{close}
+
+abbrev μ-walk-prefix : Measures 2 walk-prefix-kinds.ps ℕ
+μ-walk-prefix κs a = length (a .0 .now) - a .1 .0
+
+abbrev walk-prefix-at : ℕ → In 2 walk-prefix-kinds.ps
+walk-prefix-at t =
+    and 2 walk-prefix-kinds.ps (is 2 walk-prefix-kinds.ps μ-walk-prefix t) walk-prefix.Pre
+
+abbrev walk-prefix-below : ℕ → In 2 walk-prefix-kinds.ps
+walk-prefix-below t =
+    and 2 walk-prefix-kinds.ps (falls 2 walk-prefix-kinds.ps _<_ μ-walk-prefix t) walk-prefix.Pre
+
+abbrev calls : ℕ → lts.Claims
+calls t = (
+  belongs-reads.Asked,
+  belongs-reads.Learnt,
+  walk-leaf-reads.Asked,
+  walk-leaf-reads.Learnt,
+  first-complete-reads.Asked,
+  first-complete-reads.Learnt,
+  walk-prefix-below t,
+  walk-prefix.Post,
+  skip-type-reads.Asked,
+  skip-type-reads.Learnt,
+  in-first-reads.Asked,
+  in-first-reads.Learnt,
+  beside-reads.Asked,
+  beside-reads.Learnt,
+)
+
+module _ (t : ℕ) where
+  returns : lts.Need-returns (calls t) (walk-prefix-at t) walk-prefix.Post
+  returns c = cut-short (c .before .before .before .pre .1 .0 .stands) _ _ _ (c .if1 .taken)
+
+  shared-slice-read-kind : lts.Need-shared-slice-read-kind (calls t) (walk-prefix-at t) walk-prefix.Post
+  shared-slice-read-kind c = search needs
+
+  returns-2 : lts.Need-returns-2 (calls t) (walk-prefix-at t) walk-prefix.Post
+  returns-2 c = unlisted (c .before .before .before .before .before .pre .1 .0 .stands) _ _ _ (omega arith) (c .if2 .taken)
+
+  shared-slice-read-belongs : lts.Need-shared-slice-read-belongs (calls t) (walk-prefix-at t) walk-prefix.Post
+  shared-slice-read-belongs c = starts-inside (c .before .before .before .before .before .before .pre .1 .0 .stands)
+
+  belongs-requires : lts.Need-belongs-requires (calls t) (walk-prefix-at t) walk-prefix.Post
+  belongs-requires c κs = search needs
+
+  returns-3 : lts.Need-returns-3 (calls t) (walk-prefix-at t) walk-prefix.Post
+  returns-3 c =
+      misplaced (c .before .before .before .before .before .before .before .before .pre .1 .0 .stands) _ _ _ (omega arith) (omega arith)
+      (sym (not-true _ (c .if3 .taken)) ∙ c .before .belongs .ensures)
+
+  -- The byte's kind belongs there.
+  abbrev start : lts.Else3 (calls t) (walk-prefix-at t) walk-prefix.Post → lts.Start (calls t) (walk-prefix-at t) walk-prefix.Post
+  start c = c .before .before .before .before .before .before .before .before
+
+  begins : (c : lts.Else3 (calls t) (walk-prefix-at t) walk-prefix.Post)
+      → let z = start c in
+      Begins (z .args .types .now) (z .args .at) (z .pre .1 .0 .type) (z .args .slice .now) (z .args .from) (z .args .complete)
+  begins c =
+      record {
+        stands = start c .pre .1 .0 .stands;
+        bytes = λ i. omega (arith, c .before .before .before .before .before .before .shared-slice-known2 .given i);
+        more = omega arith;
+        listed = omega arith;
+        fits = sym (not-false _ (c .if3 .left)) ∙ c .before .belongs .ensures;
+      }
+
+  add-walk-leaf : lts.Need-add-walk-leaf (calls t) (walk-prefix-at t) walk-prefix.Post
+  add-walk-leaf c = omega (arith, starts-inside (begins (c .before) .stands))
+
+  walk-leaf-requires : lts.Need-walk-leaf-requires (calls t) (walk-prefix-at t) walk-prefix.Post
+  walk-leaf-requires c κs = omega arith
+
+  returns-4 : lts.Need-returns-4 (calls t) (walk-prefix-at t) walk-prefix.Post
+  returns-4 c = rw (c .walk-leaf .ensures) (leaf-walks (begins (c .before .before)) (omega arith))
+
+  first-complete-requires : lts.Need-first-complete-requires (calls t) (walk-prefix-at t) walk-prefix.Post
+  first-complete-requires c κs = search needs
+
+  add-walk-prefix : lts.Need-add-walk-prefix (calls t) (walk-prefix-at t) walk-prefix.Post
+  add-walk-prefix c = omega (arith, starts-inside (begins (c .before .before) .stands))
+
+  add-walk-prefix-2 : lts.Need-add-walk-prefix-2 (calls t) (walk-prefix-at t) walk-prefix.Post
+  add-walk-prefix-2 c = omega arith
+
+  -- It has parts behind it.
+  forks : (c : lts.After-first-complete (calls t) (walk-prefix-at t) walk-prefix.Post)
+      → let z = start (c .before .before) in
+      Forks (z .args .types .now) (z .args .at) (z .pre .1 .0 .type) (z .args .slice .now) (z .args .from) (z .args .complete) (c .first-complete .result)
+  forks c = record { begins = begins (c .before .before); parts = omega arith; handed = c .first-complete .ensures }
+
+  walk-prefix-requires : lts.Need-walk-prefix-requires (calls t) (walk-prefix-at t) walk-prefix.Post
+  walk-prefix-requires c κs =
+      let s = begins (c .before .before) .stands in
+      (omega (arith, start (c .before .before) .pre .0, starts-inside s), (record { type = _; stands = first-stands (forks c) }, omega arith))
+
+  enum-known-fault : lts.Need-enum-known-fault (calls t) (walk-prefix-at t) walk-prefix.Post
+  enum-known-fault c = search needs
+
+  enum-known-type-end : lts.Need-enum-known-type-end (calls t) (walk-prefix-at t) walk-prefix.Post
+  enum-known-type-end c = search needs
+
+  -- The walk through the first part came to its end.
+  halfway : (c : lts.After-type-end (calls t) (walk-prefix-at t) walk-prefix.Post)
+      → let z = start (c .before .before .before .before .before) in
+      let g = c .type-end .given .0 in
+      Halfway (z .args .types .now) (z .args .at) (z .pre .1 .0 .type) (z .args .slice .now) (z .args .from) (z .args .complete) (g .0) (g .1 .0) (g .1 .1 .0)
+  halfway c =
+      record {
+        must-complete = c .before .before .before .first-complete .result;
+        forks = forks (c .before .before .before);
+        walked-first = rw (c .type-end .given .1) at (c .before .before .walk-prefix .ensures);
+      }
+
+  second-asked : (c : lts.After-type-end (calls t) (walk-prefix-at t) walk-prefix.Post)
+      → let z = start (c .before .before .before .before .before) in
+      let g = c .type-end .given .0 in
+      (length (z .args .types .now) - g .0 < t) × (SomeTypeAt (z .args .types .now) (g .0) × (g .1 .0 ≤ length (z .args .slice .now)))
+  second-asked c =
+      let s = second-stands (halfway c) in (
+        omega (arith, start (c .before .before .before .before .before) .pre .0, further (halfway c), starts-inside s),
+        (record { type = _; stands = s }, first-came (halfway c) .inside),
+      )
+
+  skip-type-requires : lts.Need-skip-type-requires (calls t) (walk-prefix-at t) walk-prefix.Post
+  skip-type-requires c κs = record { type = _; stands = second-stands (halfway (c .before .before)) }
+
+  sub-in-first : lts.Need-sub-in-first (calls t) (walk-prefix-at t) walk-prefix.Post
+  sub-in-first c = omega (arith, c .skip-type .ensures .each _ (second-stands (halfway (c .before .before .before))))
+
+  in-first-requires : lts.Need-in-first-requires (calls t) (walk-prefix-at t) walk-prefix.Post
+  in-first-requires c κs = first-sums (halfway (c .before .before .before)) _ (c .skip-type .ensures)
+
+  walk-prefix-requires-2 : lts.Need-walk-prefix-requires-2 (calls t) (walk-prefix-at t) walk-prefix.Post
+  walk-prefix-requires-2 c κs = second-asked (c .before .before)
+
+  walk-prefix-requires-3 : lts.Need-walk-prefix-requires-3 (calls t) (walk-prefix-at t) walk-prefix.Post
+  walk-prefix-requires-3 c κs = second-asked (c .before .before)
+
+  beside-requires : lts.Need-beside-requires (calls t) (walk-prefix-at t) walk-prefix.Post
+  beside-requires c κs = both-sums (halfway (c .before .before .before)) _ (c .walk-prefix3 .ensures)
+
+  returns-5 : lts.Need-returns-5 (calls t) (walk-prefix-at t) walk-prefix.Post
+  returns-5 c = first-failed (forks (c .before .before .before .before)) _ (rw (c .before .fault .given .1) at (c .before .before .before .walk-prefix .ensures))
+
+  returns-6 : lts.Need-returns-6 (calls t) (walk-prefix-at t) walk-prefix.Post
+  returns-6 c =
+      rw (c .in-first .ensures)
+      (still-first (halfway (c .before .before .before .before)) (c .before .before .match2 .keys1) _ (c .before .skip-type .ensures))
+
+  returns-7 : lts.Need-returns-7 (calls t) (walk-prefix-at t) walk-prefix.Post
+  returns-7 c = crossing (halfway (c .before .before .before)) (c .before .match2 .keys2) _ (c .walk-prefix2 .ensures)
+
+  returns-8 : lts.Need-returns-8 (calls t) (walk-prefix-at t) walk-prefix.Post
+  returns-8 c =
+      let m = c .before .before .match2 .rest in
+      rw (c .beside .ensures) (both-come (halfway (c .before .before .before .before)) (m .0 .1) (m .1) _ (c .before .walk-prefix3 .ensures))
+
+pub +walk-prefix-spec : {M : Type 1} → statement M
++walk-prefix-spec =
+    close
+    μ-walk-prefix
+    λ t. lts.spec
+    (calls t)
+    (walk-prefix-at t)
+    walk-prefix.Post
+    (returns t)
+    (shared-slice-read-kind t)
+    (returns-2 t)
+    (shared-slice-read-belongs t)
+    (belongs-requires t)
+    (returns-3 t)
+    (add-walk-leaf t)
+    (walk-leaf-requires t)
+    (returns-4 t)
+    (first-complete-requires t)
+    (add-walk-prefix t)
+    (add-walk-prefix-2 t)
+    (walk-prefix-requires t)
+    (enum-known-fault t)
+    (enum-known-type-end t)
+    (skip-type-requires t)
+    (sub-in-first t)
+    (in-first-requires t)
+    (walk-prefix-requires-2 t)
+    (walk-prefix-requires-3 t)
+    (beside-requires t)
+    (returns-5 t)
+    (returns-6 t)
+    (returns-7 t)
+    (returns-8 t)

@@ -1,0 +1,150 @@
+-- What the reader of slices tells its callers, and what it asks of them: contracts inside the library, which no demand rests on.
+use mathlib.Core.Path.{_≡_}
+use mathlib.Core.Bool.{Bool, true, false, _&&_, not, cond}
+use mathlib.Core.List.{List, [], _∷_}
+use Prim.Native.Nat.{ℕ, suc, _+_, _-_, _<_}
+use lib.Dec.{eqb, leb}
+use lib.ListN.{length, getD, drop}
+use Rattle.stream.specs.declared.Fault.the-variants.{SliceCutShort}
+use Rattle.reading.specs.declared.prefixes.Known.{Known}
+use Rattle.reading.specs.declared.prefixes.Walk.{Walk}
+use Rattle.reading.specs.declared.prefixes.Walk.the-variants.{Past, Failed}
+use Rattle.reading.specs.declared.prefixes.SliceRead.{SliceRead}
+use Rattle.reading.specs.declared.prefixes.SliceRead.the-variants.{Whole, Refused}
+use Rattle.stream.specs.Types.{Ty, size, type-limit}
+use Rattle.stream.specs.Levels.{value-width}
+use Rattle.stream.specs.Prefixes.{Prefix, nothing, cue-awaited, cue-come, level-awaited, level-come, in-first, crossed, beside, Complete, IsPrefix, derivative}
+use Rattle.stream.specs.Prefixes.Functions.{complete}
+use Rattle.stream.specs.Reading.{Reading, read, fault, Result, accepted, refused, tree}
+use Rattle.reading.specs.TypeReads.{TypeAt}
+use Rattle.stream.specs.SliceFiles.{Owed, owed, prefix-root, prefix-bytes, slice-file}
+pub mod Laws
+pub mod Descent
+
+-- How many bytes a prefix takes.
+unfoldable pub prefix-width : Prefix → ℕ
+prefix-width nothing = 1
+prefix-width cue-awaited = 1
+prefix-width cue-come = 1
+prefix-width level-awaited = 1
+prefix-width (level-come v) = suc value-width
+prefix-width (in-first p) = suc (prefix-width p)
+prefix-width (crossed b q) = suc (prefix-width b + prefix-width q)
+prefix-width (beside p q) = suc (prefix-width p + prefix-width q)
+
+-- How many bytes a join with a later prefix is shorter than the two: each node that is not in a crossed first part, and is
+-- not itself a crossing, meets one of the later prefix, and one of the two is written.
+unfoldable pub overlap : Prefix → ℕ
+overlap nothing = 1
+overlap cue-awaited = 1
+overlap cue-come = 1
+overlap level-awaited = 1
+overlap (level-come v) = 1
+overlap (in-first p) = suc (overlap p)
+overlap (crossed b q) = overlap q
+overlap (beside p q) = suc (overlap p + overlap q)
+
+-- What is known of a prefix of t.
+unfoldable pub known : Ty → Prefix → Known
+known t p = record { complete = complete p; remains = size (derivative t p); overlap = overlap p }
+
+unfoldable pub slice-read : Ty → Result Prefix → SliceRead
+slice-read t (accepted p) = Whole (known t p)
+slice-read t (refused e) = Refused e
+
+-- The reader's answer, whichever type stands at `at`.
+pub record ReadsSlice (types : List ℕ) (at : ℕ) (file : List ℕ) (answer : SliceRead) : Type 0 where
+  pub each : (t : Ty) → TypeAt types at t → answer ≡ slice-read t (slice-file t file)
+
+-- A prefix stands at a place of some bytes; what stands behind it is free.
+pub record PrefixAt (bytes : List ℕ) (at : ℕ) (p : Prefix) : Type 0 where
+  pub rest : List ℕ
+  pub here : drop at bytes ≡ prefix-bytes p rest
+
+pub record SomePrefixAt (bytes : List ℕ) (at : ℕ) : Type 0 where
+  pub prefix : Prefix
+  pub stands : PrefixAt bytes at prefix
+
+-- `end` is where the prefix at `at` ends, whichever it is.
+pub record PrefixEnds (bytes : List ℕ) (at end : ℕ) : Type 0 where
+  pub each : (p : Prefix) → PrefixAt bytes at p → end ≡ at + prefix-width p
+
+-- A type stands from `at` to `end`; `wide` is how many bytes each of its complete prefixes has.
+pub record TypeSpans (types : List ℕ) (at end : ℕ) : Type 0 where
+  pub type : Ty
+  pub stands : TypeAt types at type
+  pub ends : end ≡ at + size type
+
+pub record CompleteWide (types : List ℕ) (at end wide : ℕ) : Type 0 where
+  pub each : (span : TypeSpans types at end) (p : Prefix) → IsPrefix (span .type) p → Complete p → wide ≡ prefix-width p
+
+-- The kind of type that each kind of slice belongs to, by its number; the kinds that keep a slice from being complete.
+abbrev pub type-kind-of : ℕ → ℕ
+type-kind-of k = getD (0 ∷ 1 ∷ 1 ∷ 2 ∷ 2 ∷ 3 ∷ 3 ∷ []) k 4
+
+abbrev pub is-unfinished : ℕ → Bool
+is-unfinished k = getD (false ∷ true ∷ false ∷ true ∷ false ∷ true ∷ []) k false
+
+abbrev pub belongs-at : ℕ → ℕ → Bool → Bool
+belongs-at type-kind k must-complete = eqb type-kind (type-kind-of k) && not (must-complete && is-unfinished k)
+
+-- How many bytes a leaf of a slice takes.
+abbrev pub leaf-width : ℕ → ℕ
+leaf-width k = getD (1 ∷ 1 ∷ 1 ∷ 1 ∷ suc value-width ∷ []) k 1
+
+-- Whether the first part under a kind has to be complete; the kinds 0 to 4 have no parts.
+abbrev pub first-complete : ℕ → Bool → Bool
+first-complete k c = getD (c ∷ c ∷ c ∷ c ∷ c ∷ false ∷ true ∷ []) k c
+
+-- A leaf of kind k at `from` of n bytes, walked through; its type ends at `type-end`.
+unfoldable pub leaf-walked : (type-end n from k : ℕ) → Walk
+leaf-walked type-end n from k =
+    cond (leb (leaf-width k) (n - from))
+    (Past type-end (from + leaf-width k) (record { complete = not (is-unfinished k); remains = 1; overlap = 1 }))
+    (Failed SliceCutShort)
+
+-- What is known of a sequence's prefix from its first part's.
+abbrev pub first-known : Known → (second-size : ℕ) → Known
+first-known first second-size =
+    record { complete = false; remains = 1 + first .remains + second-size; overlap = 1 + first .overlap }
+
+-- Of two prefixes side by side; how the walk through both ends, from how it ends through the second.
+abbrev pub both-known : Known → Known → Known
+both-known first second =
+    record {
+      complete = first .complete && second .complete;
+      remains = 1 + first .remains + second .remains;
+      overlap = 1 + first .overlap + second .overlap;
+    }
+
+abbrev pub beside-walked : Known → Walk → Walk
+beside-walked first (Past type-end prefix-end second) = Past type-end prefix-end (both-known first second)
+beside-walked first (Failed e) = Failed e
+
+abbrev pub SumsFit : Known → Walk → Type 0
+SumsFit first (Past type-end prefix-end second) = (first .remains + second .remains < type-limit) × (first .overlap + second .overlap < type-limit)
+SumsFit first (Failed e) = Unit
+
+-- A prefix of what is owed, at the front of some bytes.
+unfoldable pub read-owed : Owed → List ℕ → Reading Prefix
+read-owed o s = tree SliceCutShort prefix-root type-limit o s
+
+-- The walk's answer, whichever type stands at `at`: where type and prefix end, and what is known of the prefix.
+unfoldable pub walked : Ty → (type-end length-of-slice : ℕ) → Reading Prefix → Walk
+walked t type-end n (read p r) = Past type-end (n - length r) (known t p)
+walked t type-end n (fault e) = Failed e
+
+pub record Walks (types : List ℕ) (at : ℕ) (slice : List ℕ) (from : ℕ) (must-complete : Bool) (answer : Walk) : Type 0 where
+  pub each : (t : Ty) → TypeAt types at t
+      → answer ≡ walked t (at + size t) (length slice) (read-owed (owed t must-complete) (drop from slice))
+
+-- A slice file that its reader accepts.
+pub record AcceptedSlice (t : Ty) (file : List ℕ) (about : Known) : Type 0 where
+  pub prefix : Prefix
+  pub is-accepted : slice-file t file ≡ accepted prefix
+  pub is-prefix : IsPrefix t prefix
+  pub completeness : about .complete ≡ complete prefix
+  pub remains : about .remains ≡ size (derivative t prefix)
+  pub overlap : about .overlap ≡ overlap prefix
+  pub stands : PrefixAt file 2 prefix
+  pub fills : length file ≡ 2 + prefix-width prefix

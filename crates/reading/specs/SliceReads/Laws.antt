@@ -1,0 +1,166 @@
+-- Prefixes in some bytes: how many bytes a prefix and a join take, and where the parts of a prefix stand.
+use mathlib.Core.Path.{_≡_, refl, sym, ap, _∙_}
+use mathlib.Core.List.{List, [], _∷_, _++_}
+use Prim.Native.Nat.{ℕ, _+_, _≤_}
+use native.Mathlib.Omega.{arith}
+use native.Mathlib.Nat.{add-zero}
+use lib.ListN.{length, getD, take, drop, length-drop}
+use lib.Seq.{drop-drop, getD-drop, take-at}
+use Rattle.stream.specs.Types.{Ty}
+use Rattle.stream.specs.Levels.{value-bytes}
+use Rattle.stream.specs.Levels.Laws.{value-length}
+use Rattle.stream.specs.Prefixes.{Prefix, nothing, cue-awaited, cue-come, level-awaited, level-come, in-first, crossed, beside, IsPrefix, of-empty, of-cue-awaited, of-cue-come, of-level-awaited, of-level-come, of-first, of-crossed, of-beside, derivative}
+use Rattle.stream.specs.Prefixes.Functions.{concat}
+use Rattle.stream.specs.Reading.Laws.{_&_, past, every}
+use Rattle.stream.specs.SliceFiles.{prefix-bytes}
+use Rattle.reading.specs.SliceReads.{prefix-width, overlap, leaf-width, PrefixAt}
+
+-- Widths
+
+pub prefix-bytes-length : (p : Prefix) (r : List ℕ) → length (prefix-bytes p r) ≡ prefix-width p + length r
+unfolding prefix-bytes prefix-width
+prefix-bytes-length nothing r = omega arith
+prefix-bytes-length cue-awaited r = omega arith
+prefix-bytes-length cue-come r = omega arith
+prefix-bytes-length level-awaited r = omega arith
+prefix-bytes-length (level-come v) r = omega (arith, value-length v r)
+prefix-bytes-length (in-first p) r = omega (arith, prefix-bytes-length p r)
+prefix-bytes-length (crossed b q) r = omega (arith, prefix-bytes-length b (prefix-bytes q r), prefix-bytes-length q r)
+prefix-bytes-length (beside p q) r = omega (arith, prefix-bytes-length p (prefix-bytes q r), prefix-bytes-length q r)
+
+pub width-positive : (p : Prefix) → 1 ≤ prefix-width p
+unfolding prefix-width
+width-positive nothing = omega arith
+width-positive cue-awaited = omega arith
+width-positive cue-come = omega arith
+width-positive level-awaited = omega arith
+width-positive (level-come v) = omega arith
+width-positive (in-first p) = omega arith
+width-positive (crossed b q) = omega arith
+width-positive (beside p q) = omega arith
+
+pub overlap-within : (p : Prefix) → overlap p ≤ prefix-width p
+unfolding prefix-width overlap
+overlap-within nothing = omega arith
+overlap-within cue-awaited = omega arith
+overlap-within cue-come = omega arith
+overlap-within level-awaited = omega arith
+overlap-within (level-come v) = omega arith
+overlap-within (in-first p) = omega (arith, overlap-within p)
+overlap-within (crossed b q) = omega (arith, overlap-within q)
+overlap-within (beside p q) = omega (arith, overlap-within p, overlap-within q)
+
+pub leaf-positive : (k : ℕ) → 1 ≤ leaf-width k
+leaf-positive =
+    every (λ k w. 1 ≤ w) 1 _ (omega arith & omega arith & omega arith & omega arith & omega arith & past (λ k h. omega arith))
+
+-- A join is shorter than the two by the overlap of the first.
+pub concat-width : {t : Ty} {p : Prefix} (q : Prefix) → IsPrefix t p → IsPrefix (derivative t p) q
+    → prefix-width (concat p q) + overlap p ≡ prefix-width p + prefix-width q
+unfolding derivative concat prefix-width overlap
+concat-width q of-empty of-empty = omega arith
+concat-width q of-cue-awaited k = omega arith
+concat-width q of-cue-come of-empty = omega arith
+concat-width q of-level-awaited k = omega arith
+concat-width q (of-level-come v) of-empty = omega arith
+concat-width q (of-first h) (of-first k) = omega (arith, concat-width _ h k)
+concat-width q (of-first h) (of-crossed i d k) = omega (arith, concat-width _ h i)
+concat-width q (of-crossed h d i) k = omega (arith, concat-width q i k)
+concat-width q (of-beside h i) (of-beside k l) = omega (arith, concat-width _ h k, concat-width _ i l)
+
+-- What stands behind a prefix
+
+pub behind-prefix : (p : Prefix) (r : List ℕ) → drop (prefix-width p) (prefix-bytes p r) ≡ r
+unfolding prefix-bytes value-bytes prefix-width
+behind-prefix nothing r = refl
+behind-prefix cue-awaited r = refl
+behind-prefix cue-come r = refl
+behind-prefix level-awaited r = refl
+behind-prefix (level-come v) r = refl
+behind-prefix (in-first p) r = behind-prefix p r
+behind-prefix (crossed b q) r = rw (← drop-drop, behind-prefix b (prefix-bytes q r)) (behind-prefix q r)
+behind-prefix (beside p q) r = rw (← drop-drop, behind-prefix p (prefix-bytes q r)) (behind-prefix q r)
+
+prefix-append : (p : Prefix) (r s : List ℕ) → prefix-bytes p (r ++ s) ≡ prefix-bytes p r ++ s
+unfolding prefix-bytes value-bytes
+prefix-append nothing r s = refl
+prefix-append cue-awaited r s = refl
+prefix-append cue-come r s = refl
+prefix-append level-awaited r s = refl
+prefix-append (level-come v) r s = refl
+prefix-append (in-first p) r s = ap (λ l. 5 ∷ l) (prefix-append p r s)
+prefix-append (crossed b q) r s =
+    ap (λ l. 6 ∷ l) (ap (prefix-bytes b) (prefix-append q r s) ∙ prefix-append b (prefix-bytes q r) s)
+prefix-append (beside p q) r s =
+    ap (λ l. 7 ∷ l) (ap (prefix-bytes p) (prefix-append q r s) ∙ prefix-append p (prefix-bytes q r) s)
+
+pub prefix-before : (p : Prefix) (r : List ℕ) → prefix-bytes p r ≡ prefix-bytes p [] ++ r
+prefix-before p r = prefix-append p [] r
+
+-- Places
+
+abbrev pub prefix-kind : Prefix → ℕ
+prefix-kind nothing = 0
+prefix-kind cue-awaited = 1
+prefix-kind cue-come = 2
+prefix-kind level-awaited = 3
+prefix-kind (level-come v) = 4
+prefix-kind (in-first p) = 5
+prefix-kind (crossed b q) = 6
+prefix-kind (beside p q) = 7
+
+kind-first : (p : Prefix) (r : List ℕ) → getD (prefix-bytes p r) 0 0 ≡ prefix-kind p
+unfolding prefix-bytes
+kind-first nothing r = refl
+kind-first cue-awaited r = refl
+kind-first cue-come r = refl
+kind-first level-awaited r = refl
+kind-first (level-come v) r = refl
+kind-first (in-first p) r = refl
+kind-first (crossed b q) r = refl
+kind-first (beside p q) r = refl
+
+-- Some bytes further on.
+hop : (bytes : List ℕ) (at n : ℕ) {x r : List ℕ} {end : ℕ} → drop at bytes ≡ x → drop n x ≡ r → end ≡ at + n → drop end bytes ≡ r
+hop bytes at n h g e = rw (e, ← drop-drop, h) g
+
+behind-kind : (bytes : List ℕ) (at : ℕ) {k : ℕ} {r : List ℕ} → drop at bytes ≡ k ∷ r → drop (at + 1) bytes ≡ r
+behind-kind bytes at h = hop bytes at 1 h refl refl
+
+module _ {bytes : List ℕ} {at : ℕ} where
+  pub prefix-inside : {p : Prefix} → PrefixAt bytes at p → at + prefix-width p ≤ length bytes
+  prefix-inside {p} s =
+      omega (arith, width-positive p, prefix-bytes-length p (s .rest), ap length (s .here), length-drop at bytes)
+
+  pub kind-at : {p : Prefix} → PrefixAt bytes at p → getD bytes at 0 ≡ prefix-kind p
+  kind-at {p} s =
+      ap (λ n. getD bytes n 0) (sym (add-zero at)) ∙ sym (getD-drop at bytes 0 0) ∙ ap (λ l. getD l 0 0) (s .here)
+      ∙ kind-first p (s .rest)
+
+  pub prefix-taken : {p : Prefix} (n : ℕ) → PrefixAt bytes at p → n ≡ prefix-width p → take n (drop at bytes) ≡ prefix-bytes p []
+  prefix-taken {p} n s e =
+      ap (take n) (s .here ∙ prefix-before p (s .rest)) ∙ take-at (prefix-bytes p []) (s .rest) n (omega (arith, prefix-bytes-length p []))
+
+  -- The first part stands behind the kind, the second behind the first.
+
+  pub in-first-at : {p : Prefix} → PrefixAt bytes at (in-first p) → PrefixAt bytes (at + 1) p
+  unfolding prefix-bytes
+  in-first-at s = record { rest = s .rest; here = behind-kind bytes at (s .here) }
+
+  pub crossed-first-at : {b q : Prefix} → PrefixAt bytes at (crossed b q) → PrefixAt bytes (at + 1) b
+  unfolding prefix-bytes
+  crossed-first-at {q = q} s = record { rest = prefix-bytes q (s .rest); here = behind-kind bytes at (s .here) }
+
+  pub crossed-second-at : {b q : Prefix} {end : ℕ} → PrefixAt bytes at (crossed b q) → end ≡ at + 1 + prefix-width b → PrefixAt bytes end q
+  unfolding prefix-bytes
+  crossed-second-at {b} {q} s e =
+      record { rest = s .rest; here = hop bytes (at + 1) (prefix-width b) (behind-kind bytes at (s .here)) (behind-prefix b (prefix-bytes q (s .rest))) e }
+
+  pub beside-first-at : {p q : Prefix} → PrefixAt bytes at (beside p q) → PrefixAt bytes (at + 1) p
+  unfolding prefix-bytes
+  beside-first-at {q = q} s = record { rest = prefix-bytes q (s .rest); here = behind-kind bytes at (s .here) }
+
+  pub beside-second-at : {p q : Prefix} {end : ℕ} → PrefixAt bytes at (beside p q) → end ≡ at + 1 + prefix-width p → PrefixAt bytes end q
+  unfolding prefix-bytes
+  beside-second-at {p} {q} s e =
+      record { rest = s .rest; here = hop bytes (at + 1) (prefix-width p) (behind-kind bytes at (s .here)) (behind-prefix p (prefix-bytes q (s .rest))) e }

@@ -1,0 +1,164 @@
+-- A type that stands at a place of some bytes: its kind byte, its parts, and where it ends.
+use mathlib.Core.Path.{_≡_, refl, sym, ap, _∙_}
+use mathlib.Core.List.{List, [], _∷_, _++_}
+use Prim.Native.Nat.{ℕ, suc, _+_, _*_, _/_, _-_, _≤_, _<_}
+use native.Mathlib.Omega.{arith}
+use native.Mathlib.Nat.{add-zero}
+use lib.ListN.{length, getD, take, drop, length-drop}
+use lib.Seq.{getD-drop, drop-drop, take-at, length-take-le}
+use Rattle.stream.specs.declared.Fault.the-variants.{Unlisted, TypeTooLarge}
+use Rattle.reading.specs.declared.sections.TreeEnd.the-variants.{At}
+use Rattle.stream.specs.Types.{Ty, empty, cue, level, seq, par, size, kind, first-part, second-part, type-limit}
+use Rattle.stream.specs.Types.Laws.{size-positive}
+use Rattle.stream.specs.Reading.{Bytes, read, fault}
+use Rattle.stream.specs.Reading.Laws.{bytes-drop, bytes-take, _&_, past, every}
+use Rattle.stream.specs.TypeFiles.{type-bytes, type-kinds, type-root, read-type, type-section}
+use Rattle.stream.specs.TypeFiles.Laws.{type-length, read-type-reads, read-type-sound}
+use Rattle.reading.specs.Sections.{end-of}
+use Rattle.reading.specs.Sections.Laws.{inside, section-ended, Within, tree-within}
+use Rattle.reading.specs.TypeReads.{type-arity, TypeAt, TypeEnds}
+
+-- No kind has more than two parts, and parts come in pairs.
+pub arity-small : (k : ℕ) → type-arity k ≤ 2
+arity-small = every (λ k n. n ≤ 2) 2 _ (omega arith & omega arith & omega arith & past (λ k h. omega arith))
+
+pub arity-paired : (k : ℕ) → type-arity k ≡ 2 * (type-arity k / 2)
+arity-paired = every (λ k n. n ≡ 2 * (n / 2)) 2 _ (omega arith & omega arith & omega arith & past (λ k h. omega arith))
+
+-- Behind a type stands what was put there.
+pub type-drop : (t : Ty) (r : List ℕ) → drop (size t) (type-bytes t r) ≡ r
+unfolding type-bytes size
+type-drop empty r = refl
+type-drop cue r = refl
+type-drop level r = refl
+type-drop (seq s t) r =
+    rw (← drop-drop (size t) (size s) (type-bytes s (type-bytes t r)), type-drop s (type-bytes t r)) (type-drop t r)
+type-drop (par s t) r =
+    rw (← drop-drop (size t) (size s) (type-bytes s (type-bytes t r)), type-drop s (type-bytes t r)) (type-drop t r)
+
+type-append : (t : Ty) (r s : List ℕ) → type-bytes t (r ++ s) ≡ type-bytes t r ++ s
+unfolding type-bytes
+type-append empty r s = refl
+type-append cue r s = refl
+type-append level r s = refl
+type-append (seq t u) r s = ap (λ l. 3 ∷ l) (ap (type-bytes t) (type-append u r s) ∙ type-append t (type-bytes u r) s)
+type-append (par t u) r s = ap (λ l. 4 ∷ l) (ap (type-bytes t) (type-append u r s) ∙ type-append t (type-bytes u r) s)
+
+pub type-before : (t : Ty) (r : List ℕ) → type-bytes t r ≡ type-bytes t [] ++ r
+type-before t r = type-append t [] r
+
+pub type-width : (t : Ty) → length (type-bytes t []) ≡ size t
+type-width t = omega (arith, type-length t [])
+
+type-head : (t : Ty) (r : List ℕ) → getD (type-bytes t r) 0 0 ≡ kind t
+unfolding type-bytes
+type-head empty r = refl
+type-head cue r = refl
+type-head level r = refl
+type-head (seq s t) r = refl
+type-head (par s t) r = refl
+
+-- A type of kind 3 or 4 is its kind byte and its parts.
+forked : (t : Ty) (r : List ℕ) → 3 ≤ kind t
+    → (type-bytes t r ≡ kind t ∷ type-bytes (first-part t) (type-bytes (second-part t) r))
+    × (size t ≡ suc (size (first-part t) + size (second-part t)))
+unfolding type-bytes size
+forked empty r h = absurd (omega arith)
+forked cue r h = absurd (omega arith)
+forked level r h = absurd (omega arith)
+forked (seq s t) r h = (refl, refl)
+forked (par s t) r h = (refl, refl)
+
+pub fork-size : (t : Ty) → 3 ≤ kind t → size t ≡ suc (size (first-part t) + size (second-part t))
+fork-size t h = forked t [] h .1
+
+pub leaf-size : (t : Ty) → kind t < 3 → size t ≡ 1
+unfolding size
+leaf-size empty h = refl
+leaf-size cue h = refl
+leaf-size level h = refl
+leaf-size (seq s t) h = absurd (omega arith)
+leaf-size (par s t) h = absurd (omega arith)
+
+module _ {bytes : List ℕ} {at : ℕ} {t : Ty} (stands : TypeAt bytes at t) where
+  pub ends-inside : at + size t ≤ length bytes
+  ends-inside =
+      let n = simp length-drop at (ap length (stands .here)) in
+      omega (arith, n, type-length t (stands .rest), size-positive t)
+
+  pub starts-inside : at < length bytes
+  starts-inside = omega (arith, ends-inside, size-positive t)
+
+  pub kind-at : getD bytes at 0 ≡ kind t
+  kind-at =
+      let e : getD (drop at bytes) 0 0 ≡ getD bytes at 0 = rw add-zero at (getD-drop at bytes 0 0) in
+      rw (← e, stands .here) (type-head t (stands .rest))
+
+  -- The bytes of a type, as they stand there.
+  pub bytes-at : take (size t) (drop at bytes) ≡ type-bytes t []
+  bytes-at = rw (stands .here, type-before t (stands .rest)) (take-at (type-bytes t []) (stands .rest) (size t) (type-width t))
+
+  module _ (fork : 3 ≤ kind t) where
+    under-root : drop (at + 1) bytes ≡ type-bytes (first-part t) (type-bytes (second-part t) (stands .rest))
+    under-root = rw (← drop-drop 1 at bytes, stands .here, forked t (stands .rest) fork .0)
+
+    pub first-at : TypeAt bytes (at + 1) (first-part t)
+    first-at =
+        record {
+          rest = type-bytes (second-part t) (stands .rest);
+          here = under-root;
+          small = omega (arith, stands .small, fork-size t fork);
+        }
+
+    pub second-at : TypeAt bytes (at + 1 + size (first-part t)) (second-part t)
+    second-at =
+        record {
+          rest = stands .rest;
+          here =
+              rw (← drop-drop (size (first-part t)) (at + 1) bytes, under-root)
+              (type-drop (first-part t) (type-bytes (second-part t) (stands .rest)));
+          small = omega (arith, stands .small, fork-size t fork);
+        }
+
+    -- The second part stands where the first ends.
+    pub second-behind : {second : ℕ} → TypeEnds bytes (at + 1) second → TypeAt bytes second (second-part t)
+    second-behind ends = rw (ends .each (first-part t) first-at) second-at
+
+-- At most one type stands at a place.
+pub same-type : {bytes : List ℕ} {at : ℕ} {s t : Ty} → TypeAt bytes at s → TypeAt bytes at t → s ≡ t
+same-type {s = s} {t = t} h k =
+    let e : read s (h .rest) ≡ read t (k .rest)
+    = sym (read-type-reads s (h .rest) (h .small)) ∙ rw (← h .here) (rw (k .here) (read-type-reads t (k .rest) (k .small))) in
+    cc
+
+-- A type leaves no more bytes than there were.
+root-within : (w : Unit {0}) (s : List ℕ) → Within s (type-root w s)
+unfolding type-root
+root-within w [] = tt
+root-within w (k ∷ s) =
+    every (λ j f. Within (j ∷ s) (f s)) (λ r. fault Unlisted) type-kinds
+    (omega arith & omega arith & omega arith & omega arith & omega arith & past (λ j h. tt)) k
+
+pub read-type-within : (s : List ℕ) → Within s (read-type s)
+unfolding read-type
+read-type-within s = tree-within TypeTooLarge type-root root-within type-limit tt s
+
+-- The section at the front of s ends at `end`, and a type fills it.
+pub record TypeSectionEnds (s : List ℕ) (end : ℕ) : Type 0 where
+  pub type : Ty
+  pub place : end ≡ 2 + size type
+  pub fits : end ≤ length s
+  pub reads : type-section s ≡ read type (drop end s)
+
+pub type-section-ended : (s : List ℕ) (end : ℕ) → Bytes s → end-of (length s) (type-section s) ≡ At end → TypeSectionEnds s end
+unfolding type-section
+type-section-ended s end bytes told =
+    let e = section-ended read-type s end told in
+    let f = read-type-sound (inside end s) (e .tree) [] (bytes-take (end - 2) (drop 2 s) (bytes-drop 2 s bytes)) (e .fills) in
+    let h : end - 2 ≤ length (drop 2 s) = simp length-drop (omega (arith, e .fits)) in
+    record {
+      type = e .tree;
+      place = omega (arith, e .place, type-length (e .tree) [], ap length (f .bytes), length-take-le (end - 2) (drop 2 s) h);
+      fits = e .fits;
+      reads = e .reads;
+    }
