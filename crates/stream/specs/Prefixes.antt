@@ -5,6 +5,7 @@ use Rattle.stream.specs.Levels.{level-limit}
 use Rattle.stream.specs.Types.{Ty, empty, cue, level, seq, par, first-part, second-part}
 pub mod Functions
 pub mod Laws
+pub mod Kinds
 
 pub data Prefix : Type 0 where
   nothing : Prefix  -- 0, epsp, of the empty type

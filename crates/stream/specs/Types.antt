@@ -3,6 +3,7 @@ use mathlib.Core.Bool.{Bool, true, false, _&&_}
 use Prim.Native.Nat.{ℕ, suc, _+_}
 use lib.Dec.{eqb}
 pub mod Laws
+pub mod Kinds
 
 pub data Ty : Type 0 where
   empty : Ty  -- 0, the stream with nothing in it (the source's ε)

@@ -1,0 +1,76 @@
+-- Prefixes by their kind bytes: how many parts a kind has, which they are, and sums over the nodes of a prefix by their kinds.
+-- What goes through the bytes of a slice goes by these tables.
+use mathlib.Core.Path.{_≡_, refl}
+use mathlib.Core.List.{List, [], _∷_}
+use Prim.Native.Nat.{ℕ, suc, _+_}
+use native.Mathlib.Omega.{arith}
+use lib.ListN.{length, getD}
+use Rattle.stream.specs.Levels.{value-width}
+use Rattle.stream.specs.Prefixes.{Prefix, nothing, cue-awaited, cue-come, level-awaited, level-come, in-first, crossed, beside}
+
+abbrev pub prefix-kind : Prefix → ℕ
+prefix-kind nothing = 0
+prefix-kind cue-awaited = 1
+prefix-kind cue-come = 2
+prefix-kind level-awaited = 3
+prefix-kind (level-come v) = 4
+prefix-kind (in-first p) = 5
+prefix-kind (crossed b q) = 6
+prefix-kind (beside p q) = 7
+
+-- How many parts each kind has; of a byte that is no slice's kind nobody asks.
+abbrev pub prefix-arity : ℕ → ℕ
+prefix-arity k = getD (0 ∷ 0 ∷ 0 ∷ 0 ∷ 0 ∷ 1 ∷ 2 ∷ 2 ∷ []) k 2
+
+-- How many bytes a node takes without its parts: its kind, and behind a level that has come the value.
+abbrev pub root-width : ℕ → ℕ
+root-width k = getD (1 ∷ 1 ∷ 1 ∷ 1 ∷ suc value-width ∷ 1 ∷ 1 ∷ 1 ∷ []) k 1
+
+-- The parts, left to right.
+abbrev pub prefix-parts : Prefix → List Prefix
+prefix-parts nothing = []
+prefix-parts cue-awaited = []
+prefix-parts cue-come = []
+prefix-parts level-awaited = []
+prefix-parts (level-come v) = []
+prefix-parts (in-first p) = p ∷ []
+prefix-parts (crossed b q) = b ∷ q ∷ []
+prefix-parts (beside p q) = p ∷ q ∷ []
+
+pub prefix-parts-many : (p : Prefix) → length (prefix-parts p) ≡ prefix-arity (prefix-kind p)
+prefix-parts-many nothing = refl
+prefix-parts-many cue-awaited = refl
+prefix-parts-many cue-come = refl
+prefix-parts-many level-awaited = refl
+prefix-parts-many (level-come v) = refl
+prefix-parts-many (in-first p) = refl
+prefix-parts-many (crossed b q) = refl
+prefix-parts-many (beside p q) = refl
+
+-- The sum over the nodes of a prefix of a number for each kind; and over several prefixes. How many bytes a prefix has, how many
+-- nodes, and how many cues and levels have come in it are such sums.
+unfoldable pub tally : (ℕ → ℕ) → Prefix → ℕ
+tally weight nothing = weight 0
+tally weight cue-awaited = weight 1
+tally weight cue-come = weight 2
+tally weight level-awaited = weight 3
+tally weight (level-come v) = weight 4
+tally weight (in-first p) = weight 5 + tally weight p
+tally weight (crossed b q) = weight 6 + (tally weight b + tally weight q)
+tally weight (beside p q) = weight 7 + (tally weight p + tally weight q)
+
+abbrev pub tallies : (ℕ → ℕ) → List Prefix → ℕ
+tallies weight [] = 0
+tallies weight (p ∷ ps) = tally weight p + tallies weight ps
+
+-- A node counts for its kind, and its parts for themselves.
+pub tally-by-parts : (weight : ℕ → ℕ) (p : Prefix) → tally weight p ≡ weight (prefix-kind p) + tallies weight (prefix-parts p)
+unfolding tally
+tally-by-parts weight nothing = omega arith
+tally-by-parts weight cue-awaited = omega arith
+tally-by-parts weight cue-come = omega arith
+tally-by-parts weight level-awaited = omega arith
+tally-by-parts weight (level-come v) = omega arith
+tally-by-parts weight (in-first p) = omega arith
+tally-by-parts weight (crossed b q) = omega arith
+tally-by-parts weight (beside p q) = omega arith

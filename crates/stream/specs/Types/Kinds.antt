@@ -1,0 +1,40 @@
+-- Types by their kind bytes: how many parts a kind has, and which they are. What goes through the bytes of a type goes by this
+-- table.
+use mathlib.Core.Path.{_≡_, refl}
+use mathlib.Core.List.{List, [], _∷_}
+use Prim.Native.Nat.{ℕ, suc, _+_}
+use native.Mathlib.Omega.{arith}
+use lib.ListN.{length, getD}
+use Rattle.stream.specs.Types.{Ty, empty, cue, level, seq, par, size, kind}
+
+-- How many parts each kind has; of a byte that is no type's kind nobody asks.
+abbrev pub type-arity : ℕ → ℕ
+type-arity k = getD (0 ∷ 0 ∷ 0 ∷ 2 ∷ 2 ∷ []) k 2
+
+-- The parts, left to right.
+abbrev pub type-parts : Ty → List Ty
+type-parts empty = []
+type-parts cue = []
+type-parts level = []
+type-parts (seq s t) = s ∷ t ∷ []
+type-parts (par s t) = s ∷ t ∷ []
+
+pub type-parts-many : (t : Ty) → length (type-parts t) ≡ type-arity (kind t)
+type-parts-many empty = refl
+type-parts-many cue = refl
+type-parts-many level = refl
+type-parts-many (seq s t) = refl
+type-parts-many (par s t) = refl
+
+-- The nodes of several types, and of one by its parts.
+abbrev pub sizes : List Ty → ℕ
+sizes [] = 0
+sizes (t ∷ ts) = size t + sizes ts
+
+pub size-by-parts : (t : Ty) → size t ≡ suc (sizes (type-parts t))
+unfolding size
+size-by-parts empty = refl
+size-by-parts cue = refl
+size-by-parts level = refl
+size-by-parts (seq s t) = omega arith
+size-by-parts (par s t) = omega arith
