@@ -16,7 +16,7 @@ use Rattle.stream.specs.SliceFiles.{prefix-bytes}
 use Rattle.reading.specs.TypeReads.{SomeTypeAt, TypeEnds}
 use Rattle.reading.specs.TypeReads.Laws.{first-at, second-behind, type-before, type-width}
 use Rattle.reading.specs.SliceReads.{PrefixAt, TypeSpans, CompleteWide, prefix-width}
-use Rattle.reading.specs.SliceReads.Laws.{prefix-bytes-length, width-positive, prefix-kind, prefix-inside, kind-at, in-first-at, crossed-first-at, crossed-second-at}
+use Rattle.reading.specs.SliceReads.Laws.{prefix-bytes-length, width-positive, prefix-inside, kind-at, in-first-at, crossed-first-at, crossed-second-at}
 use Rattle.writing.specs.Writing.Laws.{part, back}
 use Rattle.node.specs.Nodes.{Node, then, Takes, takes-then, count}
 use Rattle.node.specs.Nodes.Functions.{output-type}
@@ -34,6 +34,7 @@ use Rattle.feeding.proofs.Below.{below-one, then-count, parts-count, pa
 use Rattle.feeding.proofs.Giving.{no-fault, gives-type, node-answered}
 use Rattle.feeding.specs.Steps.Laws.{front-leads, byte-leads, leads-inside, leads-room, leads-on, left-width}
 use Rattle.stream.specs.Bounds.{twice-node-bytes}
+use Rattle.stream.specs.Prefixes.Kinds.{prefix-kind}
 
 -- How the parts of then are typed.
 record Typings (s : Ty) (n m : Node) : Type 0 where

@@ -6,8 +6,9 @@ use native.Mathlib.Omega.{arith}
 use lib.ListN.{getD}
 use Rattle.stream.specs.Prefixes.{Prefix, nothing, cue-awaited, cue-come, level-awaited, level-come, in-first, crossed, beside}
 use Rattle.stream.specs.Reading.Laws.{_&_, past, every}
-use Rattle.reading.specs.SliceReads.{prefix-width, leaf-width, PrefixAt}
-use Rattle.reading.specs.SliceReads.Laws.{width-positive, prefix-kind, kind-at, in-first-at, crossed-first-at, crossed-second-at, beside-first-at, beside-second-at}
+use Rattle.stream.specs.Prefixes.Kinds.{prefix-kind, root-width}
+use Rattle.reading.specs.SliceReads.{prefix-width, PrefixAt}
+use Rattle.reading.specs.SliceReads.Laws.{width-positive, kind-at, in-first-at, crossed-first-at, crossed-second-at, beside-first-at, beside-second-at}
 
 -- `owed` prefixes stand one after the other from `at` up to `end`.
 pub data Run (slice : List ℕ) (end : ℕ) : (owed at : ℕ) → Type 0 where
@@ -18,13 +19,13 @@ pub starts : {slice : List ℕ} {at : ℕ} (p : Prefix) → PrefixAt slice at p 
 starts p s = more p s none
 
 -- A leaf takes one byte, unless it is a level's value.
-pub level-wide : (k : ℕ) → k ≡ 4 → leaf-width k ≡ 3
+pub level-wide : (k : ℕ) → k ≡ 4 → root-width k ≡ 3
 level-wide k e = rw e
 
-pub other-wide : (k : ℕ) → (k ≡ 4 → ⊥) → leaf-width k ≡ 1
+pub other-wide : (k : ℕ) → (k ≡ 4 → ⊥) → root-width k ≡ 1
 other-wide =
     every (λ k w. (k ≡ 4 → ⊥) → w ≡ 1) 1 _
-    ((λ h. refl) & (λ h. refl) & (λ h. refl) & (λ h. refl) & (λ h. absurd (h refl)) & past (λ k l h. refl))
+    ((λ h. refl) & (λ h. refl) & (λ h. refl) & (λ h. refl) & (λ h. absurd (h refl)) & (λ h. refl) & (λ h. refl) & (λ h. refl) & past (λ k l h. refl))
 
 module _ {slice : List ℕ} {end : ℕ} where
   -- Each prefix takes a byte at least.
@@ -41,14 +42,14 @@ module _ {slice : List ℕ} {end : ℕ} where
 
   -- The kind at the place gives way to its parts: none, one or two.
   pub turned : {owed at : ℕ} (next place : ℕ) → Run slice end owed at → 0 < owed → (getD slice at 0 < 5 → next + 1 ≡ owed)
-      → (getD slice at 0 ≡ 5 → next ≡ owed) → (5 < getD slice at 0 → next ≡ owed + 1) → place ≡ at + leaf-width (getD slice at 0)
+      → (getD slice at 0 ≡ 5 → next ≡ owed) → (5 < getD slice at 0 → next ≡ owed + 1) → place ≡ at + root-width (getD slice at 0)
       → Run slice end next place
   unfolding prefix-width
   turned next place none h leaf one fork behind = absurd (omega arith)
   turned next place (more {owed} {at} p s r) h leaf one fork behind = rw behind (go (getD slice at 0) p (kind-at s) s r leaf one fork)
     where
       go : (k : ℕ) (p : Prefix) → k ≡ prefix-kind p → PrefixAt slice at p → Run slice end owed (at + prefix-width p) → (k < 5 → next + 1 ≡ suc owed)
-          → (k ≡ 5 → next ≡ suc owed) → (5 < k → next ≡ suc owed + 1) → Run slice end next (at + leaf-width k)
+          → (k ≡ 5 → next ≡ suc owed) → (5 < k → next ≡ suc owed + 1) → Run slice end next (at + root-width k)
       go k nothing e s r leaf one fork = rw e (moved r (omega (arith, leaf (omega arith))) (omega arith))
       go k cue-awaited e s r leaf one fork = rw e (moved r (omega (arith, leaf (omega arith))) (omega arith))
       go k cue-come e s r leaf one fork = rw e (moved r (omega (arith, leaf (omega arith))) (omega arith))

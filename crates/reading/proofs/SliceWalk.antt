@@ -25,23 +25,24 @@ use Rattle.stream.specs.Reading.Laws.{bytes-drop}
 use Rattle.reading.specs.TypeReads.{TypeAt, TypeEnds}
 use Rattle.reading.specs.TypeReads.Laws.{kind-at, fork-size, leaf-size, first-at, second-at, same-type}
 use Rattle.stream.specs.SliceFiles.{owed, belongs, prefix-root, prefix-bytes}
-use Rattle.reading.specs.SliceReads.{overlap, prefix-width, known, type-kind-of, is-unfinished, belongs-at, leaf-width, first-complete, leaf-walked, first-known, both-known, beside-walked, SumsFit, read-owed, walked, Walks}
+use Rattle.stream.specs.Prefixes.Kinds.{root-width}
+use Rattle.reading.specs.SliceReads.{overlap, prefix-width, known, type-kind-of, is-unfinished, belongs-at, first-complete, leaf-walked, first-known, both-known, beside-walked, SumsFit, read-owed, walked, Walks}
 use Rattle.reading.specs.SliceReads.Laws.{prefix-bytes-length, behind-prefix}
 use Rattle.reading.specs.SliceReads.Descent.{kind-root, type-kind-halved, root-tested, root-unlisted, reads-fault, reads-leaf, reads-one, reads-two, read-owed-sound, overlap-size}
 
 -- Leaves
 
 module _ (t : Ty) (end n from k : ℕ) where
-  come : (p : Prefix) (r : List ℕ) → n ≡ from + leaf-width k + length r
+  come : (p : Prefix) (r : List ℕ) → n ≡ from + root-width k + length r
       → complete p ≡ not (is-unfinished k) → size (derivative t p) ≡ 1 → overlap p ≡ 1 → leaf-walked end n from k ≡ walked t end n (read p r)
   unfolding leaf-walked walked known
   come p r l e s o =
-      let m : n - length r ≡ from + leaf-width k = omega arith in
-      rw (le-leb (leaf-width k) (n - from) (omega arith), e, s, o, m)
+      let m : n - length r ≡ from + root-width k = omega arith in
+      rw (le-leb (root-width k) (n - from) (omega arith), e, s, o, m)
 
-  missing : n - from < leaf-width k → leaf-walked end n from k ≡ Failed SliceCutShort
+  missing : n - from < root-width k → leaf-walked end n from k ≡ Failed SliceCutShort
   unfolding leaf-walked
-  missing l = rw (lt-leb (leaf-width k) (n - from) l)
+  missing l = rw (lt-leb (root-width k) (n - from) l)
 
 module _ (t : Ty) (c : Bool) (small : size t ≤ type-limit) (alone : size t ≡ 1) (end n from : ℕ) (s : List ℕ) where
   level-read : (r : List ℕ) → n ≡ from + 1 + length r → prefix-root (owed t c) s ≡ kind-root 4 t c r

@@ -12,17 +12,14 @@ use Rattle.stream.specs.Types.{Ty, empty, cue, level, seq, par, nullable, size,
 use Rattle.stream.specs.Types.Laws.{size-positive}
 use Rattle.stream.specs.TypeFiles.{type-bytes}
 use Rattle.stream.specs.TypeFiles.Laws.{type-length}
-use Rattle.reading.specs.TypeReads.{type-arity, TypeAt, SomeTypeAt, TypeEnds, NullableIs}
+use Rattle.stream.specs.Types.Kinds.{type-arity, type-parts, type-parts-many, sizes, size-by-parts}
+use Rattle.reading.specs.TypeReads.{TypeAt, SomeTypeAt, TypeEnds, NullableIs}
 use Rattle.reading.specs.TypeReads.Laws.{arity-paired, kind-at, same-type}
 
--- The bytes of several types, and then r; and how many they are.
+-- The bytes of several types, and then r.
 abbrev several : List Ty → List ℕ → List ℕ
 several [] r = r
 several (t ∷ ts) r = type-bytes t (several ts r)
-
-abbrev sizes : List Ty → ℕ
-sizes [] = 0
-sizes (t ∷ ts) = size t + sizes ts
 
 several-length : (ts : List Ty) (r : List ℕ) → length (several ts r) ≡ sizes ts + length r
 several-length [] r = omega arith
@@ -41,25 +38,13 @@ sizes-append [] us = omega arith
 sizes-append (t ∷ ts) us = omega (arith, sizes-append ts us)
 
 -- A type is its kind byte and its parts.
-abbrev parts : Ty → List Ty
-parts empty = []
-parts cue = []
-parts level = []
-parts (seq s t) = s ∷ t ∷ []
-parts (par s t) = s ∷ t ∷ []
-
-record Apart (t : Ty) : Type 0 where
-  bytes : (r : List ℕ) → type-bytes t r ≡ kind t ∷ several (parts t) r
-  many : length (parts t) ≡ type-arity (kind t)
-  total : size t ≡ 1 + sizes (parts t)
-
-apart : (t : Ty) → Apart t
-unfolding type-bytes size
-apart empty = record { bytes = λ r. refl; many = refl; total = refl }
-apart cue = record { bytes = λ r. refl; many = refl; total = refl }
-apart level = record { bytes = λ r. refl; many = refl; total = refl }
-apart (seq s t) = record { bytes = λ r. refl; many = refl; total = omega arith }
-apart (par s t) = record { bytes = λ r. refl; many = refl; total = omega arith }
+apart : (t : Ty) (r : List ℕ) → type-bytes t r ≡ kind t ∷ several (type-parts t) r
+unfolding type-bytes
+apart empty r = refl
+apart cue r = refl
+apart level r = refl
+apart (seq s t) r = refl
+apart (par s t) r = refl
 
 -- At `end`, `owed` types are still to be passed, and behind them the type at `at` ends.
 pub record Passing (bytes : List ℕ) (at owed end : ℕ) : Type 0 where
@@ -132,14 +117,14 @@ module _ {bytes : List ℕ} {at owed end : ℕ} (passing : Passing bytes at owed
     pub passed : Passing bytes at (owed - 1 + type-arity (getD bytes end 0)) (end + 1)
     passed =
         record {
-          types = parts first ++ others;
+          types = type-parts first ++ others;
           rest = passing .rest;
           here =
-              rw (← drop-drop 1 end bytes, first-here, apart first .bytes (several others (passing .rest)))
-              (sym (several-append (parts first) others (passing .rest)));
-          many = rw (kind-at stands) (omega (arith, length-append (parts first) others, apart first .many, passing .many, ap length split));
-          small = omega (arith, sizes-append (parts first) others, apart first .total, passing .small, ap sizes split);
-          far = λ t h. omega (arith, sizes-append (parts first) others, apart first .total, passing .far t h, ap sizes split);
+              rw (← drop-drop 1 end bytes, first-here, apart first (several others (passing .rest)))
+              (sym (several-append (type-parts first) others (passing .rest)));
+          many = rw (kind-at stands) (omega (arith, length-append (type-parts first) others, type-parts-many first, passing .many, ap length split));
+          small = omega (arith, sizes-append (type-parts first) others, size-by-parts first, passing .small, ap sizes split);
+          far = λ t h. omega (arith, sizes-append (type-parts first) others, size-by-parts first, passing .far t h, ap sizes split);
         }
 
 -- Parts come in pairs, so the types that are still to be passed do, once the root's byte has been passed.
@@ -167,7 +152,7 @@ all-nullable-append [] us = refl
 all-nullable-append (t ∷ ts) us =
     ap (λ b. nullable t && b) (all-nullable-append ts us) ∙ sym (and-assoc (nullable t) (all-nullable ts) (all-nullable us))
 
-by-parts : (t : Ty) → (kind t ≡ 0) ⊎ (kind t ≡ 4) → nullable t ≡ all-nullable (parts t)
+by-parts : (t : Ty) → (kind t ≡ 0) ⊎ (kind t ≡ 4) → nullable t ≡ all-nullable (type-parts t)
 unfolding nullable
 by-parts empty h = refl
 by-parts cue h = absurd (⊎-elim (λ e. omega arith) (λ e. omega arith) h)
@@ -209,12 +194,12 @@ module _ {bytes : List ℕ} {at owed end : ℕ} (nullables : Nullables bytes at 
     unfolding passed
     nullable-kind k =
         let p = nullables .passing in
-        let n : nullable (first p wanted) ≡ all-nullable (parts (first p wanted)) = by-parts (first p wanted) (rw (kind-at (stands p wanted)) at k) in
+        let n : nullable (first p wanted) ≡ all-nullable (type-parts (first p wanted)) = by-parts (first p wanted) (rw (kind-at (stands p wanted)) at k) in
         record {
           passing = passed p wanted;
           same = λ t s.
               nullables .same t s
               ∙ ap all-nullable (split p wanted)
               ∙ ap (λ b. b && all-nullable (others p wanted)) n
-              ∙ sym (all-nullable-append (parts (first p wanted)) (others p wanted));
+              ∙ sym (all-nullable-append (type-parts (first p wanted)) (others p wanted));
         }

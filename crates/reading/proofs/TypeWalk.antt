@@ -12,7 +12,7 @@ use Rattle.stream.specs.Reading.{Reading, fault, Root}
 use Rattle.stream.specs.Reading.Laws.{_&_, past, every}
 use Rattle.stream.specs.Reading.Walking.{Owes, MakesOne, leaf-makes, two-makes}
 use Rattle.stream.specs.TypeFiles.{type-kinds, type-root}
-use Rattle.reading.specs.TypeReads.{type-arity}
+use Rattle.stream.specs.Types.Kinds.{type-arity}
 
 -- What the byte k begins.
 abbrev kind-root : ℕ → List ℕ → Reading (Root (Unit {0}) Ty)

@@ -15,6 +15,7 @@ use Rattle.stream.specs.Types.{Ty, size, type-limit}
 use Rattle.stream.specs.Levels.{value-width}
 use Rattle.stream.specs.Prefixes.{Prefix, nothing, cue-awaited, cue-come, level-awaited, level-come, in-first, crossed, beside, Complete, IsPrefix, derivative}
 use Rattle.stream.specs.Prefixes.Functions.{complete}
+use Rattle.stream.specs.Prefixes.Kinds.{root-width}
 use Rattle.stream.specs.Reading.{Reading, read, fault, Result, accepted, refused, tree}
 use Rattle.reading.specs.TypeReads.{TypeAt}
 use Rattle.stream.specs.SliceFiles.{Owed, owed, prefix-root, prefix-bytes, slice-file}
@@ -88,10 +89,6 @@ is-unfinished k = getD (false ∷ true ∷ false ∷ true ∷ false ∷ true ∷
 abbrev pub belongs-at : ℕ → ℕ → Bool → Bool
 belongs-at type-kind k must-complete = eqb type-kind (type-kind-of k) && not (must-complete && is-unfinished k)
 
--- How many bytes a leaf of a slice takes.
-abbrev pub leaf-width : ℕ → ℕ
-leaf-width k = getD (1 ∷ 1 ∷ 1 ∷ 1 ∷ suc value-width ∷ []) k 1
-
 -- Whether the first part under a kind has to be complete; the kinds 0 to 4 have no parts.
 abbrev pub first-complete : ℕ → Bool → Bool
 first-complete k c = getD (c ∷ c ∷ c ∷ c ∷ c ∷ false ∷ true ∷ []) k c
@@ -99,8 +96,8 @@ first-complete k c = getD (c ∷ c ∷ c ∷ c ∷ c ∷ false ∷ true ∷ []) 
 -- A leaf of kind k at `from` of n bytes, walked through; its type ends at `type-end`.
 unfoldable pub leaf-walked : (type-end n from k : ℕ) → Walk
 leaf-walked type-end n from k =
-    cond (leb (leaf-width k) (n - from))
-    (Past type-end (from + leaf-width k) (record { complete = not (is-unfinished k); remains = 1; overlap = 1 }))
+    cond (leb (root-width k) (n - from))
+    (Past type-end (from + root-width k) (record { complete = not (is-unfinished k); remains = 1; overlap = 1 }))
     (Failed SliceCutShort)
 
 -- What is known of a sequence's prefix from its first part's.

@@ -12,10 +12,6 @@ use Rattle.stream.specs.Reading.{Result, accepted, refused}
 use Rattle.stream.specs.TypeFiles.{type-bytes, type-file}
 pub mod Laws
 
--- How many parts a type's kind has; of a byte that is no type's kind nobody asks.
-abbrev pub type-arity : ℕ → ℕ
-type-arity k = getD (0 ∷ 0 ∷ 0 ∷ []) k 2
-
 -- The type of a file stands behind the two bytes of its section's count.
 abbrev pub in-file : Ty → TypePlace
 in-file t = record { start = 2; end = 2 + size t }

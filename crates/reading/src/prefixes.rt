@@ -6,8 +6,9 @@ ghost use mathlib.Core.Path.{_≡_};
 ghost use Prim.Native.Nat.{_+_, _≤_, _<_};
 ghost use lib.ListN.{length, getD};
 ghost use Rattle.stream.specs.Types.{type-limit};
+ghost use Rattle.stream.specs.Prefixes.Kinds.{root-width};
 ghost use Rattle.reading.specs.TypeReads.{SomeTypeAt};
-ghost use Rattle.reading.specs.SliceReads.{type-kind-of, is-unfinished, belongs-at, leaf-width, first-complete, SomePrefixAt, PrefixEnds, TypeSpans, CompleteWide, leaf-walked, first-known, SumsFit, beside-walked, Walks, ReadsSlice};
+ghost use Rattle.reading.specs.SliceReads.{type-kind-of, is-unfinished, belongs-at, first-complete, SomePrefixAt, PrefixEnds, TypeSpans, CompleteWide, leaf-walked, first-known, SumsFit, beside-walked, Walks, ReadsSlice};
 
 // No slice file is longer: the count, a byte for each of 255 nodes, and two for each of at most 128 levels.
 pub const MAX_SLICE_FILE: usize = 513;
@@ -60,8 +61,8 @@ pub fn is_unfinished(kind: u8) -> bool
 }
 
 // How many bytes a leaf of a slice takes: a level that has come has its value behind it.
-pub fn leaf_width(kind: u8) -> usize
-    ensures { λ r. ⌜ r ≡ leaf-width kind ⌝ }
+pub fn root_width(kind: u8) -> usize
+    ensures { λ r. ⌜ r ≡ root-width kind ⌝ }
 {
     match kind {
         4 => 3,
@@ -129,7 +130,7 @@ fn walk_leaf(end: usize, slice: &[u8], from: usize) -> Walk
     ensures { λ r. ⌜ r ≡ leaf-walked end (length (now (slice .entry))) from (getD (now (slice .entry)) from 0) ⌝ }
 {
     let kind = slice[from];
-    let width = leaf_width(kind);
+    let width = root_width(kind);
     if slice.len() - from < width {
         return Walk::Failed(Fault::SliceCutShort);
     }

@@ -6,8 +6,9 @@ use stream::Fault;
 ghost use mathlib.Core.Path.{_≡_};
 ghost use lib.ListN.{length};
 ghost use Rattle.stream.specs.TypeFiles.{read-type, type-section, type-file};
+ghost use Rattle.stream.specs.Types.Kinds.{type-arity};
 ghost use Rattle.reading.specs.Sections.{end-of};
-ghost use Rattle.reading.specs.TypeReads.{type-arity, type-read, SomeTypeAt, TypeEnds, NullableIs};
+ghost use Rattle.reading.specs.TypeReads.{type-read, SomeTypeAt, TypeEnds, NullableIs};
 
 // Where a type stands in some bytes: from `start` up to, not including, `end`.
 pub struct TypePlace {

@@ -1,5 +1,5 @@
 -- The value of a level: its bound, and its two bytes. The definitions and laws take the width from here; the code that passes a
--- value has it by itself (`leaf_width`, `skip_prefix`, `complete_width`, `root_end`, `type_leaf`, `feed_level`), proved equal.
+-- value has it by itself (`root_width`, `skip_prefix`, `complete_width`, `root_end`, `type_leaf`, `feed_level`), proved equal.
 use mathlib.Core.List.{List, [], _∷_}
 use Prim.Native.Nat.{ℕ, _+_, _*_, _/_, _%_}
 use Rattle.stream.specs.declared.Fault.{Fault}

@@ -11,9 +11,10 @@ use Rattle.stream.specs.Prefixes.{Prefix, in-first, crossed, beside, Complete, 
 use Rattle.stream.specs.TypeFiles.{type-bytes}
 use Rattle.reading.specs.TypeReads.{TypeAt, SomeTypeAt, TypeEnds}
 use Rattle.reading.specs.TypeReads.Laws.{type-before, type-width, starts-inside, ends-inside, bytes-at, first-at, second-at}
-use Rattle.reading.specs.SliceReads.{prefix-width, leaf-width, PrefixAt, SomePrefixAt, PrefixEnds}
-use Rattle.reading.specs.SliceReads.Laws.{prefix-kind, width-positive, prefix-inside, kind-at, in-first-at, crossed-first-at, crossed-second-at, beside-first-at, beside-second-at}
+use Rattle.reading.specs.SliceReads.{prefix-width, PrefixAt, SomePrefixAt, PrefixEnds}
+use Rattle.reading.specs.SliceReads.Laws.{width-positive, prefix-inside, kind-at, in-first-at, crossed-first-at, crossed-second-at, beside-first-at, beside-second-at}
 use Rattle.stream.specs.Buffers.{at-front}
+use Rattle.stream.specs.Prefixes.Kinds.{prefix-kind, root-width}
 use Rattle.writing.specs.Writing.{leaf-left, Stands, DerivativeDue, Moves, DerivativeWritten, Begun}
 use Rattle.writing.specs.Writing.Laws.{part, back, byte, front-length, begins, goes-on, room-left, length-kept}
 use Rattle.writing.proofs.PrefixKinds.{Case, by-kind, leaf-is}
@@ -69,7 +70,7 @@ module _ (types : List ℕ) (at : ℕ) (slice : List ℕ) (from : ℕ) (lent : L
   -- A leaf
 
   module _ (five : getD slice from 0 ≡ 5 → ⊥) (six : getD slice from 0 ≡ 6 → ⊥) (seven : getD slice from 0 ≡ 7 → ⊥)
-      {left wide : ℕ} (left-is : left ≡ leaf-left (getD slice from 0)) (wide-is : wide ≡ leaf-width (getD slice from 0)) where
+      {left wide : ℕ} (left-is : left ≡ leaf-left (getD slice from 0)) (wide-is : wide ≡ root-width (getD slice from 0)) where
     abbrev moved-leaf : Moved
     moved-leaf = record { first = at + 1; second = from + wide; written = 1 }
 
@@ -79,7 +80,7 @@ module _ (types : List ℕ) (at : ℕ) (slice : List ℕ) (from : ℕ) (lent : L
         let leaf = leaf-is (due .stands .is-prefix) (λ e. five (k ∙ e)) (λ e. six (k ∙ e)) (λ e. seven (k ∙ e)) in
         record {
           first = omega (arith, leaf .0);
-          second = omega (arith, leaf .1, wide-is, ap leaf-width k);
+          second = omega (arith, leaf .1, wide-is, ap root-width k);
           written = rw (leaf .2);
           buffer = rw (leaf .2, left-is, k) (byte lent _ (inside due .some-room));
         }

@@ -8,8 +8,9 @@ use lib.ListN.{getD}
 use Rattle.stream.specs.Types.{Ty}
 use Rattle.stream.specs.Prefixes.{Prefix, nothing, cue-awaited, cue-come, level-awaited, level-come, in-first, crossed, beside, IsPrefix, of-empty, of-cue-awaited, of-cue-come, of-level-awaited, of-level-come, of-first, of-crossed, of-beside, derivative}
 use Rattle.stream.specs.Prefixes.Functions.{concat}
+use Rattle.stream.specs.Prefixes.Kinds.{prefix-kind}
 use Rattle.reading.specs.SliceReads.{prefix-width, is-unfinished}
-use Rattle.reading.specs.SliceReads.Laws.{prefix-kind, prefix-bytes-length, kind-at}
+use Rattle.reading.specs.SliceReads.Laws.{prefix-bytes-length, kind-at}
 use Rattle.writing.specs.Writing.{PrefixDue, PrefixWritten, ConcatDue, LeafConcatDue, ConcatWritten}
 
 -- A leaf still awaited gives way to the second prefix; after one that has come there is nothing left but the empty type.

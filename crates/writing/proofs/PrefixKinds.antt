@@ -7,8 +7,8 @@ use Rattle.stream.specs.Types.{Ty, empty, cue, level, seq, par, size}
 use Rattle.stream.specs.Levels.{level-limit}
 use Rattle.stream.specs.Prefixes.{Prefix, nothing, cue-awaited, cue-come, level-awaited, level-come, in-first, crossed, beside, Complete, IsPrefix, of-empty, of-cue-awaited, of-cue-come, of-level-awaited, of-level-come, of-first, of-crossed, of-beside, derivative}
 use Rattle.stream.specs.TypeFiles.{type-bytes}
-use Rattle.reading.specs.SliceReads.{prefix-width, leaf-width}
-use Rattle.reading.specs.SliceReads.Laws.{prefix-kind}
+use Rattle.stream.specs.Prefixes.Kinds.{prefix-kind, root-width}
+use Rattle.reading.specs.SliceReads.{prefix-width}
 use Rattle.writing.specs.Writing.{leaf-left}
 
 -- What has to be shown for the kind k.
@@ -39,7 +39,7 @@ by-kind P (of-beside {s} {t} {p} {q} h k) c = c s t p q h k
 
 -- A leaf.
 pub leaf-is : {t : Ty} {p : Prefix} → IsPrefix t p → (prefix-kind p ≡ 5 → ⊥) → (prefix-kind p ≡ 6 → ⊥) → (prefix-kind p ≡ 7 → ⊥)
-    → (size t ≡ 1) × (prefix-width p ≡ leaf-width (prefix-kind p)) × (type-bytes (derivative t p) [] ≡ leaf-left (prefix-kind p) ∷ [])
+    → (size t ≡ 1) × (prefix-width p ≡ root-width (prefix-kind p)) × (type-bytes (derivative t p) [] ≡ leaf-left (prefix-kind p) ∷ [])
 unfolding size prefix-width type-bytes derivative
 leaf-is of-empty f g h = (refl, refl, refl)
 leaf-is of-cue-awaited f g h = (refl, refl, refl)

@@ -12,9 +12,10 @@ use Rattle.stream.specs.Buffers.{at-front}
 use Rattle.stream.specs.Prefixes.{Prefix, Complete, whole-nothing, whole-cue, whole-level, whole-crossed, whole-beside, derivative}
 use Rattle.stream.specs.TypeFiles.{type-bytes}
 use Rattle.stream.specs.TypeFiles.Laws.{type-length}
+use Rattle.stream.specs.Prefixes.Kinds.{root-width}
 use Rattle.reading.specs.TypeReads.Laws.{type-width}
-use Rattle.reading.specs.SliceReads.{prefix-width, leaf-width, PrefixAt, SomePrefixAt, PrefixEnds}
-use Rattle.reading.specs.SliceReads.Laws.{width-positive, leaf-positive, prefix-inside, kind-at, crossed-first-at, crossed-second-at, beside-first-at, beside-second-at}
+use Rattle.reading.specs.SliceReads.{prefix-width, PrefixAt, SomePrefixAt, PrefixEnds}
+use Rattle.reading.specs.SliceReads.Laws.{width-positive, root-positive, prefix-inside, kind-at, crossed-first-at, crossed-second-at, beside-first-at, beside-second-at}
 use Rattle.writing.specs.Writing.{SpentDue, SpentWritten}
 use Rattle.writing.specs.Appending.Laws.{WrittenSoFar, nothing-written, written-on}
 use Rattle.writing.proofs.RoomBehind.{appended-byte}
@@ -92,7 +93,7 @@ module _ {slice : List ℕ} where
 
   -- A complete leaf leaves the empty type.
   leaves : {owed from : ℕ} {left : List ℕ} → Pending slice owed from left → 0 < owed → (getD slice from 0 ≡ 6 → ⊥)
-      → (getD slice from 0 ≡ 7 → ⊥) → Turns slice 0 (owed - 1) (from + leaf-width (getD slice from 0)) left
+      → (getD slice from 0 ≡ 7 → ⊥) → Turns slice 0 (owed - 1) (from + root-width (getD slice from 0)) left
   unfolding prefix-width derivative type-bytes
   leaves (none i) h six seven = absurd (omega arith)
   leaves (more t s whole-nothing r) h six seven = record { others = _; next = refl; pending = rw (kind-at s) (moved r (omega arith) refl) }
@@ -190,10 +191,10 @@ module _ {slice lent whole now : List ℕ} {owed from written : ℕ} (spending :
     forked seven = turned (forks (spending .pending) wanted seven)
 
     -- At a leaf a byte 0 is written, and one prefix less is owed.
-    pub leaf : (getD slice from 0 ≡ 6 → ⊥) → (getD slice from 0 ≡ 7 → ⊥) → {wide : ℕ} → wide ≡ leaf-width (getD slice from 0)
+    pub leaf : (getD slice from 0 ≡ 6 → ⊥) → (getD slice from 0 ≡ 7 → ⊥) → {wide : ℕ} → wide ≡ root-width (getD slice from 0)
         → (from < from + wide) × Spending slice lent whole (set now written 0) (owed - 1) (from + wide) (written + 1)
     leaf six seven e =
-        (omega (arith, e, leaf-positive (getD slice from 0)), rw e (turned (leaves (spending .pending) wanted six seven)))
+        (omega (arith, e, root-positive (getD slice from 0)), rw e (turned (leaves (spending .pending) wanted six seven)))
 
 -- So after the loop the contract is met, whichever prefix stood at `at`.
 pub spent : {slice : List ℕ} {at : ℕ} {lent now : List ℕ} {owed from written : ℕ}

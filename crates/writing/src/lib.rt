@@ -1,7 +1,7 @@
 // Types and slices in bytes: the code that writes them. Each writer is handed the part of the lent buffer where it has to
 // write, with room that was measured before, and hands the later parts on.
 use reading::prefixes::is_unfinished;
-use reading::prefixes::leaf_width;
+use reading::prefixes::root_width;
 use reading::prefixes::skip_prefix;
 use reading::types::skip_type;
 ghost use mathlib.Core.Path.{_≡_};
@@ -115,7 +115,7 @@ pub fn write_derivative(types: &[u8], at: usize, slice: &[u8], from: usize, out:
         }
         _ => {
             out[0] = leaf_left(kind);
-            Moved::new(at + 1, from + leaf_width(kind), 1)
+            Moved::new(at + 1, from + root_width(kind), 1)
         }
     }
 }
@@ -262,7 +262,7 @@ pub fn write_spent(slice: &[u8], at: usize, out: &mut [u8]) -> usize
             out[written] = 0;
             written += 1;
             owed -= 1;
-            from += leaf_width(kind);
+            from += root_width(kind);
         }
     }
     written

@@ -13,7 +13,8 @@ use Rattle.stream.specs.Prefixes.{Prefix, nothing, cue-awaited, cue-come, level
 use Rattle.stream.specs.Prefixes.Functions.{concat}
 use Rattle.stream.specs.Reading.Laws.{_&_, past, every}
 use Rattle.stream.specs.SliceFiles.{prefix-bytes}
-use Rattle.reading.specs.SliceReads.{prefix-width, overlap, leaf-width, PrefixAt}
+use Rattle.stream.specs.Prefixes.Kinds.{prefix-kind, root-width}
+use Rattle.reading.specs.SliceReads.{prefix-width, overlap, PrefixAt}
 
 -- Widths
 
@@ -50,9 +51,10 @@ overlap-within (in-first p) = omega (arith, overlap-within p)
 overlap-within (crossed b q) = omega (arith, overlap-within q)
 overlap-within (beside p q) = omega (arith, overlap-within p, overlap-within q)
 
-pub leaf-positive : (k : ℕ) → 1 ≤ leaf-width k
-leaf-positive =
-    every (λ k w. 1 ≤ w) 1 _ (omega arith & omega arith & omega arith & omega arith & omega arith & past (λ k h. omega arith))
+pub root-positive : (k : ℕ) → 1 ≤ root-width k
+root-positive =
+    every (λ k w. 1 ≤ w) 1 _
+    (omega arith & omega arith & omega arith & omega arith & omega arith & omega arith & omega arith & omega arith & past (λ k h. omega arith))
 
 -- A join is shorter than the two by the overlap of the first.
 pub concat-width : {t : Ty} {p : Prefix} (q : Prefix) → IsPrefix t p → IsPrefix (derivative t p) q
@@ -98,16 +100,6 @@ pub prefix-before : (p : Prefix) (r : List ℕ) → prefix-bytes p r ≡ prefix-
 prefix-before p r = prefix-append p [] r
 
 -- Places
-
-abbrev pub prefix-kind : Prefix → ℕ
-prefix-kind nothing = 0
-prefix-kind cue-awaited = 1
-prefix-kind cue-come = 2
-prefix-kind level-awaited = 3
-prefix-kind (level-come v) = 4
-prefix-kind (in-first p) = 5
-prefix-kind (crossed b q) = 6
-prefix-kind (beside p q) = 7
 
 kind-first : (p : Prefix) (r : List ℕ) → getD (prefix-bytes p r) 0 0 ≡ prefix-kind p
 unfolding prefix-bytes

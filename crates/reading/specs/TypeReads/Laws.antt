@@ -14,16 +14,17 @@ use Rattle.stream.specs.Reading.{Bytes, read, fault}
 use Rattle.stream.specs.Reading.Laws.{bytes-drop, bytes-take, _&_, past, every}
 use Rattle.stream.specs.TypeFiles.{type-bytes, type-kinds, type-root, read-type, type-section}
 use Rattle.stream.specs.TypeFiles.Laws.{type-length, read-type-reads, read-type-sound}
+use Rattle.stream.specs.Types.Kinds.{type-arity}
 use Rattle.reading.specs.Sections.{end-of}
 use Rattle.reading.specs.Sections.Laws.{inside, section-ended, Within, tree-within}
-use Rattle.reading.specs.TypeReads.{type-arity, TypeAt, TypeEnds}
+use Rattle.reading.specs.TypeReads.{TypeAt, TypeEnds}
 
 -- No kind has more than two parts, and parts come in pairs.
 pub arity-small : (k : ℕ) → type-arity k ≤ 2
-arity-small = every (λ k n. n ≤ 2) 2 _ (omega arith & omega arith & omega arith & past (λ k h. omega arith))
+arity-small = every (λ k n. n ≤ 2) 2 _ (omega arith & omega arith & omega arith & omega arith & omega arith & past (λ k h. omega arith))
 
 pub arity-paired : (k : ℕ) → type-arity k ≡ 2 * (type-arity k / 2)
-arity-paired = every (λ k n. n ≡ 2 * (n / 2)) 2 _ (omega arith & omega arith & omega arith & past (λ k h. omega arith))
+arity-paired = every (λ k n. n ≡ 2 * (n / 2)) 2 _ (omega arith & omega arith & omega arith & omega arith & omega arith & past (λ k h. omega arith))
 
 -- Behind a type stands what was put there.
 pub type-drop : (t : Ty) (r : List ℕ) → drop (size t) (type-bytes t r) ≡ r

@@ -11,7 +11,7 @@ use Rattle.writing.proofs.Derivative.{Inside, FirstWritten, SecondEnds,
 use Rattle.writing.proofs.write_derivative.Reads as write-derivative
 use Rattle.writing.proofs.write_derivative.Kinds as write-derivative-kinds
 use Rattle.writing.proofs.+write_derivative.Lts-write_derivative as lts
-use Rattle.reading.proofs.prefixes.leaf_width.Reads as leaf-width-reads
+use Rattle.reading.proofs.prefixes.root_width.Reads as root-width-reads
 use Rattle.reading.proofs.prefixes.skip_prefix.Reads as skip-prefix-reads
 use Rattle.reading.proofs.types.skip_type.Reads as skip-type-reads
 use Rattle.writing.proofs.Moved.new.Reads as new-reads
@@ -48,8 +48,8 @@ module _ (t : ℕ) where
     onward-reads.Learnt,
     leaf-left-reads.Asked,
     leaf-left-reads.Learnt,
-    leaf-width-reads.Asked,
-    leaf-width-reads.Learnt,
+    root-width-reads.Asked,
+    root-width-reads.Learnt,
   )
 
   -- What is known at the entry, once a first part is written, and once `skip_type` has answered.
@@ -254,15 +254,15 @@ module _ (t : ℕ) where
   add-new-2 : lts.Need-add-new-2 calls here write-derivative.Post
   add-new-2 c = omega (arith, entered (c .before .before .before .before .before .before))
 
-  leaf-width-requires : lts.Need-leaf-width-requires calls here write-derivative.Post
-  leaf-width-requires c κs = search needs
+  root-width-requires : lts.Need-root-width-requires calls here write-derivative.Post
+  root-width-requires c κs = search needs
 
   add-new-3 : lts.Need-add-new-3 calls here write-derivative.Post
   add-new-3 c =
       let none = c .before .before .match .rest in
       omega (
         arith,
-        leaf-inside _ _ _ _ _ (none .0 .0 .1) (none .0 .1) (none .1) (c .before .leaf-left .ensures) (c .leaf-width .ensures)
+        leaf-inside _ _ _ _ _ (none .0 .0 .1) (none .0 .1) (none .1) (c .before .leaf-left .ensures) (c .root-width .ensures)
             (c .before .before .before .before .before .before .before .pre .1),
       )
 
@@ -308,7 +308,7 @@ module _ (t : ℕ) where
   returns-4 c =
       let none = c .before .before .before .match .rest in
       rw (c .new2 .ensures)
-      (leaf-written _ _ _ _ _ (none .0 .0 .1) (none .0 .1) (none .1) (c .before .before .leaf-left .ensures) (c .before .leaf-width .ensures))
+      (leaf-written _ _ _ _ _ (none .0 .0 .1) (none .0 .1) (none .1) (c .before .before .leaf-left .ensures) (c .before .root-width .ensures))
 
   same-length-4 : lts.Need-same-length-4 calls here write-derivative.Post
   same-length-4 c = length-stays _ _ _ _ _ (c .before .before .before .before .before .before .before .before .pre .1) (returns-4 c)
@@ -362,7 +362,7 @@ pub +write-derivative-spec : {M : Type 1} → statement M
     (leaf-left-requires t)
     (slice-write-out-3 t)
     (add-new-2 t)
-    (leaf-width-requires t)
+    (root-width-requires t)
     (add-new-3 t)
     (new-requires-2 t)
     (same-length t)

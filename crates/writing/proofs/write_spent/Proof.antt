@@ -67,16 +67,16 @@ add-written-2 c = omega (arith, fits (c .before .before .before .before .loop .i
 sub-owed : tie.Need-sub-owed Inv-loop μ-loop
 sub-owed c = omega arith
 
-leaf-width-requires : tie.Need-leaf-width-requires Inv-loop μ-loop
-leaf-width-requires c κs = search needs
+root-width-requires : tie.Need-root-width-requires Inv-loop μ-loop
+root-width-requires c κs = search needs
 
 loop-less-3 : tie.Need-loop-less-3 Inv-loop μ-loop
 loop-less-3 c =
     let spending = c .before .before .before .before .before .loop .inv (c .before .before .before .before .before .before .before .before .pre) in
-    omega (arith, inside spending (omega arith), leaf spending (omega arith) (λ six. omega arith) (λ seven. omega arith) (c .leaf-width .ensures) .0)
+    omega (arith, inside spending (omega arith), leaf spending (omega arith) (λ six. omega arith) (λ seven. omega arith) (c .root-width .ensures) .0)
 
 loop-again-3 : tie.Need-loop-again-3 Inv-loop μ-loop
-loop-again-3 c = λ due. leaf (c .before .before .before .before .before .loop .inv due) (omega arith) (λ six. omega arith) (λ seven. omega arith) (c .leaf-width .ensures) .1
+loop-again-3 c = λ due. leaf (c .before .before .before .before .before .loop .inv due) (omega arith) (λ six. omega arith) (λ seven. omega arith) (c .root-width .ensures) .1
 
 add-from-2 : tie.Need-add-from-2 Inv-loop μ-loop
 add-from-2 c = omega (arith, within (loop-again-3 c (c .before .before .before .before .before .before .before .before .pre)))
@@ -108,7 +108,7 @@ write-spent-spec =
     slice-write-out-2
     add-written-2
     sub-owed
-    leaf-width-requires
+    root-width-requires
     add-from-2
     loop-less-3
     loop-again-3

@@ -3,17 +3,22 @@ use native.Mathlib.Omega.{arith}
 use mathlib.Core.Path.{_≡_, refl}
 use Prim.Native.Nat.{ℕ, _≤_, _<_}
 use Rattle.stream.specs.Reading.Laws.{_&_, past, every}
-use Rattle.reading.specs.TypeReads.{type-arity}
+use Rattle.stream.specs.Types.Kinds.{type-arity}
 use Rattle.reading.proofs.types.type_arity.Statement.{statement}
 use Rattle.reading.proofs.types.type_arity.Tie as tie
 
 leaf : (k : ℕ) → k ≤ 2 → 0 ≡ type-arity k
-leaf = every (λ k n. k ≤ 2 → 0 ≡ n) 2 _ ((λ h. refl) & (λ h. refl) & (λ h. refl) & past (λ k past h. absurd (omega arith)))
+leaf = every (λ k n. k ≤ 2 → 0 ≡ n) 2 _ ((λ h. refl) & (λ h. refl) & (λ h. refl) & (λ h. absurd (omega arith)) & (λ h. absurd (omega arith)) & past (λ k past h. absurd (omega arith)))
 
 fork : (k : ℕ) → 2 < k → 2 ≡ type-arity k
 fork =
     every (λ k n. 2 < k → 2 ≡ n) 2 _
-    ((λ h. absurd (omega arith)) & (λ h. absurd (omega arith)) & (λ h. absurd (omega arith)) & past (λ k past h. refl))
+    ((λ h. absurd (omega arith))
+    & (λ h. absurd (omega arith))
+    & (λ h. absurd (omega arith))
+    & (λ h. refl)
+    & (λ h. refl)
+    & past (λ k past h. refl))
 
 returns : tie.Need-returns
 returns c = leaf (c .before .args .kind) (omega arith)
