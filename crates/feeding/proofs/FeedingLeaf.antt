@@ -5,24 +5,19 @@ use mathlib.Core.List.{List}
 use Prim.Native.Nat.{ℕ, zero, suc, _+_, _≤_, _<_}
 use native.Mathlib.Omega.{arith}
 use lib.ListN.{length, getD}
-use Rattle.stream.specs.Types.{Ty, Nullable, type-limit}
-use Rattle.stream.specs.Prefixes.{cue-come}
-use Rattle.reading.specs.SliceReads.{prefix-width}
-use Rattle.node.specs.Nodes.{Node, silent, emit-cue, emit-level, second, Takes, takes-silent}
+use Rattle.stream.specs.Types.{type-limit}
+use Rattle.node.specs.Nodes.{Node, second}
 use Rattle.node.specs.Feeding.Functions.{sends, leaves}
 use Rattle.node.specs.PatchFiles.{node-bytes}
 use Rattle.patch_reading.specs.PatchReads.{node-arity}
-use Rattle.patch_reading.specs.PatchReads.Laws.{Case, by-byte, silent-at, kind-listed}
+use Rattle.patch_reading.specs.PatchReads.Laws.{Case, by-byte, kind-listed}
 use Rattle.leaf_feeding.specs.declared.Sent.{Sent}
-use Rattle.leaf_feeding.specs.Sending.{Delivers, EmitsCue, LeafDue, LeafFed, SilentDue, SilentFed, LevelDue, LevelFed}
+use Rattle.leaf_feeding.specs.Sending.{Delivers, LeafDue, LeafFed, CarryingDue, CarryingFed}
 use Rattle.feeding.specs.declared.Step.{Step}
 use Rattle.feeding.specs.Steps.{FeedDue, FeedsNode, GiveDue, GivesLeaf, BehindDue, FeedsBehind}
 use Rattle.feeding.specs.Steps.Laws.{left-width}
 use Rattle.feeding.proofs.Below.{count-positive}
 use Rattle.feeding.proofs.Giving.{makes-step}
-
-silent-nullable : {s t o : Ty} → Takes s (silent t) o → Nullable t
-silent-nullable (takes-silent null) = null
 
 -- A number below n is one of those below n.
 
@@ -47,27 +42,31 @@ module _ {types : List ℕ} {at : ℕ} {nodes : List ℕ} {from : ℕ} {slice : 
     unfolding type-limit
     left-room = omega (arith, due .room .for-nodes, count-positive (due .node))
 
-    -- What each kind is asked. The kinds that carry nothing:
-
-    is-node : {n : Node} {k : ℕ} → getD nodes from 0 ≡ k → Case (λ m. m ≡ n) k → due .node ≡ n
-    is-node {n} kind only = by-byte (λ m. m ≡ n) (due .stand .node-at) kind only
-
-    pub leaf-due : {n : Node} {k : ℕ} → getD nodes from 0 ≡ k → Case (λ m. m ≡ n) k → LeafDue n slice place out remainder
-    leaf-due kind only =
+    -- The node, under the name by which it is known.
+    leaf-of : {n : Node} → due .node ≡ n → LeafDue n slice place out remainder
+    leaf-of is =
         record {
           type = due .type;
           output-type = due .feedable .output;
           prefix = due .prefix;
           prefix-at = due .stand .prefix-at;
-          types = rw (← is-node kind only) (due .feedable .types);
+          types = rw (← is) (due .feedable .types);
           small = due .stand .type-at .small;
           is-prefix = due .feedable .is-prefix;
-          output-room = rw (← is-node kind only) (due .room .for-output);
+          output-room = rw (← is) (due .room .for-output);
           left-room = left-room;
         }
 
+    -- What each kind is asked. The kinds that fix the node:
+
+    is-node : {n : Node} {k : ℕ} → getD nodes from 0 ≡ k → Case (λ m. m ≡ n) k → due .node ≡ n
+    is-node {n} kind only = by-byte (λ m. m ≡ n) (due .stand .node-at) kind only
+
+    pub leaf-due : {n : Node} {k : ℕ} → getD nodes from 0 ≡ k → Case (λ m. m ≡ n) k → LeafDue n slice place out remainder
+    leaf-due kind only = leaf-of (is-node kind only)
+
     pub behind-due : getD nodes from 0 ≡ 8 → BehindDue types at slice place out remainder given
-    unfolding leaf-due
+    unfolding leaf-of leaf-due
     behind-due kind =
         record {
           leaf = leaf-due kind refl;
@@ -75,40 +74,9 @@ module _ {types : List ℕ} {at : ℕ} {nodes : List ℕ} {from : ℕ} {slice : 
           room = rw (is-node {n = second} kind refl) at (due .room .for-type);
         }
 
-    -- Silent, cue and level:
-
-    pub silent-due : getD nodes from 0 ≡ 1 → SilentDue nodes from out remainder
-    unfolding sends
-    silent-due kind =
-        let carried = silent-at kind (due .stand .node-at) in
-        record {
-          type = carried .type;
-          node-at = rw (← carried .made) (due .stand .node-at);
-          null = silent-nullable (rw (carried .made) at (due .feedable .types));
-          output-room = rw (carried .made) at (due .room .for-output);
-          left-room = left-room;
-        }
-
-    pub cue-due : getD nodes from 0 ≡ 2 → (1 ≤ length out) × (2 ≤ length remainder)
-    unfolding sends prefix-width type-limit
-    cue-due kind =
-        let sent : sends (due .type) (due .node) (due .prefix) ≡ cue-come
-        = by-byte (λ n. sends (due .type) n (due .prefix) ≡ cue-come) (due .stand .node-at) kind refl in
-        (rw sent at (due .room .for-output), omega (arith, left-room))
-
-    is-level : getD nodes from 0 ≡ 3 → (value : ℕ) × (due .node ≡ emit-level value)
-    is-level kind = by-byte (λ n. (value : ℕ) × (n ≡ emit-level value)) (due .stand .node-at) kind (λ v. (v, refl))
-
-    pub level-due : getD nodes from 0 ≡ 3 → LevelDue nodes from out remainder
-    unfolding sends type-limit
-    level-due kind =
-        let carried = is-level kind in
-        record {
-          value = carried .0;
-          node-at = rw (← carried .1) (due .stand .node-at);
-          output-room = rw (carried .1) at (due .room .for-output);
-          left-room = omega (arith, left-room);
-        }
+    -- The kinds that carry something:
+    pub carrying-due : {k : ℕ} → getD nodes from 0 ≡ k → CarryingDue k nodes from slice place out remainder
+    carrying-due kind = record { node = due .node; node-at = due .stand .node-at; kind = kind; leaf = leaf-of refl }
 
   module _ {out-now remainder-now : List ℕ} {sent : Sent} where
     -- What each kind sends and leaves.
@@ -116,29 +84,15 @@ module _ {types : List ℕ} {at : ℕ} {nodes : List ℕ} {from : ℕ} {slice : 
     pub leaf-fed : {n : Node} {k : ℕ} → getD nodes from 0 ≡ k → Case (λ m. m ≡ n) k → node-arity k ≡ 0
         → LeafFed n slice place out remainder out-now remainder-now sent
         → LeafFeeds types at nodes from slice place out remainder given out-now remainder-now sent
-    unfolding leaf-due
+    unfolding leaf-of leaf-due
     leaf-fed kind only leaf feeds =
         record { leaf = ap node-arity kind ∙ leaf; each = λ due. rw (is-node due kind only) (feeds .each (leaf-due due kind only)) }
 
-    pub silent-fed : getD nodes from 0 ≡ 1 → SilentFed nodes from out remainder out-now remainder-now sent
+    pub carrying-fed : {k : ℕ} → getD nodes from 0 ≡ k → node-arity k ≡ 0
+        → CarryingFed k nodes from slice place out remainder out-now remainder-now sent
         → LeafFeeds types at nodes from slice place out remainder given out-now remainder-now sent
-    unfolding silent-due sends leaves
-    silent-fed kind feeds =
-        record {
-          leaf = ap node-arity kind;
-          each = λ due. rw (silent-at kind (due .stand .node-at) .made) (feeds .each (silent-due due kind));
-        }
-
-    pub cue-fed : getD nodes from 0 ≡ 2 → EmitsCue out remainder out-now remainder-now sent
-        → LeafFeeds types at nodes from slice place out remainder given out-now remainder-now sent
-    unfolding sends leaves
-    cue-fed kind feeds = record { leaf = ap node-arity kind; each = λ due. rw (is-node due {n = emit-cue} kind refl) feeds }
-
-    pub level-fed : getD nodes from 0 ≡ 3 → LevelFed nodes from out remainder out-now remainder-now sent
-        → LeafFeeds types at nodes from slice place out remainder given out-now remainder-now sent
-    unfolding level-due sends leaves
-    level-fed kind feeds =
-        record { leaf = ap node-arity kind; each = λ due. rw (is-level due kind .1) (feeds .each (level-due due kind)) }
+    unfolding leaf-of carrying-due
+    carrying-fed kind leaf feeds = record { leaf = ap node-arity kind ∙ leaf; each = λ due. feeds .each (carrying-due due kind) }
 
     -- No other kind is listed.
     pub other-fed : Outside 15 (getD nodes from 0) → FeedDue types at nodes from slice place out remainder given
@@ -183,5 +137,5 @@ module _ {types : List ℕ} {at : ℕ} {nodes : List ℕ} {from : ℕ} {slice : 
   pub behind-fed : {out-after remainder-after given-after : List ℕ} {step : Step} → getD nodes from 0 ≡ 8
       → FeedsBehind types at (from + 1) slice place out remainder given out-after remainder-after given-after step
       → FeedsNode types at nodes from slice place out remainder given out-after remainder-after given-after step
-  unfolding leaf-due behind-due node-bytes
+  unfolding leaf-of leaf-due behind-due node-bytes
   behind-fed kind feeds = record { each = λ due. rw (is-node due {n = second} kind refl) (feeds .each (behind-due due kind)) }

@@ -103,9 +103,9 @@ pub fn feed_node(
 {
     let fed = match nodes[from] {
         0 => feed_pass(slice, place, out, remainder),
-        1 => feed_silent(nodes, from, out, remainder),
-        2 => feed_cue(out, remainder),
-        3 => feed_level(nodes, from, out, remainder),
+        1 => feed_silent(nodes, from, slice, place, out, remainder),
+        2 => feed_cue(slice, place, out, remainder),
+        3 => feed_level(nodes, from, slice, place, out, remainder),
         4 => {
             return feed_both(types, at, nodes, from, slice, place, out, remainder, given);
         }

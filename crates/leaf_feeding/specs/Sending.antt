@@ -2,14 +2,14 @@
 use mathlib.Core.Path.{_≡_}
 use mathlib.Core.List.{List, [], _∷_}
 use Prim.Native.Nat.{ℕ, suc, _+_, _≤_}
-use lib.ListN.{length}
-use Rattle.stream.specs.Types.{Ty, empty, Nullable, size, type-limit, first-part, second-part}
+use lib.ListN.{length, getD}
+use Rattle.stream.specs.Types.{Ty, empty, size, type-limit, first-part, second-part}
 use Rattle.stream.specs.Buffers.{at-front}
-use Rattle.stream.specs.Prefixes.{Prefix, cue-come, level-come, IsPrefix, empty-prefix}
+use Rattle.stream.specs.Prefixes.{Prefix, IsPrefix}
 use Rattle.stream.specs.SliceFiles.{prefix-bytes}
 use Rattle.reading.specs.TypeReads.{TypeAt}
 use Rattle.reading.specs.SliceReads.{PrefixAt, prefix-width}
-use Rattle.node.specs.Nodes.{Node, silent, emit-level, second, Takes, Small}
+use Rattle.node.specs.Nodes.{Node, silent, second, Takes, Small}
 use Rattle.node.specs.Feeding.Functions.{sends, leaves}
 use Rattle.node.specs.PatchFiles.{node-bytes}
 use Rattle.patch_reading.specs.PatchReads.{node-width, NodeAt}
@@ -34,9 +34,6 @@ pub record Delivers (o : Prefix) (n : Node) (out remainder out-after remainder-a
   pub leaves : Leaves n (prefix-width o) remainder remainder-after fed
   pub output : out-after ≡ at-front (prefix-bytes o []) out
 
-abbrev pub EmitsCue : (out remainder out-after remainder-after : List ℕ) → Sent → Type 0
-EmitsCue out remainder out-after remainder-after fed = Delivers cue-come (silent empty) out remainder out-after remainder-after fed
-
 -- The node n is to be fed the prefix at `place`, and there is room for what it sends and leaves; no node without parts leaves
 -- more than silent with the largest type.
 pub record LeafDue (n : Node) (slice : List ℕ) (place : ℕ) (out remainder : List ℕ) : Type 0 where
@@ -50,9 +47,23 @@ pub record LeafDue (n : Node) (slice : List ℕ) (place : ℕ) (out remainder : 
   pub output-room : prefix-width (sends type n prefix) ≤ length out
   pub left-room : suc type-limit ≤ length remainder
 
+abbrev pub FedAs : {n : Node} {slice : List ℕ} {place : ℕ} {out remainder : List ℕ} (due : LeafDue n slice place out remainder) (out-after remainder-after : List ℕ) → Sent → Type 0
+FedAs {n} {slice} {place} {out} {remainder} due out-after remainder-after fed =
+    Delivers (sends (due .type) n (due .prefix)) (leaves (due .type) n (due .prefix)) out remainder out-after remainder-after fed
+
+-- Nodes that are fixed by their kind.
 pub record LeafFed (n : Node) (slice : List ℕ) (place : ℕ) (out remainder out-after remainder-after : List ℕ) (fed : Sent) : Type 0 where
-  pub each : (due : LeafDue n slice place out remainder)
-      → Delivers (sends (due .type) n (due .prefix)) (leaves (due .type) n (due .prefix)) out remainder out-after remainder-after fed
+  pub each : (due : LeafDue n slice place out remainder) → FedAs due out-after remainder-after fed
+
+-- Nodes of the kind k, which carry something in their bytes: the node that stands at `from`.
+pub record CarryingDue (k : ℕ) (nodes : List ℕ) (from : ℕ) (slice : List ℕ) (place : ℕ) (out remainder : List ℕ) : Type 0 where
+  pub node : Node
+  pub node-at : NodeAt nodes from node
+  pub kind : getD nodes from 0 ≡ k
+  pub leaf : LeafDue node slice place out remainder
+
+pub record CarryingFed (k : ℕ) (nodes : List ℕ) (from : ℕ) (slice : List ℕ) (place : ℕ) (out remainder out-after remainder-after : List ℕ) (fed : Sent) : Type 0 where
+  pub each : (due : CarryingDue k nodes from slice place out remainder) → FedAs (due .leaf) out-after remainder-after fed
 
 -- The same for second, which asks both parts of the type: where they stand, one behind the other.
 pub record SecondDue (types : List ℕ) (at next : ℕ) (slice : List ℕ) (place : ℕ) (out remainder : List ℕ) : Type 0 where
@@ -62,28 +73,4 @@ pub record SecondDue (types : List ℕ) (at next : ℕ) (slice : List ℕ) (plac
   pub ends : next ≡ at + size (first-part (due .type))
 
 pub record SecondFed (types : List ℕ) (at next : ℕ) (slice : List ℕ) (place : ℕ) (out remainder out-after remainder-after : List ℕ) (fed : Sent) : Type 0 where
-  pub each : (asked : SecondDue types at next slice place out remainder)
-      → (let due = asked .due in
-      Delivers (sends (due .type) second (due .prefix)) (leaves (due .type) second (due .prefix)) out remainder out-after remainder-after fed)
-
--- Silent and level, by what they carry in the nodes' bytes.
-pub record SilentDue (nodes : List ℕ) (from : ℕ) (out remainder : List ℕ) : Type 0 where
-  pub type : Ty
-  pub node-at : NodeAt nodes from (silent type)
-  pub null : Nullable type
-  pub output-room : prefix-width (empty-prefix type) ≤ length out
-  pub left-room : suc type-limit ≤ length remainder
-
-pub record SilentFed (nodes : List ℕ) (from : ℕ) (out remainder out-after remainder-after : List ℕ) (fed : Sent) : Type 0 where
-  pub each : (due : SilentDue nodes from out remainder)
-      → Delivers (empty-prefix (due .type)) (silent (due .type)) out remainder out-after remainder-after fed
-
-pub record LevelDue (nodes : List ℕ) (from : ℕ) (out remainder : List ℕ) : Type 0 where
-  pub value : ℕ
-  pub node-at : NodeAt nodes from (emit-level value)
-  pub output-room : prefix-width (level-come value) ≤ length out
-  pub left-room : 2 ≤ length remainder
-
-pub record LevelFed (nodes : List ℕ) (from : ℕ) (out remainder out-after remainder-after : List ℕ) (fed : Sent) : Type 0 where
-  pub each : (due : LevelDue nodes from out remainder)
-      → Delivers (level-come (due .value)) (silent empty) out remainder out-after remainder-after fed
+  pub each : (asked : SecondDue types at next slice place out remainder) → FedAs (asked .due) out-after remainder-after fed

@@ -10,8 +10,11 @@ use writing::write_empty;
 use writing::write_spent;
 ghost use Prim.Native.Nat.{_≤_};
 ghost use lib.ListN.{length};
-ghost use Rattle.node.specs.Nodes.{pass, left-side, right-side, first, regroup-right, regroup-left, spread, front};
-ghost use Rattle.leaf_feeding.specs.Sending.{LeavesKind, LeavesSilent, LeafDue, LeafFed, SilentDue, SilentFed, EmitsCue, LevelDue, LevelFed, SecondDue, SecondFed};
+ghost use Rattle.node.specs.Nodes.{pass, emit-cue, left-side, right-side, first, regroup-right, regroup-left, spread, front};
+ghost use Rattle.leaf_feeding.specs.Sending.{LeavesKind, LeavesSilent, LeafDue, LeafFed, CarryingDue, CarryingFed, SecondDue, SecondFed};
+
+// How many bytes the value of a level takes.
+const VALUE_WIDTH: usize = 2;
 
 // How many bytes a node sends, and how many the node left has.
 pub struct Sent {
@@ -49,9 +52,16 @@ pub fn feed_pass(slice: &[u8], place: usize, out: &mut [u8], remainder: &mut [u8
 
 // Silent sends the empty prefix of the type that it carries; that type has as many nodes as its empty prefix has bytes, since
 // no sequence stands in it.
-pub fn feed_silent(nodes: &[u8], from: usize, out: &mut [u8], remainder: &mut [u8]) -> Sent
-    requires { ⌜ SilentDue (now nodes) from (now out) (now remainder) ⌝ }
-    ensures { λ r. ⌜ SilentFed (now (nodes .entry)) from (now (out .entry)) (now (remainder .entry)) (now (out .exit)) (now (remainder .exit)) r ⌝ }
+pub fn feed_silent(
+    nodes: &[u8],
+    from: usize,
+    slice: &[u8],
+    place: usize,
+    out: &mut [u8],
+    remainder: &mut [u8],
+) -> Sent
+    requires { ⌜ CarryingDue 1 (now nodes) from (now slice) place (now out) (now remainder) ⌝ }
+    ensures { λ r. ⌜ CarryingFed 1 (now (nodes .entry)) from (now (slice .entry)) place (now (out .entry)) (now (remainder .entry)) (now (out .exit)) (now (remainder .exit)) r ⌝ }
 {
     let sent = write_empty(nodes, from + 1, out);
     let kept = 1 + sent;
@@ -60,22 +70,30 @@ pub fn feed_silent(nodes: &[u8], from: usize, out: &mut [u8], remainder: &mut [u
 }
 
 // Cue sends itself, once.
-pub fn feed_cue(out: &mut [u8], remainder: &mut [u8]) -> Sent
-    requires { ⌜ (1 ≤ length (now out)) × (2 ≤ length (now remainder)) ⌝ }
-    ensures { λ r. ⌜ EmitsCue (now (out .entry)) (now (remainder .entry)) (now (out .exit)) (now (remainder .exit)) r ⌝ }
+pub fn feed_cue(slice: &[u8], place: usize, out: &mut [u8], remainder: &mut [u8]) -> Sent
+    requires { ⌜ LeafDue emit-cue (now slice) place (now out) (now remainder) ⌝ }
+    ensures { λ r. ⌜ LeafFed emit-cue (now (slice .entry)) place (now (out .entry)) (now (remainder .entry)) (now (out .exit)) (now (remainder .exit)) r ⌝ }
 {
     out[0] = 2;
     leave_silent(1, remainder)
 }
 
 // Level sends its value, once.
-pub fn feed_level(nodes: &[u8], from: usize, out: &mut [u8], remainder: &mut [u8]) -> Sent
-    requires { ⌜ LevelDue (now nodes) from (now out) (now remainder) ⌝ }
-    ensures { λ r. ⌜ LevelFed (now (nodes .entry)) from (now (out .entry)) (now (remainder .entry)) (now (out .exit)) (now (remainder .exit)) r ⌝ }
+pub fn feed_level(
+    nodes: &[u8],
+    from: usize,
+    slice: &[u8],
+    place: usize,
+    out: &mut [u8],
+    remainder: &mut [u8],
+) -> Sent
+    requires { ⌜ CarryingDue 3 (now nodes) from (now slice) place (now out) (now remainder) ⌝ }
+    ensures { λ r. ⌜ CarryingFed 3 (now (nodes .entry)) from (now (slice .entry)) place (now (out .entry)) (now (remainder .entry)) (now (out .exit)) (now (remainder .exit)) r ⌝ }
 {
+    let value = from + 1;
     out[0] = 4;
-    copy(&nodes[from + 1..from + 3], &mut out[1..]);
-    leave_silent(3, remainder)
+    copy(&nodes[value..value + VALUE_WIDTH], &mut out[1..]);
+    leave_silent(1 + VALUE_WIDTH, remainder)
 }
 
 // Left sends the first side.

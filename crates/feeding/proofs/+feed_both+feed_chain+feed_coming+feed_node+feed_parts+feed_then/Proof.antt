@@ -55,7 +55,7 @@ use Rattle.feeding.proofs.FeedingThen as feeding-then
 use Rattle.feeding.specs.Steps.{nodes-below}
 use Rattle.feeding.proofs.Below.{both-count, parts-fewer}
 use Rattle.feeding.proofs.FeedingBoth.{both-due, both-fed}
-use Rattle.feeding.proofs.FeedingLeaf.{LeafFeeds, leaf-due, behind-due, silent-due, cue-due, level-due, leaf-fed, silent-fed, cue-fed, level-fed, other-fed, arrives, give-due, leaf-steps, behind-fed}
+use Rattle.feeding.proofs.FeedingLeaf.{LeafFeeds, leaf-due, behind-due, carrying-due, leaf-fed, carrying-fed, other-fed, arrives, give-due, leaf-steps, behind-fed}
 use Rattle.feeding.proofs.FeedingParts as feeding-parts
 use Rattle.feeding.proofs.+feed_both+feed_chain+feed_coming+feed_node+feed_parts+feed_then.{statement}
 use Rattle.feeding.proofs.+feed_both+feed_chain+feed_coming+feed_node+feed_parts+feed_then.Tie.{close}
@@ -224,9 +224,9 @@ module _ (t : ℕ) where
       (leaf-start c .args .given .now) (c .match .out) (c .match .remainder) (c .match .fed)
   leaf-feeds c =
       ⊎-elim (λ w. arrives (w .8) (w .9) (w .10) (leaf-fed (w .0 .keys1) refl refl (w .3 .ensures)))
-      (⊎-elim (λ w. arrives (w .8) (w .9) (w .10) (silent-fed (w .0 .keys2) (w .3 .ensures)))
-      (⊎-elim (λ w. arrives (w .8) (w .9) (w .10) (cue-fed (w .0 .keys3) (w .3 .ensures)))
-      (⊎-elim (λ w. arrives (w .8) (w .9) (w .10) (level-fed (w .0 .keys4) (w .3 .ensures)))
+      (⊎-elim (λ w. arrives (w .8) (w .9) (w .10) (carrying-fed (w .0 .keys2) refl (w .3 .ensures)))
+      (⊎-elim (λ w. arrives (w .8) (w .9) (w .10) (leaf-fed (w .0 .keys3) refl refl (w .3 .ensures)))
+      (⊎-elim (λ w. arrives (w .8) (w .9) (w .10) (carrying-fed (w .0 .keys4) refl (w .3 .ensures)))
       (⊎-elim (λ w. arrives (w .8) (w .9) (w .10) (leaf-fed (w .0 .keys6) refl refl (w .3 .ensures)))
       (⊎-elim (λ w. arrives (w .8) (w .9) (w .10) (leaf-fed (w .0 .keys7) refl refl (w .3 .ensures)))
       (⊎-elim (λ w. arrives (w .8) (w .9) (w .10) (leaf-fed (w .0 .keys8) refl refl (w .3 .ensures)))
@@ -243,13 +243,13 @@ module _ (t : ℕ) where
   feed-node-feed-pass-requires c κs = leaf-due (node-entry (c .before .before .before) .pre .1) (c .before .before .match .keys1) refl
 
   feed-node-feed-silent-requires : feed-node-lts.Need-feed-silent-requires calls-node node-here feed-node.Post
-  feed-node-feed-silent-requires c κs = silent-due (node-entry (c .before .before .before) .pre .1) (c .before .before .match .keys2)
+  feed-node-feed-silent-requires c κs = carrying-due (node-entry (c .before .before .before) .pre .1) (c .before .before .match .keys2)
 
   feed-node-feed-cue-requires : feed-node-lts.Need-feed-cue-requires calls-node node-here feed-node.Post
-  feed-node-feed-cue-requires c κs = cue-due (node-entry (c .before .before .before) .pre .1) (c .before .before .match .keys3)
+  feed-node-feed-cue-requires c κs = leaf-due (node-entry (c .before .before .before) .pre .1) (c .before .before .match .keys3) refl
 
   feed-node-feed-level-requires : feed-node-lts.Need-feed-level-requires calls-node node-here feed-node.Post
-  feed-node-feed-level-requires c κs = level-due (node-entry (c .before .before .before) .pre .1) (c .before .before .match .keys4)
+  feed-node-feed-level-requires c κs = carrying-due (node-entry (c .before .before .before) .pre .1) (c .before .before .match .keys4)
 
   feed-node-feed-both-requires : feed-node-lts.Need-feed-both-requires calls-node node-here feed-node.Post
   feed-node-feed-both-requires c κs =

@@ -1,24 +1,44 @@
 -- `feed_level` meets its contract: the bytes of the value stand behind the kind byte of the node, and it writes them behind that
 -- of a level that has come (`LevelSent`).
 use borrow.Author.Needs.{needs}
-use mathlib.Core.Path.{refl}
 use native.Mathlib.Omega.{arith}
 use lib.ListN.{length-set}
-use Rattle.reading.specs.SliceReads.{prefix-width}
+use Rattle.stream.specs.Types.Laws.{limit-is}
 use Rattle.writing.specs.Writing.Laws.{length-kept}
-use Rattle.leaf_feeding.specs.Sending.Laws.{delivers}
-use Rattle.leaf_feeding.proofs.LevelSent.{value-inside, level-room, value-room, level-sent}
+use Rattle.leaf_feeding.proofs.LevelSent.{value-inside, level-room, value-room, level-sent, level-delivered}
 use Rattle.leaf_feeding.proofs.feed_level.Statement.{statement}
 use Rattle.leaf_feeding.proofs.feed_level.Tie as tie
 
+-- What is read where
+
+abbrev entry : tie.After-slice-known2 → tie.Start
+entry c = c .before .before .before .before
+
+abbrev room : tie.After-copy-arg → tie.Start
+room c = entry (c .before)
+
+abbrev copied : tie.After-slice-known3 → tie.After-copy
+copied c = c .before .before
+
+abbrev left : tie.After-slice-known4 → tie.After-leave-silent
+left c = c .before .before
+
+abbrev level : tie.After-leave-silent → tie.After-copy
+level c = copied (c .before .before)
+
+abbrev begun : tie.After-copy → tie.Start
+begun c = room (c .before .before)
+
+-- What is due
+
+add-value : tie.Need-add-value
+add-value c = omega (arith, value-inside (entry c .pre))
+
 slice-write-out : tie.Need-slice-write-out
-slice-write-out c = omega (arith, level-room (c .before .before .before .pre))
+slice-write-out c = omega (arith, level-room (entry c .pre))
 
 add-copy : tie.Need-add-copy
-add-copy c = omega (arith, value-inside (c .before .before .before .pre))
-
-add-copy-2 : tie.Need-add-copy-2
-add-copy-2 c = omega (arith, value-inside (c .before .before .before .pre))
+add-copy c = omega (arith, value-inside (entry c .pre))
 
 sub-copy : tie.Need-sub-copy
 sub-copy c = search needs
@@ -27,10 +47,10 @@ part-copy-start : tie.Need-part-copy-start
 part-copy-start c = search needs
 
 part-copy-end : tie.Need-part-copy-end
-part-copy-end c = value-inside (c .before .before .before .pre)
+part-copy-end c = value-inside (entry c .pre)
 
 sub-copy-2 : tie.Need-sub-copy-2
-sub-copy-2 c = simp length-set (omega (arith, level-room (c .before .before .before .before .pre)))
+sub-copy-2 c = simp length-set (omega (arith, level-room (room c .pre)))
 
 part-copy-start-2 : tie.Need-part-copy-start-2
 part-copy-start-2 c = sub-copy-2 c
@@ -39,33 +59,33 @@ part-copy-end-2 : tie.Need-part-copy-end-2
 part-copy-end-2 c = search needs
 
 copy-requires : tie.Need-copy-requires
-copy-requires c κs = value-room (c .before .before .before .before .before .pre)
+copy-requires c κs = value-room (room (c .before) .pre)
+
+add-leave-silent : tie.Need-add-leave-silent
+add-leave-silent c = search needs
 
 leave-silent-requires : tie.Need-leave-silent-requires
-leave-silent-requires c κs = search needs
+leave-silent-requires c κs = omega (arith, limit-is, begun (copied (c .before)) .pre .leaf .left-room)
 
 same-length : tie.Need-same-length
 same-length c =
-    let due = c .before .before .before .before .before .before .before .before .before .before .before .before .pre in
-    length-kept (level-sent due (c .before .before .before .before .before .before .copy .ensures)) (level-room due)
+    let sent = level (left c) in
+    let due = begun sent .pre in
+    length-kept (level-sent due (sent .copy .ensures)) (level-room due)
 
 same-length-2 : tie.Need-same-length-2
 same-length-2 c = search needs
 
 returns : tie.Need-returns
-unfolding prefix-width
-returns c =
-    let left = c .before .before in
-    let copied = left .before .before .before .before in
-    record { each = λ due. delivers refl (level-sent due (copied .copy .ensures) .buffer) (left .leave-silent .ensures) }
+returns c = record { each = λ due. level-delivered due (level (left c) .copy .ensures) (left c .leave-silent .ensures) }
 
 pub feed-level-spec : {M : Type 1} → statement M
 feed-level-spec =
     tie.close
     (tie.spec
+    add-value
     slice-write-out
     add-copy
-    add-copy-2
     sub-copy
     part-copy-start
     part-copy-end
@@ -73,6 +93,7 @@ feed-level-spec =
     part-copy-start-2
     part-copy-end-2
     copy-requires
+    add-leave-silent
     leave-silent-requires
     same-length
     same-length-2

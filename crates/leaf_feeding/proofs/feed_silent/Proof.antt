@@ -6,23 +6,36 @@ use Rattle.leaf_feeding.proofs.SilentSent.{empty-due, silent-inside, si
 use Rattle.leaf_feeding.proofs.feed_silent.Statement.{statement}
 use Rattle.leaf_feeding.proofs.feed_silent.Tie as tie
 
+-- What is read where
+
+abbrev entry : tie.After-slice-known2 → tie.Start
+entry c = c .before .before .before .before
+
+abbrev sent : tie.After-slice-known3 → tie.After-write-empty
+sent c = c .before .before
+
+abbrev begun : tie.After-slice-known3 → tie.Start
+begun c = entry (sent c .before .before)
+
+abbrev left : tie.After-slice-known4 → tie.After-copy
+left c = c .before .before
+
+abbrev kept : tie.After-copy → tie.After-slice-known3
+kept c = c .before .before .before
+
+-- What is due
+
 add-write-empty : tie.Need-add-write-empty
-add-write-empty c = omega (arith, starts-inside (c .before .before .before .pre .node-at))
+add-write-empty c = omega (arith, starts-inside (entry c .pre .node-at))
 
 write-empty-requires : tie.Need-write-empty-requires
-write-empty-requires c κs = empty-due (c .before .before .before .before .pre)
+write-empty-requires c κs = empty-due (entry (c .before) .pre)
 
 add-kept : tie.Need-add-kept
-add-kept c =
-    let sent = c .before .before in
-    let begun = sent .before .before .before .before .before in
-    omega (arith, silent-inside (begun .pre) (sent .write-empty .ensures))
+add-kept c = omega (arith, silent-inside (begun c .pre) (sent c .write-empty .ensures))
 
 add-copy : tie.Need-add-copy
-add-copy c =
-    let sent = c .before .before in
-    let begun = sent .before .before .before .before .before in
-    omega (arith, silent-inside (begun .pre) (sent .write-empty .ensures))
+add-copy c = omega (arith, silent-inside (begun c .pre) (sent c .write-empty .ensures))
 
 sub-copy : tie.Need-sub-copy
 sub-copy c = search needs
@@ -31,16 +44,10 @@ part-copy-start : tie.Need-part-copy-start
 part-copy-start c = search needs
 
 part-copy-end : tie.Need-part-copy-end
-part-copy-end c =
-    let sent = c .before .before in
-    let begun = sent .before .before .before .before .before in
-    silent-inside (begun .pre) (sent .write-empty .ensures)
+part-copy-end c = silent-inside (begun c .pre) (sent c .write-empty .ensures)
 
 copy-requires : tie.Need-copy-requires
-copy-requires c κs =
-    let sent = c .before .before .before .before in
-    let begun = sent .before .before .before .before .before in
-    silent-room (begun .pre) (sent .write-empty .ensures)
+copy-requires c κs = let known = c .before .before in silent-room (begun known .pre) (sent known .write-empty .ensures)
 
 same-length : tie.Need-same-length
 same-length c = search needs
@@ -50,9 +57,7 @@ same-length-2 c = search needs
 
 returns : tie.Need-returns
 returns c =
-    let left = c .before .before in
-    let sent = left .before .before .before .before .before in
-    record { each = λ due. silent-delivered due (sent .write-empty .ensures) (left .copy .ensures) }
+    record { each = λ due. silent-delivered due (sent (kept (left c)) .write-empty .ensures) (left c .copy .ensures) }
 
 pub feed-silent-spec : {M : Type 1} → statement M
 feed-silent-spec =
