@@ -7,7 +7,7 @@ use native.Mathlib.Omega.{arith}
 use lib.ListN.{length, getD, drop, set, length-append}
 use Rattle.stream.specs.Types.{Ty, size, type-limit}
 use Rattle.stream.specs.Prefixes.{Prefix, IsPrefix}
-use Rattle.stream.specs.SliceFiles.Laws.{prefix-length}
+use Rattle.stream.specs.SliceFiles.Laws.{prefix-short, slice-length}
 use Rattle.reading.specs.SliceReads.{prefix-width}
 use Rattle.reading.specs.SliceReads.Laws.{prefix-bytes-length}
 use Rattle.writing.specs.Writing.Laws.{part, back}
@@ -117,8 +117,7 @@ module _ {types : List ℕ} {at : ℕ} {nodes : List ℕ} {from : ℕ} {slice : 
   middle-small = rw (output-type-is (typings .first-types)) (output-small (typings .first-types) (feedable .fits .0))
 
   sent-short : prefix-width sent ≤ slice-file-limit
-  unfolding type-limit
-  sent-short = omega (arith, prefix-length [] is-sent, prefix-bytes-length sent [], middle-small)
+  sent-short = omega (arith, slice-length sent (prefix-short is-sent middle-small), prefix-bytes-length sent [])
 
   -- The kind byte leads.
 

@@ -7,10 +7,9 @@ use native.Mathlib.Omega.{arith}
 use lib.ListN.{length, getD, take, drop, length-append}
 use lib.Seq.{drop-drop, take-at, drop-at}
 use Rattle.stream.specs.Types.{Ty, seq}
-use Rattle.stream.specs.Types.Laws.{limit-is}
 use Rattle.stream.specs.Prefixes.{Prefix, IsPrefix, of-first, of-crossed, of-beside}
 use Rattle.stream.specs.SliceFiles.{prefix-bytes}
-use Rattle.stream.specs.SliceFiles.Laws.{prefix-length}
+use Rattle.stream.specs.SliceFiles.Laws.{prefix-short, slice-length}
 use Rattle.reading.specs.SliceReads.{prefix-width, PrefixAt, SomePrefixAt, PrefixEnds}
 use Rattle.reading.specs.SliceReads.Laws.{prefix-bytes-length, width-positive, prefix-before, prefix-inside, kind-at, in-first-at, crossed-first-at, crossed-second-at, beside-first-at, beside-second-at}
 use Rattle.node.specs.Nodes.{Node, regroup-right, regroup-left, spread, Takes, takes-regroup-right, takes-regroup-left, takes-spread}
@@ -46,7 +45,7 @@ pub record Piece (slice : List ℕ) (from to : ℕ) (bytes : List ℕ) : Type 0 
 module _ {n : Node} {slice : List ℕ} {place : ℕ} {out remainder : List ℕ} (due : LeafDue n slice place out remainder) where
   -- It is a prefix of a small type.
   few : prefix-width (due .prefix) ≤ slice-limit
-  few = omega (arith, prefix-length [] (due .is-prefix), prefix-bytes-length (due .prefix) [], due .small, limit-is)
+  few = omega (arith, slice-length (due .prefix) (prefix-short (due .is-prefix) (due .small)), prefix-bytes-length (due .prefix) [])
 
   -- A piece of the bytes of the prefix stands behind those before it.
   piece : (before bytes after : List ℕ) {from to : ℕ} → prefix-bytes (due .prefix) [] ≡ before ++ (bytes ++ after)

@@ -17,7 +17,7 @@ use Rattle.stream.specs.Reading.{accepted, refused, section-bytes}
 use Rattle.stream.specs.Buffers.{at-front}
 use Rattle.stream.specs.TypeFiles.{type-bytes}
 use Rattle.stream.specs.SliceFiles.{prefix-bytes, slice-file-bytes, slice-file}
-use Rattle.stream.specs.SliceFiles.Laws.{prefix-length}
+use Rattle.stream.specs.SliceFiles.Laws.{prefix-short, slice-length}
 use Rattle.reading.specs.TypeReads.Laws.{type-width}
 use Rattle.reading.specs.SliceReads.{prefix-width}
 use Rattle.reading.specs.SliceReads.Laws.{prefix-bytes-length}
@@ -115,13 +115,9 @@ module _ {patch : List ℕ} {place : PatchPlace} {slice : List ℕ} {remains : �
   -- What is sent has at most 511 bytes, since its type has at most 255 nodes.
   pub sent-short : prefix-width (sends input node prefix) ≤ slice-limit
   sent-short =
-      omega (
-        arith,
-        prefix-length [] (preserved (is-typed .types) (due .taken .is-prefix) .sent),
-        prefix-bytes-length (sends input node prefix) [],
-        output-small (is-typed .types) (is-typed .fits),
-        limit-is,
-      )
+      let is-sent = preserved (is-typed .types) (due .taken .is-prefix) .sent in
+      let short = prefix-short is-sent (output-small (is-typed .types) (is-typed .fits)) in
+      omega (arith, slice-length (sends input node prefix) short, prefix-bytes-length (sends input node prefix) [])
 
   pub few : count node ≤ 63
   unfolding node-limit

@@ -14,7 +14,7 @@ use Rattle.stream.specs.Prefixes.Laws.{concat-is-prefix, derivative-concat, con
 use Rattle.stream.specs.Reading.{Bytes, accepted}
 use Rattle.stream.specs.Reading.Laws.{go-on-accepted}
 use Rattle.stream.specs.SliceFiles.{slice-file, slice-file-bytes, SliceFile}
-use Rattle.stream.specs.SliceFiles.Laws.{slice-file-sound, slice-file-complete}
+use Rattle.stream.specs.SliceFiles.Laws.{prefix-short, slice-file-sound, slice-file-complete}
 use Rattle.node.specs.Nodes.{Node, Allowed, patch-of, Patch, Small}
 use Rattle.node.specs.Feeding.{FeedsPatch}
 use Rattle.node.specs.Feeding.Functions.{sends, leaves, patch-left}
@@ -299,7 +299,7 @@ some-files (and-next {files = files} {q = q} j k c) = omega (arith, length-appen
 
 one-slice : {t : Ty} {p q : Prefix} → Small t → IsPrefix t p → IsPrefix t q → slice-file-bytes p ≡ slice-file-bytes q → p ≡ q
 one-slice {t} {p} {q} w h k e =
-    let x : accepted p ≡ accepted q = sym (slice-file-complete h w) ∙ ap (slice-file t) e ∙ slice-file-complete k w in cc
+    let x : accepted p ≡ accepted q = sym (slice-file-complete h (prefix-short h w)) ∙ ap (slice-file t) e ∙ slice-file-complete k (prefix-short k w) in cc
 
 one-last : (xs ys : List (List ℕ)) (x y : List ℕ) → xs ++ x ∷ [] ≡ ys ++ y ∷ [] → (xs ≡ ys) × (x ≡ y)
 one-last [] [] x y e = (refl, cc)

@@ -24,7 +24,7 @@ use Rattle.stream.specs.Reading.Refusals.{Refusals, go-on-refusals, require-ref
 use Rattle.stream.specs.TypeFiles.{type-bytes, type-file, type-file-bytes, TypeFile}
 use Rattle.stream.specs.TypeFiles.Laws.{type-file-complete, type-file-sound, type-file-length, type-section-is-bytes, type-file-refusals}
 use Rattle.stream.specs.SliceFiles.{slice-file, slice-file-bytes, SliceFile}
-use Rattle.stream.specs.SliceFiles.Laws.{slice-file-complete, slice-file-sound, slice-file-accepted, slice-file-length, slice-file-is-bytes, slice-file-refusals}
+use Rattle.stream.specs.SliceFiles.Laws.{prefix-short, slice-file-complete, slice-file-sound, slice-file-accepted, slice-file-length, slice-file-is-bytes, slice-file-refusals}
 use Rattle.node.specs.Nodes.{Node, Small, Allowed, patch-of}
 use Rattle.node.specs.Nodes.Laws.{output-small, allowed-fits}
 use Rattle.node.specs.Feeding.Laws.{preserved, leaves-allowed}
@@ -58,18 +58,19 @@ check-answers a = rw (patch-file-complete a)
 
 pub admit-answers : {t : Ty} {p : Prefix} → Small t → IsPrefix t p → admit (type-file-bytes t) (slice-file-bytes p) ≡ accepted (complete p)
 unfolding admit
-admit-answers {t} w h = rw (type-file-complete t w) (rw (slice-file-complete h w))
+admit-answers {t} w h = rw (type-file-complete t w) (rw (slice-file-complete h (prefix-short h w)))
 
 pub left-answers : {t : Ty} {p : Prefix} → Small t → IsPrefix t p
     → left (type-file-bytes t) (slice-file-bytes p) ≡ accepted (type-file-bytes (derivative t p))
 unfolding left
-left-answers {t} w h = rw (type-file-complete t w) (rw (slice-file-complete h w))
+left-answers {t} w h = rw (type-file-complete t w) (rw (slice-file-complete h (prefix-short h w)))
 
 pub join-answers : {t : Ty} {p : Prefix} (q : Prefix) → Small t → IsPrefix t p → IsPrefix (derivative t p) q
     → join (type-file-bytes t) (slice-file-bytes p) (slice-file-bytes q) ≡ accepted (slice-file-bytes (concat p q))
 unfolding join
 join-answers {t} q w h k =
-    rw (type-file-complete t w) (rw (slice-file-complete h w) (rw (slice-file-complete k (le-trans (derivative-size h) w))))
+    rw (type-file-complete t w)
+    (rw (slice-file-complete h (prefix-short h w)) (rw (slice-file-complete k (prefix-short k (le-trans (derivative-size h) w)))))
 
 -- Two lanes side by side join to the same slice, whichever comes first.
 pub lanes-join : {s t : Ty} {p q : Prefix} → Small (par s t) → IsPrefix s p → IsPrefix t q
@@ -91,7 +92,7 @@ feed-of-patch slice a = rw (patch-file-complete a)
 
 pub feed-answers : {s t : Ty} {n : Node} {p : Prefix} → Allowed s n t → IsPrefix s p
     → feed (patch-file-bytes (patch-of s n)) (slice-file-bytes p) ≡ accepted (fed-files (patch-of s n) p)
-feed-answers {p = p} a h = feed-of-patch (slice-file-bytes p) a ∙ rw (slice-file-complete h (a .input-small))
+feed-answers {p = p} a h = feed-of-patch (slice-file-bytes p) a ∙ rw (slice-file-complete h (prefix-short h (a .input-small)))
 
 -- What is accepted, 20 aside
 
@@ -268,7 +269,7 @@ unfolding type-file-bytes
 type-sized t w = record { short = type-file-length t w; bytes = type-section-is-bytes t [] w bytes-nil }
 
 slice-sized : {t : Ty} {p : Prefix} → IsPrefix t p → Small t → Sized slice-file-limit (slice-file-bytes p)
-slice-sized h w = record { short = slice-file-length h w; bytes = slice-file-is-bytes h w }
+slice-sized {p = p} h w = let s = prefix-short h w in record { short = slice-file-length p s; bytes = slice-file-is-bytes h s }
 
 patch-sized : {s t : Ty} {n : Node} → Allowed s n t → Sized patch-file-limit (patch-file-bytes (patch-of s n))
 patch-sized a = record { short = patch-file-length a; bytes = patch-file-is-bytes a }

@@ -16,6 +16,7 @@ use Rattle.stream.specs.Bounds.{slice-limit, slice-file-limit}
 use Rattle.stream.specs.Faults.{slice-numbers, Listed}
 use Rattle.stream.specs.Levels.Laws.{value-length, value-is-bytes, value-reads, value-sound, value-faults}
 use Rattle.stream.specs.Prefixes.{Prefix, nothing, cue-awaited, cue-come, level-awaited, level-come, in-first, crossed, beside, Complete, whole-nothing, whole-cue, whole-level, whole-crossed, whole-beside, IsPrefix, of-empty, of-cue-awaited, of-cue-come, of-level-awaited, of-level-come, of-first, of-crossed, of-beside}
+use Rattle.stream.specs.Prefixes.Kinds.{tally}
 use Rattle.stream.specs.Prefixes.Laws.{crossed-second, beside-first, beside-second}
 use Rattle.stream.specs.Reading.{Bytes, Reading, read, fault, accepted, IsAccepted, read-on, whole, section-bytes, section, Root, forest, leaf}
 use Rattle.stream.specs.Reading.Laws.{Reads, reads-leaf, reads-one, reads-two, tree-reads, RootIs, leaf-is, one-is, two-is, tree-sound, section-reads, section-sound, whole-sound, _&_, past, every, bytes-tail, bytes-nil, bytes-cons, section-is-bytes}
@@ -25,7 +26,7 @@ use Rattle.stream.specs.SliceFiles.{prefix-bytes, slice-file-bytes, Slic
 
 -- Lengths
 
-pub nodes : Prefix → ℕ
+unfoldable pub nodes : Prefix → ℕ
 nodes nothing = 1
 nodes cue-awaited = 1
 nodes cue-come = 1
@@ -34,6 +35,18 @@ nodes (level-come v) = 1
 nodes (in-first p) = suc (nodes p)
 nodes (crossed b q) = suc (nodes b + nodes q)
 nodes (beside p q) = suc (nodes p + nodes q)
+
+-- Each node counts for one.
+pub nodes-tally : (p : Prefix) → nodes p ≡ tally (λ k. 1) p
+unfolding nodes tally
+nodes-tally nothing = refl
+nodes-tally cue-awaited = refl
+nodes-tally cue-come = refl
+nodes-tally level-awaited = refl
+nodes-tally (level-come v) = refl
+nodes-tally (in-first p) = omega (arith, nodes-tally p)
+nodes-tally (crossed b q) = omega (arith, nodes-tally b, nodes-tally q)
+nodes-tally (beside p q) = omega (arith, nodes-tally p, nodes-tally q)
 
 pub nodes-within : {t : Ty} {p : Prefix} → IsPrefix t p → nodes p ≤ size t
 unfolding nodes size
@@ -46,26 +59,33 @@ nodes-within (of-first h) = omega (arith, nodes-within h)
 nodes-within (of-crossed h c k) = omega (arith, nodes-within h, nodes-within k)
 nodes-within (of-beside h k) = omega (arith, nodes-within h, nodes-within k)
 
--- A level takes three bytes, so a prefix takes at most one byte more than two for each node of its type.
-pub prefix-length : {t : Ty} {p : Prefix} (r : List ℕ) → IsPrefix t p → length (prefix-bytes p r) ≤ value-width * size t + 1 + length r
-unfolding prefix-bytes size
-prefix-length r of-empty = omega arith
-prefix-length r of-cue-awaited = omega arith
-prefix-length r of-cue-come = omega arith
-prefix-length r of-level-awaited = omega arith
-prefix-length r (of-level-come {v = v} h) = omega (arith, value-length v r)
-prefix-length r (of-first {t = t} h) = omega (arith, prefix-length r h, size-positive t)
-prefix-length r (of-crossed {q = q} h c k) = omega (arith, prefix-length (prefix-bytes q r) h, prefix-length r k)
-prefix-length r (of-beside {q = q} h k) = omega (arith, prefix-length (prefix-bytes q r) h, prefix-length r k)
+-- The laws of slice files ask for at most 255 nodes of the prefix, which a prefix of a small type has.
+abbrev pub Short : Prefix → Type 0
+Short p = nodes p ≤ type-limit
 
-pub slice-length : {t : Ty} {p : Prefix} → IsPrefix t p → size t ≤ type-limit → length (prefix-bytes p []) ≤ slice-limit
+pub prefix-short : {t : Ty} {p : Prefix} → IsPrefix t p → size t ≤ type-limit → Short p
+prefix-short h w = omega (arith, nodes-within h)
+
+-- A level takes three bytes, so a prefix takes at most one byte more than two for each of its nodes.
+pub prefix-length : (p : Prefix) (r : List ℕ) → length (prefix-bytes p r) ≤ value-width * nodes p + 1 + length r
+unfolding prefix-bytes nodes
+prefix-length nothing r = omega arith
+prefix-length cue-awaited r = omega arith
+prefix-length cue-come r = omega arith
+prefix-length level-awaited r = omega arith
+prefix-length (level-come v) r = omega (arith, value-length v r)
+prefix-length (in-first p) r = omega (arith, prefix-length p r)
+prefix-length (crossed b q) r = omega (arith, prefix-length b (prefix-bytes q r), prefix-length q r)
+prefix-length (beside p q) r = omega (arith, prefix-length p (prefix-bytes q r), prefix-length q r)
+
+pub slice-length : (p : Prefix) → Short p → length (prefix-bytes p []) ≤ slice-limit
 unfolding type-limit
-slice-length h w = omega (arith, prefix-length [] h)
+slice-length p w = omega (arith, prefix-length p [])
 
 -- "So a slice file has at most 513 bytes."
-pub slice-file-length : {t : Ty} {p : Prefix} → IsPrefix t p → size t ≤ type-limit → length (slice-file-bytes p) ≤ slice-file-limit
-unfolding slice-file-bytes section-bytes type-limit
-slice-file-length {p = p} h w = rw (append-nil (prefix-bytes p [])) (omega (arith, prefix-length [] h))
+pub slice-file-length : (p : Prefix) → Short p → length (slice-file-bytes p) ≤ slice-file-limit
+unfolding slice-file-bytes section-bytes
+slice-file-length p w = rw (append-nil (prefix-bytes p [])) (omega (arith, slice-length p w))
 
 -- What is written are bytes
 
@@ -82,10 +102,10 @@ prefix-is-bytes r (of-crossed {b = x} {q = q} h c k) b =
 prefix-is-bytes r (of-beside {p = p} {q = q} h k) b =
     bytes-cons 7 (prefix-bytes p (prefix-bytes q r)) (omega arith) (prefix-is-bytes (prefix-bytes q r) h (prefix-is-bytes r k b))
 
-pub slice-file-is-bytes : {t : Ty} {p : Prefix} → IsPrefix t p → size t ≤ type-limit → Bytes (slice-file-bytes p)
-unfolding slice-file-bytes type-limit
+pub slice-file-is-bytes : {t : Ty} {p : Prefix} → IsPrefix t p → Short p → Bytes (slice-file-bytes p)
+unfolding slice-file-bytes
 slice-file-is-bytes {p = p} h w =
-    section-is-bytes (prefix-bytes p []) [] (omega (arith, prefix-length [] h)) (prefix-is-bytes [] h bytes-nil) bytes-nil
+    section-is-bytes (prefix-bytes p []) [] (omega (arith, slice-length p w)) (prefix-is-bytes [] h bytes-nil) bytes-nil
 
 -- Reading what was written
 
@@ -106,12 +126,11 @@ reads c (of-crossed h d k) w =
 reads c (of-beside h k) w =
     reads-two SliceCutShort prefix-root beside _ (λ s. refl) (reads c h (λ e. beside-first (w e))) (reads c k (λ e. beside-second (w e)))
 
-pub read-prefix-reads : {t : Ty} {p : Prefix} (r : List ℕ) → IsPrefix t p → size t ≤ type-limit → read-prefix t (prefix-bytes p r) ≡ read p r
+pub read-prefix-reads : {t : Ty} {p : Prefix} (r : List ℕ) → IsPrefix t p → Short p → read-prefix t (prefix-bytes p r) ≡ read p r
 unfolding read-prefix
-read-prefix-reads r h w =
-    tree-reads SliceCutShort prefix-root type-limit r (reads false h (λ e. absurd (false≢true e))) (omega (arith, nodes-within h))
+read-prefix-reads r h w = tree-reads SliceCutShort prefix-root type-limit r (reads false h (λ e. absurd (false≢true e))) w
 
-pub slice-file-complete : {t : Ty} {p : Prefix} → IsPrefix t p → size t ≤ type-limit → slice-file t (slice-file-bytes p) ≡ accepted p
+pub slice-file-complete : {t : Ty} {p : Prefix} → IsPrefix t p → Short p → slice-file t (slice-file-bytes p) ≡ accepted p
 unfolding slice-file slice-file-bytes
 slice-file-complete {t} {p} h w =
     rw (section-reads SliceCutShort SliceLeftOver (read-prefix t) (prefix-bytes p []) [] p (read-prefix-reads [] h w))
@@ -189,18 +208,19 @@ unfolding prefix-root
 root-sound o [] b = tt
 root-sound o (k ∷ s) b = kinds-sound (o .type) (o .must-complete) s (bytes-tail k s b) k
 
-pub slice-file-sound : (t : Ty) (s : List ℕ) (p : Prefix) → Bytes s → slice-file t s ≡ accepted p → (slice-file-bytes p ≡ s) × IsPrefix t p
+pub slice-file-sound : (t : Ty) (s : List ℕ) (p : Prefix) → Bytes s → slice-file t s ≡ accepted p
+    → (slice-file-bytes p ≡ s) × IsPrefix t p × Short p
 unfolding slice-file slice-file-bytes read-prefix
 slice-file-sound t s p b e =
     let w = whole-sound SliceLeftOver (section SliceCutShort SliceLeftOver (read-prefix t) s) p e in
     let f = section-sound SliceCutShort SliceLeftOver (read-prefix t) s p [] b w in
     let g = tree-sound SliceCutShort prefix-root Fills prefix-bytes nodes root-sound type-limit (owed t false) (f .body) p [] (f .body-bytes) (f .inside) in
-    (rw (g .bytes) (f .bytes), g .is .is)
+    (rw (g .bytes) (f .bytes), g .is .is, g .few)
 
 pub slice-file-accepted : (t : Ty) (s : List ℕ) → size t ≤ type-limit → Bytes s → IsAccepted (slice-file t s) ↔ SliceFile t s
 slice-file-accepted t s w b = (
   (λ a. let f = slice-file-sound t s (a .0) b (a .1) in record { prefix = a .0; is-prefix = f .1; bytes = f .0 }),
-  (λ f. (f .prefix, rw (← f .bytes) (slice-file-complete (f .is-prefix) w))),
+  (λ f. (f .prefix, rw (← f .bytes) (slice-file-complete (f .is-prefix) (prefix-short (f .is-prefix) w)))),
 )
 
 -- The limit of 255 is never met: each node read takes at least one from the sizes of the types owed.

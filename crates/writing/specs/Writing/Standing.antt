@@ -20,7 +20,7 @@ use Rattle.stream.specs.Reading.{Bytes, Result, accepted, refused, section-byte
 use Rattle.stream.specs.TypeFiles.{type-bytes, type-file-bytes, type-file}
 use Rattle.stream.specs.TypeFiles.Laws.{type-length, type-file-sound}
 use Rattle.stream.specs.SliceFiles.{prefix-bytes, slice-file-bytes, slice-file}
-use Rattle.stream.specs.SliceFiles.Laws.{prefix-length, slice-file-sound}
+use Rattle.stream.specs.SliceFiles.Laws.{prefix-short, slice-length, slice-file-sound}
 use Rattle.reading.specs.TypeReads.{type-read, TypeAt, AcceptedType}
 use Rattle.reading.specs.TypeReads.Laws.{type-before}
 use Rattle.reading.specs.SliceReads.{prefix-width, known, slice-read, ReadsSlice, AcceptedSlice}
@@ -110,8 +110,8 @@ written-stands t lent e small = record { rest = drop (length (type-bytes t [])) 
 
 -- An accepted slice file is no longer than any.
 pub slice-short : {t : Ty} {file : List ℕ} {about : Known} → size t ≤ type-limit → AcceptedSlice t file about → length file ≤ slice-file-limit
-unfolding type-limit
-slice-short small p = omega (arith, p .fills, prefix-length [] (p .is-prefix), prefix-bytes-length (p .prefix) [])
+slice-short small p =
+    omega (arith, p .fills, slice-length (p .prefix) (prefix-short (p .is-prefix) small), prefix-bytes-length (p .prefix) [])
 
 -- What it overlaps with is behind the count.
 pub overlap-less : {t : Ty} {file : List ℕ} {about : Known} → AcceptedSlice t file about → about .overlap ≤ length file - 2
@@ -140,9 +140,10 @@ module _ {t : Ty} {first second : List ℕ} {one other : Known}
   joined-width = omega (arith, p .fills, q .fills, p .overlap, concat-width (q .prefix) (p .is-prefix) (q .is-prefix))
 
   pub joined-countable : size t ≤ type-limit → prefix-width (concat (p .prefix) (q .prefix)) ≤ 65535
-  unfolding type-limit
   joined-countable small =
-      omega (arith, prefix-length [] (concat-is-prefix (q .prefix) (p .is-prefix) (q .is-prefix)), prefix-bytes-length (concat (p .prefix) (q .prefix)) [])
+      let joined = concat (p .prefix) (q .prefix) in
+      let is-joined = concat-is-prefix (q .prefix) (p .is-prefix) (q .is-prefix) in
+      omega (arith, slice-length joined (prefix-short is-joined small), prefix-bytes-length joined [])
 
   abbrev pub joined-file-due : size t ≤ type-limit → (joined : ℕ) (lent : List ℕ) → joined ≡ prefix-width (concat (p .prefix) (q .prefix))
       → 2 + joined ≤ length lent → JoinedFileDue first second joined lent
