@@ -4,6 +4,7 @@ use mathlib.Core.List.{List}
 use Prim.Native.Nat.{ℕ, suc, _+_, _≤_, _<_}
 use native.Mathlib.Omega.{arith}
 use lib.ListN.{getD}
+use Rattle.stream.specs.Levels.{value-width}
 use Rattle.stream.specs.Prefixes.{Prefix, nothing, cue-awaited, cue-come, level-awaited, level-come, in-first, crossed, beside}
 use Rattle.stream.specs.Reading.Laws.{_&_, past, every}
 use Rattle.stream.specs.Prefixes.Kinds.{prefix-kind, root-width}
@@ -19,7 +20,7 @@ pub starts : {slice : List ℕ} {at : ℕ} (p : Prefix) → PrefixAt slice at p 
 starts p s = more p s none
 
 -- A leaf takes one byte, unless it is a level's value.
-pub level-wide : (k : ℕ) → k ≡ 4 → root-width k ≡ 3
+pub level-wide : (k : ℕ) → k ≡ 4 → root-width k ≡ suc value-width
 level-wide k e = rw e
 
 pub other-wide : (k : ℕ) → (k ≡ 4 → ⊥) → root-width k ≡ 1

@@ -13,6 +13,9 @@ ghost use Rattle.reading.specs.SliceReads.{type-kind-of, is-unfinished, 
 // No slice file is longer: the count, a byte for each of 255 nodes, and two for each of at most 128 levels.
 pub const MAX_SLICE_FILE: usize = 513;
 
+// How many bytes a level's value takes.
+pub const VALUE_WIDTH: usize = 2;
+
 // What is known of a prefix that was read against its type: whether it is complete, how many nodes the type has that it
 // leaves, and by how many bytes its join with a later prefix is shorter than the two. The lengths stand apart: side by side
 // they would be loaded as one just after they were stored one by one, which costs a tenth of a small call.
@@ -65,7 +68,7 @@ pub fn root_width(kind: u8) -> usize
     ensures { λ r. ⌜ r ≡ root-width kind ⌝ }
 {
     match kind {
-        4 => 3,
+        4 => 1 + VALUE_WIDTH,
         _ => 1,
     }
 }
@@ -98,7 +101,7 @@ pub fn skip_prefix(slice: &[u8], at: usize) -> usize
             if kind < 5 {
                 owed -= 1;
                 if kind == 4 {
-                    end += 2;
+                    end += VALUE_WIDTH;
                 }
             }
         } else {
@@ -121,7 +124,7 @@ pub fn complete_width(types: &[u8], at: usize, end: usize) -> usize
         levels += (types[from] == 2) as u8;
         from += 1;
     }
-    end - at + 2 * levels as usize
+    end - at + VALUE_WIDTH * levels as usize
 }
 
 // A leaf, whose kind belongs there; its type ends at `end`.

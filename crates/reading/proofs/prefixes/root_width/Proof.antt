@@ -7,6 +7,9 @@ use Rattle.stream.specs.Prefixes.Kinds.{root-width}
 use Rattle.reading.proofs.prefixes.root_width.Statement.{statement}
 use Rattle.reading.proofs.prefixes.root_width.Tie as tie
 
+add-result : tie.Need-add-result
+add-result c = search needs
+
 returns : tie.Need-returns
 returns c = search needs
 
@@ -20,4 +23,4 @@ returns-2 : tie.Need-returns-2
 returns-2 c = alone _ (c .match .rest .1)
 
 pub root-width-spec : {M : Type 1} → statement M
-root-width-spec = tie.close (tie.spec returns returns-2)
+root-width-spec = tie.close (tie.spec add-result returns returns-2)
