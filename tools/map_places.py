@@ -26,7 +26,7 @@ from proof_text import Item, atoms, binder, expression_start, group_end, group_s
 
 TITLE = "-- The map of places: what stands before what."
 ALIAS = re.compile(r"use \S+\.(Tie|Lts\S*) as (\S+)$")
-PLACE = re.compile(r"\S+?\.(?:Start|(?:After|At|In)-\S+|(?:Then|Else|Joined)\d+)$")
+PLACE = re.compile(r"\S+?\.(?:Start|(?:After|At|In|Left)-\S+|(?:Then|Else|Joined)\d+)$")
 WIDEST = 130
 
 

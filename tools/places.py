@@ -55,7 +55,7 @@ class Function:
             return "entry"
         bare = re.sub("^(After|At)-", "", place)
         alone = sum(other in self.places for other in ("After-" + bare, "At-" + bare, bare)) == 1
-        return bare.lower() if alone else place.lower()
+        return bare.lower() if alone and bare != "entry" else place.lower()
 
     def path(self, source, target):
         """The name of the way from a place to one before it."""
