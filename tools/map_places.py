@@ -11,7 +11,8 @@ such a name without defining it: this defines it. Each line of the map is comput
 when the code gets a step more, and a line that nothing uses is left out. An `abbrev` of places with a name of another form is moved
 to the map, and stays.
 
-The places come from `rt dev CRATE --generated`, for which the proofs need not hold; --generated takes a folder that it has written.
+The places come from `rt dev CRATE --generated`, for which the crate's own proofs need not hold; --generated takes a folder that it has
+written. All are made before the first proof is written.
 A chain whose first place is not known is listed, and stays. Run this at the top of the repository, and `rt fmt` behind it.
 """
 import argparse
@@ -365,9 +366,8 @@ def main():
     if chosen.check:
         sys.exit(1 if check(chosen.but) else 0)
     files = [path for name in chosen.names for path in ([name] if name.endswith(".antt") else proof_files(name))]
-    for crate in sorted({path.partition("crates/")[2].split("/")[0] for path in files}):
-        mine = [path for path in files if f"crates/{crate}/" in path]
-        with_generated(crate, chosen.generated, lambda folder: [write(path, folder) for path in mine])
+    crates = sorted({path.partition("crates/")[2].split("/")[0] for path in files})
+    with_generated(crates, chosen.generated, lambda folder: [write(path, folder) for path in files])
 
 
 if __name__ == "__main__":

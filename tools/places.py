@@ -114,12 +114,13 @@ def name_members(functions):
         function.prefix = function.name.replace("_", "-") + "-" if len(functions) > 1 else ""
 
 
-def with_generated(crate, folder, use):
-    """Calls `use` with a folder of what the prover makes of a crate."""
+def with_generated(crates, folder, use):
+    """Calls `use` with a folder of what the prover makes of some crates."""
     if folder:
         return use(folder)
     with tempfile.TemporaryDirectory() as made:
-        generate(crate, made)
+        for crate in crates:
+            generate(crate, made)
         return use(made)
 
 
@@ -162,7 +163,7 @@ def main():
                 if chosen.function in (None, function.name):
                     show(function, proof, chosen.need)
 
-    with_generated(chosen.crate, chosen.generated, use)
+    with_generated([chosen.crate], chosen.generated, use)
 
 
 if __name__ == "__main__":
