@@ -23,7 +23,7 @@ from proof_text import LONGEST
 RECORD = re.compile(r"( *)pub record (\S+) : Type 0 where$")
 FIELD = re.compile(r"( *)pub (\S+) :(?: (\S+))?")
 NEED = re.compile(r"\n *Need-(\S+) =\s+\(c : ([^\s)]+)\)")
-CALLED = re.compile(r"\n *(\S+)·own =\s+Called\.Called ")
+CALLED = re.compile(r"\n *(\S+)·own =\s+Called\.Called\s")
 
 
 class Function:
