@@ -106,8 +106,22 @@ pub fn feed_node(
         1 => feed_silent(nodes, from, slice, place, out, remainder),
         2 => feed_cue(slice, place, out, remainder),
         3 => feed_level(nodes, from, slice, place, out, remainder),
+        // Each of both's nodes gets the whole prefix.
         4 => {
-            return feed_both(types, at, nodes, from, slice, place, out, remainder, given);
+            return feed_parts(
+                7,
+                types,
+                at,
+                at,
+                nodes,
+                from + 1,
+                slice,
+                place,
+                place,
+                out,
+                remainder,
+                given,
+            );
         }
         5 => feed_left(slice, place, out, remainder),
         6 => feed_right(slice, place, out, remainder),
@@ -186,38 +200,6 @@ fn feed_parts(
         sent + rest.sent,
         kept + rest.kept,
         size + rest.size,
-    )
-}
-
-// Feeds *both*: each of its nodes gets the whole prefix.
-fn feed_both(
-    types: &[u8],
-    at: usize,
-    nodes: &[u8],
-    from: usize,
-    slice: &[u8],
-    place: usize,
-    out: &mut [u8],
-    remainder: &mut [u8],
-    given: &mut [u8],
-) -> Step
-    requires { ⌜ FeedDue (now types) at (now nodes) from (now slice) place (now out) (now remainder) (now given) ⌝ }
-    requires { ⌜ getD (now nodes) from 0 ≡ 4 ⌝ }
-    ensures { λ r. ⌜ FeedsNode (now (types .entry)) at (now (nodes .entry)) from (now (slice .entry)) place (now (out .entry)) (now (remainder .entry)) (now (given .entry)) (now (out .exit)) (now (remainder .exit)) (now (given .exit)) r ⌝ }
-{
-    feed_parts(
-        7,
-        types,
-        at,
-        at,
-        nodes,
-        from + 1,
-        slice,
-        place,
-        place,
-        out,
-        remainder,
-        given,
     )
 }
 

@@ -10,24 +10,21 @@ use lib.ListN.{length, drop, set, length-set}
 use Prim.Native.Nat.{ℕ, _+_, _*_, _<_}
 use borrow.Fn.Kinds.{In}
 use borrow.Fn.PlainCycle.{Measures, is, falls, and}
-use Rattle.feeding.proofs.feed_both.Reads as feed-both
-use Rattle.feeding.proofs.feed_both.Kinds as feed-both-kinds
-use Rattle.feeding.proofs.+feed_both+feed_chain+feed_coming+feed_node+feed_parts+feed_then.Lts-feed_both as feed-both-lts
 use Rattle.feeding.proofs.feed_chain.Reads as feed-chain
 use Rattle.feeding.proofs.feed_chain.Kinds as feed-chain-kinds
-use Rattle.feeding.proofs.+feed_both+feed_chain+feed_coming+feed_node+feed_parts+feed_then.Lts-feed_chain as feed-chain-lts
+use Rattle.feeding.proofs.+feed_chain+feed_coming+feed_node+feed_parts+feed_then.Lts-feed_chain as feed-chain-lts
 use Rattle.feeding.proofs.feed_coming.Reads as feed-coming
 use Rattle.feeding.proofs.feed_coming.Kinds as feed-coming-kinds
-use Rattle.feeding.proofs.+feed_both+feed_chain+feed_coming+feed_node+feed_parts+feed_then.Lts-feed_coming as feed-coming-lts
+use Rattle.feeding.proofs.+feed_chain+feed_coming+feed_node+feed_parts+feed_then.Lts-feed_coming as feed-coming-lts
 use Rattle.feeding.proofs.feed_node.Reads as feed-node
 use Rattle.feeding.proofs.feed_node.Kinds as feed-node-kinds
-use Rattle.feeding.proofs.+feed_both+feed_chain+feed_coming+feed_node+feed_parts+feed_then.Lts-feed_node as feed-node-lts
+use Rattle.feeding.proofs.+feed_chain+feed_coming+feed_node+feed_parts+feed_then.Lts-feed_node as feed-node-lts
 use Rattle.feeding.proofs.feed_parts.Reads as feed-parts
 use Rattle.feeding.proofs.feed_parts.Kinds as feed-parts-kinds
-use Rattle.feeding.proofs.+feed_both+feed_chain+feed_coming+feed_node+feed_parts+feed_then.Lts-feed_parts as feed-parts-lts
+use Rattle.feeding.proofs.+feed_chain+feed_coming+feed_node+feed_parts+feed_then.Lts-feed_parts as feed-parts-lts
 use Rattle.feeding.proofs.feed_then.Reads as feed-then
 use Rattle.feeding.proofs.feed_then.Kinds as feed-then-kinds
-use Rattle.feeding.proofs.+feed_both+feed_chain+feed_coming+feed_node+feed_parts+feed_then.Lts-feed_then as feed-then-lts
+use Rattle.feeding.proofs.+feed_chain+feed_coming+feed_node+feed_parts+feed_then.Lts-feed_then as feed-then-lts
 use Rattle.reading.proofs.prefixes.complete_width.Reads as complete-width-reads
 use Rattle.reading.proofs.prefixes.type_kind_of.Reads as type-kind-of-reads
 use Rattle.reading.proofs.types.skip_type.Reads as skip-type-reads
@@ -57,13 +54,10 @@ use Rattle.feeding.proofs.Below.{both-count, parts-fewer}
 use Rattle.feeding.proofs.FeedingBoth.{both-due, both-fed}
 use Rattle.feeding.proofs.FeedingLeaf.{LeafFeeds, leaf-due, behind-due, carrying-due, leaf-fed, carrying-fed, other-fed, arrives, give-due, leaf-steps, behind-fed}
 use Rattle.feeding.proofs.FeedingParts as feeding-parts
-use Rattle.feeding.proofs.+feed_both+feed_chain+feed_coming+feed_node+feed_parts+feed_then.{statement}
-use Rattle.feeding.proofs.+feed_both+feed_chain+feed_coming+feed_node+feed_parts+feed_then.Tie.{close}
+use Rattle.feeding.proofs.+feed_chain+feed_coming+feed_node+feed_parts+feed_then.{statement}
+use Rattle.feeding.proofs.+feed_chain+feed_coming+feed_node+feed_parts+feed_then.Tie.{close}
 
 -- The number of nodes below, three times, and two more at `feed_node` and one at `feed_then`, which hand their own node on.
-
-abbrev μ-feed-both : Measures 6 feed-both-kinds.ps ℕ
-μ-feed-both κs a = 3 * nodes-below 1 (drop (a .1 .1 .1 .0) (a .1 .1 .0 .now))
 
 abbrev μ-feed-chain : Measures 6 feed-chain-kinds.ps ℕ
 μ-feed-chain κs a = 3 * nodes-below 1 (drop (a .1 .1 .1 .0) (a .1 .1 .0 .now))
@@ -81,12 +75,6 @@ abbrev μ-feed-then : Measures 6 feed-then-kinds.ps ℕ
 μ-feed-then κs a = 3 * nodes-below 1 (drop (a .1 .1 .1 .0) (a .1 .1 .0 .now)) + 1
 
 module _ (t : ℕ) where
-  abbrev both-here : In 6 feed-both-kinds.ps
-  both-here = and 6 feed-both-kinds.ps (is 6 feed-both-kinds.ps μ-feed-both t) feed-both.Pre
-
-  abbrev both-below : In 6 feed-both-kinds.ps
-  both-below = and 6 feed-both-kinds.ps (falls 6 feed-both-kinds.ps _<_ μ-feed-both t) feed-both.Pre
-
   abbrev chain-here : In 6 feed-chain-kinds.ps
   chain-here = and 6 feed-chain-kinds.ps (is 6 feed-chain-kinds.ps μ-feed-chain t) feed-chain.Pre
 
@@ -116,12 +104,6 @@ module _ (t : ℕ) where
 
   abbrev then-below : In 6 feed-then-kinds.ps
   then-below = and 6 feed-then-kinds.ps (falls 6 feed-then-kinds.ps _<_ μ-feed-then t) feed-then.Pre
-
-  abbrev calls-both : feed-both-lts.Claims
-  calls-both = (
-    parts-below,
-    feed-parts.Post,
-  )
 
   abbrev calls-chain : feed-chain-lts.Claims
   calls-chain = (
@@ -155,8 +137,8 @@ module _ (t : ℕ) where
     feed-cue-reads.Learnt,
     feed-level-reads.Asked,
     feed-level-reads.Learnt,
-    both-below,
-    feed-both.Post,
+    parts-below,
+    feed-parts.Post,
     feed-left-reads.Asked,
     feed-left-reads.Learnt,
     feed-right-reads.Asked,
@@ -251,10 +233,18 @@ module _ (t : ℕ) where
   feed-node-feed-level-requires : feed-node-lts.Need-feed-level-requires calls-node node-here feed-node.Post
   feed-node-feed-level-requires c κs = carrying-due (node-entry (c .before .before .before) .pre .1) (c .before .before .match .keys4)
 
-  feed-node-feed-both-requires : feed-node-lts.Need-feed-both-requires calls-node node-here feed-node.Post
-  feed-node-feed-both-requires c κs =
+  -- *both*: each of its nodes gets the whole prefix.
+  feed-node-add-feed-parts : feed-node-lts.Need-add-feed-parts calls-node node-here feed-node.Post
+  feed-node-add-feed-parts c = omega (arith, starts-inside (node-entry (c .before) .pre .1 .stand .node-at))
+
+  feed-node-feed-parts-requires : feed-node-lts.Need-feed-parts-requires calls-node node-here feed-node.Post
+  feed-node-feed-parts-requires c κs =
       let entry = node-entry (c .before .before .before .before) in
-      (omega (arith, entry .pre .0), (entry .pre .1, c .before .before .before .match .keys5))
+      let due = entry .pre .1 in
+      let kind = c .before .before .before .match .keys5 in (
+        omega (arith, entry .pre .0, parts-fewer both-forks both-count kind (due .stand .node-at) (due .feedable .few)),
+        both-due kind due,
+      )
 
   feed-node-same-length : feed-node-lts.Need-same-length calls-node node-here feed-node.Post
   feed-node-same-length c = search needs
@@ -266,7 +256,9 @@ module _ (t : ℕ) where
   feed-node-same-length-3 c = search needs
 
   feed-node-returns : feed-node-lts.Need-returns calls-node node-here feed-node.Post
-  feed-node-returns c = c .before .before .before .before .before .before .feed-both .ensures
+  feed-node-returns c =
+      let fed = c .before .before .before .before .before .before in
+      both-fed (fed .before .before .before .before .match .keys5) (fed .feed-parts .ensures)
 
   feed-node-feed-left-requires : feed-node-lts.Need-feed-left-requires calls-node node-here feed-node.Post
   feed-node-feed-left-requires c κs = leaf-due (node-entry (c .before .before .before) .pre .1) (c .before .before .match .keys6) refl
@@ -357,36 +349,6 @@ module _ (t : ℕ) where
 
   feed-node-same-length-15 : feed-node-lts.Need-same-length-15 calls-node node-here feed-node.Post
   feed-node-same-length-15 c = feed-node-returns-5 c .each (leaf-start (c .before .before .before .before) .pre .1) .type-given .long
-
-  -- feed_both
-
-  abbrev both-entry : feed-both-lts.After-slice-known3 calls-both both-here feed-both.Post → feed-both-lts.Start calls-both both-here feed-both.Post
-  both-entry c = c .before .before .before .before .before .before
-
-  feed-both-add-feed-parts : feed-both-lts.Need-add-feed-parts calls-both both-here feed-both.Post
-  feed-both-add-feed-parts c = omega (arith, starts-inside (both-entry c .pre .1 .0 .stand .node-at))
-
-  feed-both-feed-parts-requires : feed-both-lts.Need-feed-parts-requires calls-both both-here feed-both.Post
-  feed-both-feed-parts-requires c κs =
-      let entry = both-entry (c .before .before .before) in
-      let due = entry .pre .1 .0 in (
-        omega (arith, entry .pre .0, parts-fewer both-forks both-count (entry .pre .1 .1) (due .stand .node-at) (due .feedable .few)),
-        both-due (entry .pre .1 .1) due,
-      )
-
-  feed-both-same-length : feed-both-lts.Need-same-length calls-both both-here feed-both.Post
-  feed-both-same-length c = search needs
-
-  feed-both-same-length-2 : feed-both-lts.Need-same-length-2 calls-both both-here feed-both.Post
-  feed-both-same-length-2 c = search needs
-
-  feed-both-same-length-3 : feed-both-lts.Need-same-length-3 calls-both both-here feed-both.Post
-  feed-both-same-length-3 c = search needs
-
-  feed-both-returns : feed-both-lts.Need-returns calls-both both-here feed-both.Post
-  feed-both-returns c =
-      let fed = c .before .before .before .before .before .before in
-      both-fed (both-entry (fed .before .before .before .before) .pre .1 .1) (fed .feed-parts .ensures)
 
   -- feed_parts
 
@@ -1087,25 +1049,14 @@ module _ (t : ℕ) where
             (c .new .ensures);
       }
 
-pub +feed-both+feed-chain+feed-coming+feed-node+feed-parts+feed-then-spec : {M : Type 1} → statement M
-+feed-both+feed-chain+feed-coming+feed-node+feed-parts+feed-then-spec =
+pub +feed-chain+feed-coming+feed-node+feed-parts+feed-then-spec : {M : Type 1} → statement M
++feed-chain+feed-coming+feed-node+feed-parts+feed-then-spec =
     close
-    μ-feed-both
     μ-feed-chain
     μ-feed-coming
     μ-feed-node
     μ-feed-parts
     μ-feed-then
-    (λ t. feed-both-lts.spec
-    (calls-both t)
-    (both-here t)
-    feed-both.Post
-    (feed-both-add-feed-parts t)
-    (feed-both-feed-parts-requires t)
-    (feed-both-same-length t)
-    (feed-both-same-length-2 t)
-    (feed-both-same-length-3 t)
-    (feed-both-returns t))
     (λ t. feed-chain-lts.spec
     (calls-chain t)
     (chain-here t)
@@ -1189,7 +1140,8 @@ pub +feed-both+feed-chain+feed-coming+feed-node+feed-parts+feed-then-spec : {M :
     (feed-node-feed-silent-requires t)
     (feed-node-feed-cue-requires t)
     (feed-node-feed-level-requires t)
-    (feed-node-feed-both-requires t)
+    (feed-node-add-feed-parts t)
+    (feed-node-feed-parts-requires t)
     (feed-node-same-length t)
     (feed-node-same-length-2 t)
     (feed-node-same-length-3 t)
