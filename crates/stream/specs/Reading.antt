@@ -9,6 +9,7 @@ use Rattle.stream.specs.declared.Fault.{Fault}
 pub mod Laws
 pub mod Walking
 pub mod Parts
+pub mod Budgets
 pub mod Refusals
 pub mod Examples
 

@@ -9,9 +9,63 @@ use Rattle.stream.specs.Reading.{Reading, read, fault, read-on, Root, fo
 use Rattle.stream.specs.Reading.Laws.{none-owed}
 use Rattle.stream.specs.Reading.Walking.{MakesOne, OneEach, one-each}
 
--- What is read for some entries, and then for others.
-abbrev then-read : {A : Type 0} → Reading (List A) → (List ℕ → Reading (List A)) → Reading (List A)
-then-read g h = read-on g (λ ts r. read-on (h r) (λ us x. read (ts ++ us) x))
+-- What is read for some entries, and then for others, given what was read for the first.
+abbrev pub then-read : {A : Type 0} → Reading (List A) → (List A → List ℕ → Reading (List A)) → Reading (List A)
+then-read g h = read-on g (λ ts r. read-on (h ts r) (λ us x. read (ts ++ us) x))
+
+pub as-read : {A : Type 0} (g : Reading (List A)) → g ≡ read-on g (λ us x. read us x)
+as-read (read us x) = refl
+as-read (fault e) = refl
+
+-- A root makes its tree of the trees that follow it, and leaves those behind as they are.
+abbrev pub InFront : {W A : Type 0} → Reading (Root W A) → Type 0
+InFront {A = A} (read n r) = (ts us : List A) → length (n .parts) ≤ length ts → n .build (ts ++ us) ≡ n .build ts ++ us
+InFront (fault e) = Unit
+
+pub one-in-front : {W A : Type 0} (f : A → A) (w : W) (s : List ℕ) → InFront (one-part f w s)
+one-in-front {A = A} f w s = go
+  where
+    go : (ts us : List A) → 1 ≤ length ts → on-one f (ts ++ us) ≡ on-one f ts ++ us
+    go [] us h = absurd (omega arith)
+    go (t ∷ ts) us h = refl
+
+pub two-in-front : {W A : Type 0} (f : A → A → A) (v w : W) (s : List ℕ) → InFront (two-parts f v w s)
+two-in-front {A = A} f v w s = go
+  where
+    go : (ts us : List A) → 2 ≤ length ts → on-two f (ts ++ us) ≡ on-two f ts ++ us
+    go [] us h = absurd (omega arith)
+    go (t ∷ []) us h = absurd (omega arith)
+    go (t ∷ u ∷ ts) us h = refl
+
+pub built : {W A : Type 0} (n : Root W A) (ts : List A) (g : Reading (List A)) → ((us : List A) → n .build (ts ++ us) ≡ n .build ts ++ us)
+    → read-on (read-on g (λ us x. read (ts ++ us) x)) (λ us x. read (n .build us) x) ≡ read-on g (λ us x. read (n .build ts ++ us) x)
+built n ts (read us x) h = rw (h us)
+built n ts (fault e) h = refl
+
+-- What becomes of the trees of one part, or of two, read one after the other.
+module _ {A : Type 0} (over : Fault) where
+  pub one-read : (f : A → A) (g : Reading A)
+      → read-on (read-on (read-on g (λ a x. read (a ∷ []) x)) (λ ts x. read (on-one f ts) x)) (only over) ≡ read-on g (λ a x. read (f a) x)
+  one-read f (read a x) = refl
+  one-read f (fault e) = refl
+
+  pub second-read : (f : A → A → A) (a : A) (g : Reading A)
+      → read-on (read-on (read-on (read-on g (λ b y. read (b ∷ []) y)) (λ us y. read (a ∷ us) y)) (λ ts y. read (on-two f ts) y)) (only over)
+      ≡ read-on g (λ b y. read (f a b) y)
+  second-read f a (read b y) = refl
+  second-read f a (fault e) = refl
+
+-- A forest for one entry is one tree, if each root makes one.
+pub alone : {W A : Type 0} (over : Fault) (root : W → List ℕ → Reading (Root W A)) (one : (w : W) (s : List ℕ) → MakesOne (root w s))
+    (budget : ℕ) (w : W) (s : List ℕ) → forest over root budget (w ∷ []) s ≡ read-on (tree over root budget w s) (λ a r. read (a ∷ []) r)
+unfolding tree
+alone {W} {A} over root one budget w s = go (forest over root budget (w ∷ []) s) (one-each over root one budget (w ∷ []) s)
+  where
+    go : (g : Reading (List A)) → OneEach over root one (w ∷ []) g → g ≡ read-on (read-on g (only over)) (λ a r. read (a ∷ []) r)
+    go (read [] r) o = absurd (omega arith)
+    go (read (a ∷ []) r) o = refl
+    go (read (a ∷ b ∷ ts) r) o = absurd (omega arith)
+    go (fault e) o = refl
 
 -- Each entry weighs as many nodes as may be read for it: the parts of a root weigh less than the root's own entry.
 module _ {W : Type 0} (weigh : W → ℕ) where
@@ -49,26 +103,6 @@ module _ {W : Type 0} (weigh : W → ℕ) where
             rw (same (n .parts ++ ws) r (omega (arith, weight-append (n .parts) ws)) (omega (arith, weight-append (n .parts) ws)))
         go (fault x) l same = refl
 
--- A root makes its tree of the trees that follow it, and leaves those behind as they are.
-abbrev pub InFront : {W A : Type 0} → Reading (Root W A) → Type 0
-InFront {A = A} (read n r) = (ts us : List A) → length (n .parts) ≤ length ts → n .build (ts ++ us) ≡ n .build ts ++ us
-InFront (fault e) = Unit
-
-pub one-in-front : {W A : Type 0} (f : A → A) (w : W) (s : List ℕ) → InFront (one-part f w s)
-one-in-front {A = A} f w s = go
-  where
-    go : (ts us : List A) → 1 ≤ length ts → on-one f (ts ++ us) ≡ on-one f ts ++ us
-    go [] us h = absurd (omega arith)
-    go (t ∷ ts) us h = refl
-
-pub two-in-front : {W A : Type 0} (f : A → A → A) (v w : W) (s : List ℕ) → InFront (two-parts f v w s)
-two-in-front {A = A} f v w s = go
-  where
-    go : (ts us : List A) → 2 ≤ length ts → on-two f (ts ++ us) ≡ on-two f ts ++ us
-    go [] us h = absurd (omega arith)
-    go (t ∷ []) us h = absurd (omega arith)
-    go (t ∷ u ∷ ts) us h = refl
-
 -- Roots that can be read one by one: each entry weighs something and its parts less, and each root makes one tree.
 pub record Descends {W A : Type 0} (weigh : W → ℕ) (root : W → List ℕ → Reading (Root W A)) : Type 0 where
   pub positive : (w : W) → 1 ≤ weigh w
@@ -77,17 +111,8 @@ pub record Descends {W A : Type 0} (weigh : W → ℕ) (root : W → List ℕ �
   pub in-front : (w : W) (s : List ℕ) → InFront (root w s)
 
 module _ {W A : Type 0} {weigh : W → ℕ} {root : W → List ℕ → Reading (Root W A)} (descends : Descends weigh root) (over : Fault) where
-  as-read : (g : Reading (List A)) → g ≡ read-on g (λ us x. read us x)
-  as-read (read us x) = refl
-  as-read (fault e) = refl
-
-  built : (n : Root W A) (ts : List A) (g : Reading (List A)) → ((us : List A) → n .build (ts ++ us) ≡ n .build ts ++ us)
-      → read-on (read-on g (λ us x. read (ts ++ us) x)) (λ us x. read (n .build us) x) ≡ read-on g (λ us x. read (n .build ts ++ us) x)
-  built n ts (read us x) h = rw (h us)
-  built n ts (fault e) h = refl
-
   forest-append : (budget : ℕ) (ws vs : List W) (s : List ℕ) → weight weigh (ws ++ vs) ≤ budget
-      → forest over root budget (ws ++ vs) s ≡ then-read (forest over root budget ws s) (forest over root budget vs)
+      → forest over root budget (ws ++ vs) s ≡ then-read (forest over root budget ws s) (λ ts. forest over root budget vs)
   unfolding forest weight
   forest-append zero [] vs s h = as-read (forest over root zero vs s)
   forest-append (suc budget) [] vs s h = as-read (forest over root (suc budget) vs s)
@@ -99,8 +124,8 @@ module _ {W A : Type 0} {weigh : W → ℕ} {root : W → List ℕ → Reading (
       light = omega (arith, weight-append weigh ws vs)
 
       on : (n : Root W A) (r : List ℕ) → InFront (read n r) → (g : Reading (List A)) → OneEach over root (descends .makes-one) (n .parts ++ ws) g
-          → read-on (then-read g (forest over root budget vs)) (λ ts x. read (n .build ts) x)
-          ≡ then-read (read-on g (λ ts x. read (n .build ts) x)) (forest over root (suc budget) vs)
+          → read-on (then-read g (λ ts. forest over root budget vs)) (λ ts x. read (n .build ts) x)
+          ≡ then-read (read-on g (λ ts x. read (n .build ts) x)) (λ ts. forest over root (suc budget) vs)
       on n r f (read ts x) o =
           built n ts (forest over root budget vs x) (λ us. f ts us (omega (arith, o, length-append (n .parts) ws)))
           ∙ ap (λ g. read-on g (λ us y. read (n .build ts ++ us) y))
@@ -110,10 +135,10 @@ module _ {W A : Type 0} {weigh : W → ℕ} {root : W → List ℕ → Reading (
 
       go : (g : Reading (Root W A)) → Lighter weigh w g → InFront g
           → ((us : List W) (r : List ℕ) → weight weigh (us ++ vs) ≤ budget
-          → forest over root budget (us ++ vs) r ≡ then-read (forest over root budget us r) (forest over root budget vs))
+          → forest over root budget (us ++ vs) r ≡ then-read (forest over root budget us r) (λ ts. forest over root budget vs))
           → read-on g (λ n r. read-on (forest over root budget (n .parts ++ (ws ++ vs)) r) (λ ts rest. read (n .build ts) rest))
           ≡ then-read (read-on g (λ n r. read-on (forest over root budget (n .parts ++ ws) r) (λ ts rest. read (n .build ts) rest)))
-          (forest over root (suc budget) vs)
+          (λ ts. forest over root (suc budget) vs)
       go (read n r) l f k =
           ap (λ us. read-on (forest over root budget us r) (λ ts rest. read (n .build ts) rest)) (sym (append-assoc (n .parts) ws vs))
           ∙ ap (λ g. read-on g (λ ts rest. read (n .build ts) rest))
@@ -121,22 +146,13 @@ module _ {W A : Type 0} {weigh : W → ℕ} {root : W → List ℕ → Reading (
           ∙ on n r f (forest over root budget (n .parts ++ ws) r) (one-each over root (descends .makes-one) budget (n .parts ++ ws) r)
       go (fault e) l f k = refl
 
-  alone : (budget : ℕ) (w : W) (s : List ℕ) → forest over root budget (w ∷ []) s ≡ read-on (tree over root budget w s) (λ a r. read (a ∷ []) r)
-  unfolding tree
-  alone budget w s = go (forest over root budget (w ∷ []) s) (one-each over root (descends .makes-one) budget (w ∷ []) s)
-    where
-      go : (g : Reading (List A)) → OneEach over root (descends .makes-one) (w ∷ []) g → g ≡ read-on (read-on g (only over)) (λ a r. read (a ∷ []) r)
-      go (read [] r) o = absurd (omega arith)
-      go (read (a ∷ []) r) o = refl
-      go (read (a ∷ b ∷ ts) r) o = absurd (omega arith)
-      go (fault e) o = refl
-
   -- The one tree of a part, under the budget that a node less leaves.
   part : (budget : ℕ) (w : W) (s : List ℕ) → weigh w ≤ budget
       → forest over root budget (w ∷ []) s ≡ read-on (tree over root (suc budget) w s) (λ a r. read (a ∷ []) r)
   unfolding weight
   part budget w s h =
-      same-forest weigh root (descends .positive) (descends .lighter) over over budget (suc budget) (w ∷ []) s (omega arith) (omega arith) ∙ alone (suc budget) w s
+      same-forest weigh root (descends .positive) (descends .lighter) over over budget (suc budget) (w ∷ []) s (omega arith) (omega arith)
+      ∙ alone over root (descends .makes-one) (suc budget) w s
 
   pub tree-fault : (budget : ℕ) (w : W) (s : List ℕ) (e : Fault) → weigh w ≤ budget → root w s ≡ fault e → tree over root budget w s ≡ fault e
   unfolding tree forest
@@ -154,12 +170,7 @@ module _ {W A : Type 0} {weigh : W → ℕ} {root : W → List ℕ → Reading (
   tree-one zero w v s r f h k = absurd (omega (arith, descends .positive w))
   tree-one (suc budget) w v s r f h k =
       let l : weigh v + 0 < weigh w = rw k at (descends .lighter w s) in
-      rw (forest, k) (rw (part budget v r (omega arith)) (go (tree over root (suc budget) v r)))
-    where
-      go : (g : Reading A)
-          → read-on (read-on (read-on g (λ a x. read (a ∷ []) x)) (λ ts x. read (on-one f ts) x)) (only over) ≡ read-on g (λ a x. read (f a) x)
-      go (read a x) = refl
-      go (fault e) = refl
+      rw (forest, k) (rw (part budget v r (omega arith)) (one-read over f (tree over root (suc budget) v r)))
 
   pub tree-two : (budget : ℕ) (w u v : W) (s r : List ℕ) (f : A → A → A) → weigh w ≤ budget → root w s ≡ two-parts f u v r
       → tree over root budget w s
@@ -170,14 +181,8 @@ module _ {W A : Type 0} {weigh : W → ℕ} {root : W → List ℕ → Reading (
       let l : weigh u + (weigh v + 0) < weigh w = rw k at (descends .lighter w s) in
       rw (forest, k, forest-append budget (u ∷ []) (v ∷ []) r (omega arith), part budget u r (omega arith)) (go (omega arith) (tree over root (suc budget) u r))
     where
-      on : (a : A) (g : Reading A)
-          → read-on (read-on (read-on (read-on g (λ b y. read (b ∷ []) y)) (λ us y. read (a ∷ us) y)) (λ ts y. read (on-two f ts) y)) (only over)
-          ≡ read-on g (λ b y. read (f a b) y)
-      on a (read b y) = refl
-      on a (fault e) = refl
-
       go : weigh v ≤ budget → (g : Reading A)
-          → read-on (read-on (then-read (read-on g (λ a x. read (a ∷ []) x)) (forest over root budget (v ∷ []))) (λ ts x. read (on-two f ts) x)) (only over)
+          → read-on (read-on (then-read (read-on g (λ a x. read (a ∷ []) x)) (λ ts. forest over root budget (v ∷ []))) (λ ts x. read (on-two f ts) x)) (only over)
           ≡ read-on g (λ a x. read-on (tree over root (suc budget) v x) (λ b y. read (f a b) y))
-      go i (read a x) = rw (part budget v x i) (on a (tree over root (suc budget) v x))
+      go i (read a x) = rw (part budget v x i) (second-read over f a (tree over root (suc budget) v x))
       go i (fault e) = refl

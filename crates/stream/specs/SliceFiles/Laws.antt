@@ -8,7 +8,7 @@ use native.Mathlib.Omega.{arith}
 use lib.ListN.{length, getD}
 use borrow.Author.Tests.{not-true}
 use Rattle.stream.specs.declared.Fault.{Fault}
-use Rattle.stream.specs.declared.Fault.the-variants.{SliceCutShort, SliceUnlisted, SliceLeftOver}
+use Rattle.stream.specs.declared.Fault.the-variants.{SliceCutShort, SliceUnlisted, SliceLeftOver, SliceMisplaced}
 use Rattle.stream.specs.Types.{Ty, size, type-limit, first-part, second-part, has-kind}
 use Rattle.stream.specs.Types.Laws.{and-left, and-right, made-of, parts-size, size-positive}
 use Rattle.stream.specs.Levels.{value-bytes, read-value, value-width}
@@ -18,9 +18,11 @@ use Rattle.stream.specs.Levels.Laws.{value-length, value-is-bytes, value
 use Rattle.stream.specs.Prefixes.{Prefix, nothing, cue-awaited, cue-come, level-awaited, level-come, in-first, crossed, beside, Complete, whole-nothing, whole-cue, whole-level, whole-crossed, whole-beside, IsPrefix, of-empty, of-cue-awaited, of-cue-come, of-level-awaited, of-level-come, of-first, of-crossed, of-beside}
 use Rattle.stream.specs.Prefixes.Kinds.{tally}
 use Rattle.stream.specs.Prefixes.Laws.{crossed-second, beside-first, beside-second}
-use Rattle.stream.specs.Reading.{Bytes, Reading, read, fault, accepted, IsAccepted, read-on, whole, section-bytes, section, Root, forest, leaf}
+use Rattle.stream.specs.Reading.{Bytes, Reading, read, fault, accepted, IsAccepted, read-on, whole, section-bytes, section, Root, forest, leaf, one-part, two-parts}
 use Rattle.stream.specs.Reading.Laws.{Reads, reads-leaf, reads-one, reads-two, tree-reads, RootIs, leaf-is, one-is, two-is, tree-sound, section-reads, section-sound, whole-sound, _&_, past, every, bytes-tail, bytes-nil, bytes-cons, section-is-bytes}
-use Rattle.stream.specs.Reading.Parts.{weight, Lighter, same-forest}
+use Rattle.stream.specs.Reading.Walking.{MakesOne, leaf-makes, one-makes, two-makes}
+use Rattle.stream.specs.Reading.Parts.{weight, Lighter, same-forest, InFront, one-in-front, two-in-front}
+use Rattle.stream.specs.Reading.Budgets.{Spends, OneMore, leaf-one-more, one-one-more, two-one-more}
 use Rattle.stream.specs.Reading.Refusals.{Faults, Refusals, read-on-faults, section-faults, tree-faults, whole-refusals}
 use Rattle.stream.specs.SliceFiles.{prefix-bytes, slice-file-bytes, SliceFile, Owed, owed, belongs, prefix-kinds, prefix-root, read-prefix, slice-file}
 
@@ -270,6 +272,52 @@ pub limit-not-met : (e d : Fault) (t : Ty) (s : List ℕ) → size t ≤ type-li
 unfolding weight
 limit-not-met e d t s h =
     same-forest owed-size prefix-root owed-positive root-lighter e d type-limit type-limit (owed t false ∷ []) s (omega arith) (omega arith)
+
+-- What holds of a leaf, of a root with one part or two and of a fault holds of every root; each has one node more than its parts.
+module _ (P : Reading (Root Owed Prefix) → Type 0) (faults : (e : Fault) → P (fault e))
+    (leaves : (p : Prefix) (s : List ℕ) → nodes p ≡ 1 → P (leaf p s))
+    (ones : (f : Prefix → Prefix) (o : Owed) (s : List ℕ) → ((p : Prefix) → nodes (f p) ≡ suc (nodes p)) → P (one-part f o s))
+    (twos : (f : Prefix → Prefix → Prefix) (o u : Owed) (s : List ℕ) → ((p q : Prefix) → nodes (f p q) ≡ suc (nodes p + nodes q))
+    → P (two-parts f o u s)) where
+  if-belongs : (b : Bool) (root : List ℕ → Reading (Root Owed Prefix)) (s : List ℕ) → P (root s) → P (belongs b root s)
+  if-belongs true root s h = h
+  if-belongs false root s h = faults SliceMisplaced
+
+  of-value : (g : Reading ℕ) → P (read-on g (λ v r. leaf (level-come v) r))
+  unfolding nodes
+  of-value (read v r) = leaves (level-come v) r refl
+  of-value (fault e) = faults e
+
+  every-kind : (t : Ty) (c : Bool) (s : List ℕ) (k : ℕ) → P (getD prefix-kinds k (λ u d r. fault SliceUnlisted) t c s)
+  unfolding nodes
+  every-kind t c s =
+      every (λ k f. P (f t c s)) (λ u d r. fault SliceUnlisted) prefix-kinds
+      (if-belongs (has-kind 0 t) (leaf nothing) s (leaves nothing s refl)
+      & if-belongs (has-kind 1 t && not c) (leaf cue-awaited) s (leaves cue-awaited s refl)
+      & if-belongs (has-kind 1 t) (leaf cue-come) s (leaves cue-come s refl)
+      & if-belongs (has-kind 2 t && not c) (leaf level-awaited) s (leaves level-awaited s refl)
+      & if-belongs (has-kind 2 t) _ s (of-value (read-value SliceCutShort s))
+      & if-belongs (has-kind 3 t && not c) _ s (ones in-first (owed (first-part t) false) s (λ p. refl))
+      & if-belongs (has-kind 3 t) _ s (twos crossed (owed (first-part t) true) (owed (second-part t) c) s (λ p q. refl))
+      & if-belongs (has-kind 4 t) _ s (twos beside (owed (first-part t) c) (owed (second-part t) c) s (λ p q. refl))
+      & past (λ k h. faults SliceUnlisted))
+
+  pub every-root : (o : Owed) (s : List ℕ) → P (prefix-root o s)
+  unfolding prefix-root
+  every-root o [] = faults SliceCutShort
+  every-root o (k ∷ s) = every-kind (o .type) (o .must-complete) s k
+
+-- So a slice is read part by part, each with what the earlier ones leave of the budget (Reading/Budgets).
+pub prefix-spends : Spends nodes prefix-root
+prefix-spends =
+    record {
+      makes-one = λ o. every-root MakesOne (λ e. tt) (λ p s e. leaf-makes o p s) (λ f u s e. one-makes f u s) (λ f u v s e. two-makes f u v s) o;
+      in-front =
+          every-root InFront (λ e. tt) (λ p s e ts us h. refl) (λ f u s e. one-in-front f u s) (λ f u v s e. two-in-front f u v s);
+      one-more =
+          λ o. every-root (OneMore nodes) (λ e. tt) (λ p s e. leaf-one-more nodes o p s e) (λ f u s e. one-one-more nodes f u s e)
+          (λ f u v s e. two-one-more nodes f u v s e) o;
+    }
 
 -- The refusals of a slice file are 11 to 14.
 
