@@ -9,13 +9,13 @@ use Prim.Native.Nat.{ℕ, _≤_}
 use lib.ListN.{length}
 use Rattle.stream.specs.Bounds.{type-file-limit, slice-file-limit, patch-file-limit}
 use Rattle.stream.specs.Faults.{patch-numbers, contains}
-use Rattle.stream.specs.Types.{Ty, par}
+use Rattle.stream.specs.Types.{Ty, par, Small}
 use Rattle.stream.specs.Prefixes.{Prefix, beside, IsPrefix, Complete, empty-prefix, derivative, Concat}
 use Rattle.stream.specs.Prefixes.Laws.{concats, concat-only}
 use Rattle.stream.specs.Reading.{Bytes, accepted}
 use Rattle.stream.specs.TypeFiles.{type-file-bytes, TypeFile}
 use Rattle.stream.specs.SliceFiles.{slice-file-bytes, SliceFile}
-use Rattle.node.specs.Nodes.{Node, Patch, Small, Allowed}
+use Rattle.node.specs.Nodes.{Node, Patch, Allowed}
 use Rattle.node.specs.Feeding.{Feeds, FeedsPatch}
 use Rattle.node.specs.Feeding.Laws.{feeds, feeds-only}
 use Rattle.node.specs.PatchFiles.{patch-file-bytes, PatchFile}

@@ -7,7 +7,7 @@ use native.Mathlib.Nat.{add-zero}
 use lib.ListN.{getD, drop}
 use lib.Seq.{drop-drop}
 use Rattle.stream.specs.Reading.{Reading, read, fault}
-use Rattle.node.specs.Nodes.{Node, pass, silent, emit-cue, emit-level, both, left-side, right-side, first, second, then, chain, regroup-right, regroup-left, spread, front, count, node-limit}
+use Rattle.node.specs.Nodes.{Node, pass, silent, emit-cue, emit-level, both, left-side, right-side, first, second, then, chain, regroup-right, regroup-left, spread, front, count, node-limit, Few}
 use Rattle.node.specs.PatchFiles.{read-node}
 use Rattle.node.specs.PatchFiles.Laws.{read-node-reads}
 use Rattle.patch_reading.specs.PatchReads.{node-width, NodeAt}
@@ -34,7 +34,7 @@ count-positive spread = omega arith
 count-positive front = omega arith
 
 -- A node that stands there is read there.
-stands-read : {nodes : List ℕ} {from : ℕ} {n : Node} (stands : NodeAt nodes from n) → count n ≤ node-limit
+stands-read : {nodes : List ℕ} {from : ℕ} {n : Node} (stands : NodeAt nodes from n) → Few n
     → read-node (drop from nodes) ≡ read n (stands .rest)
 stands-read {n = n} stands few = ap read-node (stands .here) ∙ read-node-reads n (stands .rest) (stands .carries) few
 
@@ -45,14 +45,14 @@ below-read trees s e =
     ap (λ (g : Reading Node). elim g as (λ x. ℕ) [ read n r ↦ count n + nodes-below trees r | fault f ↦ 0 ]) e
 
 -- Of one node that stands there, as many as it has.
-pub below-one : {nodes : List ℕ} {from : ℕ} {n : Node} → NodeAt nodes from n → count n ≤ node-limit
+pub below-one : {nodes : List ℕ} {from : ℕ} {n : Node} → NodeAt nodes from n → Few n
     → nodes-below 1 (drop from nodes) ≡ count n
 unfolding nodes-below
 below-one {nodes} {from} {n} stands few = below-read 0 (drop from nodes) (stands-read stands few) ∙ add-zero (count n)
 
 -- Of two nodes one behind the other, as many as both have.
 pub below-two : {nodes : List ℕ} {from : ℕ} {n m : Node} → NodeAt nodes from n → NodeAt nodes (from + node-width n) m
-    → count n ≤ node-limit → count m ≤ node-limit → nodes-below 2 (drop from nodes) ≡ count n + count m
+    → Few n → Few m → nodes-below 2 (drop from nodes) ≡ count n + count m
 below-two {nodes} {from} {n} {m} stands behind few few-behind =
     let follows : stands .rest ≡ drop (from + node-width n) nodes
     = rw (← drop-drop (node-width n) from nodes, stands .here, node-drop n (stands .rest)) in
@@ -79,7 +79,7 @@ parts-count one-more parts = ap count (parts .made) ∙ one-more (parts .first) 
 
 -- So its parts, one behind the other, are fewer than the node.
 pub parts-fewer : {k : ℕ} {make : Node → Node → Node} {nodes : List ℕ} {from : ℕ} {n : Node} → Forks k make
-    → ((l r : Node) → count (make l r) ≡ suc (count l + count r)) → getD nodes from 0 ≡ k → NodeAt nodes from n → count n ≤ node-limit
+    → ((l r : Node) → count (make l r) ≡ suc (count l + count r)) → getD nodes from 0 ≡ k → NodeAt nodes from n → Few n
     → nodes-below 2 (drop (from + 1) nodes) < nodes-below 1 (drop from nodes)
 parts-fewer forks one-more kind stands few =
     let parts = parts-at forks kind stands in

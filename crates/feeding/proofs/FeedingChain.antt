@@ -5,13 +5,13 @@ use mathlib.Core.List.{List, [], _∷_, _++_}
 use Prim.Native.Nat.{ℕ, suc, _+_, _≤_, _<_}
 use native.Mathlib.Omega.{arith}
 use lib.ListN.{length, getD, drop, set, length-append}
-use Rattle.stream.specs.Types.{Ty, size, type-limit}
+use Rattle.stream.specs.Types.{Ty, size, type-limit, Small}
 use Rattle.stream.specs.Prefixes.{Prefix, IsPrefix}
 use Rattle.stream.specs.SliceFiles.Laws.{prefix-short, slice-length}
 use Rattle.reading.specs.SliceReads.{prefix-width}
 use Rattle.reading.specs.SliceReads.Laws.{prefix-bytes-length}
 use Rattle.writing.specs.Writing.Laws.{part, back}
-use Rattle.node.specs.Nodes.{Node, chain, Takes, takes-chain, count, Small}
+use Rattle.node.specs.Nodes.{Node, chain, Takes, takes-chain, count}
 use Rattle.node.specs.Nodes.Functions.{output-type}
 use Rattle.node.specs.Nodes.Laws.{output-type-is, output-small}
 use Rattle.node.specs.Feeding.Functions.{sends, leaves}

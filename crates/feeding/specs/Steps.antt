@@ -15,7 +15,7 @@ use Rattle.stream.specs.SliceFiles.{prefix-bytes}
 use Rattle.reading.specs.TypeReads.{TypeAt}
 use Rattle.reading.specs.SliceReads.{PrefixAt, prefix-width}
 use Rattle.writing.specs.Writing.{LeftFileDue}
-use Rattle.node.specs.Nodes.{Node, both, second, Takes, count, node-limit, patch-of}
+use Rattle.node.specs.Nodes.{Node, both, second, Takes, count, node-limit, patch-of, Few}
 use Rattle.node.specs.Nodes.Functions.{output-type, Fits}
 use Rattle.node.specs.Feeding.Functions.{sends, leaves}
 use Rattle.node.specs.PatchFiles.{node-bytes, read-node, patch-file-bytes}
@@ -42,7 +42,7 @@ pub record Feedable (s : Ty) (n : Node) (p : Prefix) : Type 0 where
   pub output : Ty
   pub types : Takes s n output
   pub fits : Fits s n
-  pub few : count n ≤ node-limit
+  pub few : Few n
   pub is-prefix : IsPrefix s p
 
 -- All three in their bytes.

@@ -4,7 +4,7 @@ use mathlib.Core.List.{List, [], _∷_}
 use Prim.Native.Nat.{ℕ, _+_, _≤_}
 use native.Mathlib.Omega.{arith}
 use lib.ListN.{length, getD, set}
-use Rattle.stream.specs.Types.{Ty, size, first-part, type-limit}
+use Rattle.stream.specs.Types.{Ty, size, first-part, type-limit, Small}
 use Rattle.stream.specs.Prefixes.{derivative}
 use Rattle.stream.specs.Prefixes.Laws.{derivative-size}
 use Rattle.stream.specs.TypeFiles.{type-bytes}
@@ -29,7 +29,7 @@ module _ {slice : List ℕ} {place : ℕ} {out remainder : List ℕ} (due : Leaf
 
   -- There is room for it behind the kind byte of silent ..
 
-  pub left-small : size left-over ≤ type-limit
+  pub left-small : Small left-over
   left-small = omega (arith, derivative-size (spent .is-prefix), spent .part-size, due .small)
 
   abbrev pub spent-due : SpentDue slice (place + 1) (part 1 (set remainder 0 1))

@@ -3,13 +3,13 @@ use mathlib.Core.Path.{_≡_}
 use mathlib.Core.List.{List, [], _∷_}
 use Prim.Native.Nat.{ℕ, suc, _+_, _≤_}
 use lib.ListN.{length, getD}
-use Rattle.stream.specs.Types.{Ty, empty, size, type-limit, first-part, second-part}
+use Rattle.stream.specs.Types.{Ty, empty, size, type-limit, first-part, second-part, Small}
 use Rattle.stream.specs.Buffers.{at-front}
 use Rattle.stream.specs.Prefixes.{Prefix, IsPrefix}
 use Rattle.stream.specs.SliceFiles.{prefix-bytes}
 use Rattle.reading.specs.TypeReads.{TypeAt}
 use Rattle.reading.specs.SliceReads.{PrefixAt, prefix-width}
-use Rattle.node.specs.Nodes.{Node, silent, second, Takes, Small}
+use Rattle.node.specs.Nodes.{Node, silent, second, Takes}
 use Rattle.node.specs.Feeding.Functions.{sends, leaves}
 use Rattle.node.specs.PatchFiles.{node-bytes}
 use Rattle.patch_reading.specs.PatchReads.{node-width, NodeAt}

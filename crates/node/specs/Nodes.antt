@@ -1,7 +1,7 @@
 -- Nodes, their typing and their limits (document 01, Nodes and Bounds). A node is one of the source's kernel transformers,
 -- the source's cut, or a structural rule that document 01 keeps as a node.
 use Prim.Native.Nat.{ℕ, suc, _+_, _<_, _≤_}
-use Rattle.stream.specs.Types.{Ty, empty, cue, level, seq, par, Nullable, size, type-limit}
+use Rattle.stream.specs.Types.{Ty, empty, cue, level, seq, par, Nullable, Small}
 use Rattle.stream.specs.Levels.{level-limit}
 pub mod Functions
 pub mod Laws
@@ -63,11 +63,11 @@ count front = 1
 unfoldable pub node-limit : ℕ
 node-limit = 63
 
+abbrev pub Few : Node → Type 0
+Few n = count n ≤ node-limit
+
 -- "At most 255 nodes in a type, counted as a tree, wherever it arises: read, carried by silent, or given by a node." Arises s n t
 -- says that t is given by n on s, or by a node in it; what silent carries it gives.
-abbrev pub Small : Ty → Type 0
-Small t = size t ≤ type-limit
-
 pub data Arises : Ty → Node → Ty → Type 0 where
   given : {s t : Ty} {n : Node} → Takes s n t → Arises s n t
   in-both-first : {s t : Ty} {n m : Node} → Arises s n t → Arises s (both n m) t
@@ -81,7 +81,7 @@ pub data Arises : Ty → Node → Ty → Type 0 where
 pub record Allowed (s : Ty) (n : Node) (t : Ty) : Type 0 where
   pub types : Takes s n t
   pub input-small : Small s
-  pub few : count n ≤ node-limit
+  pub few : Few n
   pub each-small : (u : Ty) → Arises s n u → Small u
 
 -- A patch: "the input type and then the nodes".

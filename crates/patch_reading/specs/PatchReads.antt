@@ -6,7 +6,7 @@ use lib.ListN.{length, getD, drop}
 use Rattle.reading.specs.TypeReads.{in-file, TypeAt}
 use Rattle.stream.specs.Types.{size}
 use Rattle.stream.specs.Reading.{Result, accepted, refused}
-use Rattle.node.specs.Nodes.{Node, Patch, count, node-limit}
+use Rattle.node.specs.Nodes.{Node, Patch, count, node-limit, Few}
 use Rattle.node.specs.Nodes.Functions.{Carries}
 use Rattle.node.specs.PatchFiles.{node-bytes, first-pass}
 use Rattle.patch_reading.specs.declared.PatchPlace.{PatchPlace}
@@ -43,4 +43,4 @@ pub record AcceptedPatch (file : List ℕ) (place : PatchPlace) : Type 0 where
   pub is-accepted : first-pass file ≡ accepted patch
   pub type-at : TypeAt file (place .input .start) (patch .input)
   pub node-at : NodeAt file (place .nodes) (patch .node)
-  pub few : count (patch .node) ≤ node-limit
+  pub few : Few (patch .node)

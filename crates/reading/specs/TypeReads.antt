@@ -7,7 +7,7 @@ use lib.ListN.{getD, drop}
 use Rattle.reading.specs.declared.types.TypePlace.{TypePlace}
 use Rattle.reading.specs.declared.types.TypeRead.{TypeRead}
 use Rattle.reading.specs.declared.types.TypeRead.the-variants.{Whole, Refused}
-use Rattle.stream.specs.Types.{Ty, nullable, size, type-limit}
+use Rattle.stream.specs.Types.{Ty, nullable, size, type-limit, Small}
 use Rattle.stream.specs.Reading.{Result, accepted, refused}
 use Rattle.stream.specs.TypeFiles.{type-bytes, type-file}
 pub mod Laws
@@ -24,7 +24,7 @@ type-read (refused e) = Refused e
 pub record TypeAt (bytes : List ℕ) (at : ℕ) (t : Ty) : Type 0 where
   pub rest : List ℕ
   pub here : drop at bytes ≡ type-bytes t rest
-  pub small : size t ≤ type-limit
+  pub small : Small t
 
 pub record SomeTypeAt (bytes : List ℕ) (at : ℕ) : Type 0 where
   pub type : Ty

@@ -4,7 +4,7 @@ use mathlib.Core.Path.{_≡_}
 use Prim.Native.Nat.{ℕ, _≤_}
 use lib.ListN.{getD}
 use Rattle.stream.specs.declared.Fault.the-variants.{CutShort, Unlisted, LeftOver, TypeTooLarge}
-use Rattle.stream.specs.Types.{Ty, empty, cue, level, seq, par, size, type-limit}
+use Rattle.stream.specs.Types.{Ty, empty, cue, level, seq, par, size, type-limit, Small}
 use Rattle.stream.specs.Reading.{Reading, fault, Result, whole, section-bytes, section, Root, tree, leaf, two-parts}
 pub mod Laws
 pub mod Examples
@@ -24,7 +24,7 @@ type-file-bytes t = section-bytes (type-bytes t []) []
 -- The bytes that are a type file.
 pub record TypeFile (file : List ℕ) : Type 0 where
   pub type : Ty
-  pub small : size type ≤ type-limit
+  pub small : Small type
   pub bytes : type-file-bytes type ≡ file
 
 -- What each kind byte begins, by its number.

@@ -1,6 +1,6 @@
 -- Stream types, as trees (document 01, Files, "Types").
 use mathlib.Core.Bool.{Bool, true, false, _&&_}
-use Prim.Native.Nat.{ℕ, suc, _+_}
+use Prim.Native.Nat.{ℕ, suc, _+_, _≤_}
 use lib.Dec.{eqb}
 pub mod Laws
 pub mod Kinds
@@ -35,6 +35,9 @@ size (par s t) = suc (size s + size t)
 -- "At most 255 nodes in a type".
 unfoldable pub type-limit : ℕ
 type-limit = 255
+
+abbrev pub Small : Ty → Type 0
+Small t = size t ≤ type-limit
 
 -- The kind byte, and the parts of a type of kind 3 or 4. A type of another kind has no parts; there the answer is the
 -- empty type, which no rule uses.

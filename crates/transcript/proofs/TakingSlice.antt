@@ -13,9 +13,9 @@ use Rattle.stream.specs.SliceFiles.Laws.{slice-file-sound}
 use Rattle.stream.specs.Reading.{Bytes, Result, accepted, refused, section-bytes}
 use Rattle.stream.specs.Reading.Laws.{go-on-accepted}
 use Rattle.stream.specs.Buffers.{at-front}
-use Rattle.stream.specs.Types.{Ty}
+use Rattle.stream.specs.Types.{Ty, Small}
 use Rattle.stream.specs.Prefixes.{derivative}
-use Rattle.node.specs.Nodes.{Node, Small, Allowed, patch-of}
+use Rattle.node.specs.Nodes.{Node, Allowed, patch-of}
 use Rattle.node.specs.Feeding.Functions.{sends, leaves}
 use Rattle.node.specs.Feeding.Laws.{leaves-allowed}
 use Rattle.node.specs.PatchFiles.{node-bytes, patch-file-bytes}

@@ -4,12 +4,11 @@ use mathlib.Core.List.{List, [], _∷_}
 use Prim.Native.Nat.{ℕ, _+_, _≤_, _<_}
 use native.Mathlib.Omega.{arith}
 use lib.ListN.{length, getD}
-use Rattle.stream.specs.Types.{Ty, size}
+use Rattle.stream.specs.Types.{Ty, size, Small}
 use Rattle.stream.specs.Levels.{value-bytes}
 use Rattle.stream.specs.Reading.{Result}
 use Rattle.stream.specs.TypeFiles.{type-bytes}
 use Rattle.reading.specs.TypeReads.{TypeAt, SomeTypeAt}
-use Rattle.node.specs.Nodes.{Small}
 use Rattle.node.specs.Checking.{gives, typing}
 use Rattle.node.specs.PatchFiles.{node-bytes}
 use Rattle.typing.specs.declared.Typed.{Typed}

@@ -7,7 +7,7 @@ use native.Mathlib.Omega.{arith}
 use lib.ListN.{length, getD}
 use Rattle.stream.specs.declared.Fault.{Fault}
 use Rattle.stream.specs.declared.Fault.the-variants.{WrongShape}
-use Rattle.stream.specs.Types.{Ty, size, type-limit, kind, first-part, second-part}
+use Rattle.stream.specs.Types.{Ty, size, type-limit, kind, first-part, second-part, Small}
 use Rattle.stream.specs.Reading.{Result, accepted, refused, go-on}
 use Rattle.stream.specs.TypeFiles.{type-bytes}
 use Rattle.reading.specs.TypeReads.{TypeAt, SomeTypeAt, TypeEnds}
@@ -72,7 +72,7 @@ module _ {kind : ℕ} {types : List ℕ} {first second : ℕ} {nodes : List ℕ}
         is-accepted : typing (due .first-type) (due .first-node) ≡ accepted type
         ends : next ≡ from + node-width (due .first-node)
         sized : many ≡ size type
-        small : size type ≤ type-limit
+        small : Small type
         written : WrittenSoFar (kind ∷ type-bytes type []) lent (back start now y) (before + many)
 
       first-part-given : (due : TypePartsDue kind types first second nodes from) → First due

@@ -4,13 +4,12 @@ use mathlib.Core.Path.{_≡_, sym, ap, _∙_}
 use mathlib.Core.List.{List, [], _∷_, _++_}
 use Prim.Native.Nat.{ℕ, _≤_}
 use lib.ListN.{length}
-use Rattle.stream.specs.Types.{Ty}
+use Rattle.stream.specs.Types.{Ty, Small}
 use Rattle.stream.specs.Prefixes.{Prefix}
 use Rattle.stream.specs.Prefixes.Laws.{concat-only}
 use Rattle.stream.specs.Reading.{accepted}
 use Rattle.stream.specs.TypeFiles.{type-file-bytes}
 use Rattle.stream.specs.SliceFiles.{slice-file-bytes}
-use Rattle.node.specs.Nodes.{Small}
 use Rattle.node.specs.Nodes.Laws.{output-small, allowed-fits}
 use Rattle.node.specs.PatchFiles.{PatchFile}
 use Rattle.meaning.specs.declared.Fed.{Fed}

@@ -8,14 +8,14 @@ use lib.Dec.{eqb}
 use lib.ListN.{length, take, drop, length-append}
 use lib.Seq.{take-append-seam}
 use borrow.Author.Tests.{eqb-true, eqb-false}
-use Rattle.stream.specs.Types.{Ty}
+use Rattle.stream.specs.Types.{Ty, Small}
 use Rattle.stream.specs.Prefixes.{Prefix, IsPrefix, derivative}
 use Rattle.stream.specs.Prefixes.Laws.{concat-is-prefix, derivative-concat, concats, concat-only, derivative-size}
 use Rattle.stream.specs.Reading.{Bytes, accepted}
 use Rattle.stream.specs.Reading.Laws.{go-on-accepted}
 use Rattle.stream.specs.SliceFiles.{slice-file, slice-file-bytes, SliceFile}
 use Rattle.stream.specs.SliceFiles.Laws.{prefix-short, slice-file-sound, slice-file-complete}
-use Rattle.node.specs.Nodes.{Node, Allowed, patch-of, Patch, Small}
+use Rattle.node.specs.Nodes.{Node, Allowed, patch-of, Patch}
 use Rattle.node.specs.Feeding.{FeedsPatch}
 use Rattle.node.specs.Feeding.Functions.{sends, leaves, patch-left}
 use Rattle.node.specs.Feeding.Laws.{Preserved, preserved, leaves-allowed, feeds}

@@ -5,7 +5,7 @@ use Prim.Native.Nat.{ℕ, _+_, _*_, _-_, _≤_, _<_}
 use native.Mathlib.Omega.{arith}
 use lib.ListN.{length, take, drop, set, length-append}
 use lib.Seq.{take-at}
-use Rattle.stream.specs.Types.{Ty}
+use Rattle.stream.specs.Types.{Ty, Small}
 use Rattle.stream.specs.Prefixes.{Prefix}
 use Rattle.stream.specs.Buffers.{at-front}
 use Rattle.stream.specs.TypeFiles.{type-bytes}
@@ -16,7 +16,7 @@ use Rattle.reading.specs.SliceReads.{PrefixAt}
 use Rattle.reading.specs.SliceReads.Laws.{prefix-before}
 use Rattle.writing.specs.Writing.Laws.{part, back, byte, front-length}
 use Rattle.writing.specs.Appending.Laws.{part-length, back-length}
-use Rattle.node.specs.Nodes.{Node, Small, count}
+use Rattle.node.specs.Nodes.{Node, count}
 use Rattle.node.specs.Checking.Laws.{types-carries}
 use Rattle.node.specs.Feeding.Functions.{leaves}
 use Rattle.node.specs.Feeding.Laws.{preserved, leaves-count, leaves-fits}

@@ -13,7 +13,7 @@ use Rattle.stream.specs.declared.Fault.{Fault}
 use Rattle.stream.specs.declared.Fault.the-variants.{CutShort, Unlisted, LeftOver, TypeTooLarge, TooManyNodes, NotNullable, WrongShape, SliceCutShort, SliceUnlisted, SliceLeftOver, SliceMisplaced, NoRoom}
 use Rattle.stream.specs.Bounds.{type-file-limit, slice-file-limit, patch-file-limit}
 use Rattle.stream.specs.Faults.{number, type-numbers, slice-numbers, patch-numbers, Listed, contains}
-use Rattle.stream.specs.Types.{Ty, par}
+use Rattle.stream.specs.Types.{Ty, par, Small}
 use Rattle.stream.specs.Types.Laws.{and-both}
 use Rattle.stream.specs.Prefixes.{Prefix, beside, IsPrefix, of-beside, empty-prefix, derivative, Concat}
 use Rattle.stream.specs.Prefixes.Functions.{complete, concat}
@@ -25,7 +25,7 @@ use Rattle.stream.specs.TypeFiles.{type-bytes, type-file, type-file-bytes, Type
 use Rattle.stream.specs.TypeFiles.Laws.{type-file-complete, type-file-sound, type-file-length, type-section-is-bytes, type-file-refusals}
 use Rattle.stream.specs.SliceFiles.{slice-file, slice-file-bytes, SliceFile}
 use Rattle.stream.specs.SliceFiles.Laws.{prefix-short, slice-file-complete, slice-file-sound, slice-file-accepted, slice-file-length, slice-file-is-bytes, slice-file-refusals}
-use Rattle.node.specs.Nodes.{Node, Small, Allowed, patch-of}
+use Rattle.node.specs.Nodes.{Node, Allowed, patch-of}
 use Rattle.node.specs.Nodes.Laws.{output-small, allowed-fits}
 use Rattle.node.specs.Feeding.Laws.{preserved, leaves-allowed}
 use Rattle.node.specs.PatchFiles.{Checked, node-bytes, patch-file, patch-file-bytes, PatchFile}

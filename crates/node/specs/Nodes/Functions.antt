@@ -1,9 +1,9 @@
 -- What the rules of typing and the limits say, as functions that compute. They are proved to agree with the rules (Laws:
 -- output-type-is, arises-small and fits-of), so that nobody has to believe them.
 use Prim.Native.Nat.{_<_}
-use Rattle.stream.specs.Types.{Ty, empty, cue, level, seq, par, first-part, second-part}
+use Rattle.stream.specs.Types.{Ty, empty, cue, level, seq, par, first-part, second-part, Small}
 use Rattle.stream.specs.Levels.{level-limit}
-use Rattle.node.specs.Nodes.{Node, pass, silent, emit-cue, emit-level, both, left-side, right-side, first, second, then, chain, regroup-right, regroup-left, spread, front, Small}
+use Rattle.node.specs.Nodes.{Node, pass, silent, emit-cue, emit-level, both, left-side, right-side, first, second, then, chain, regroup-right, regroup-left, spread, front}
 
 -- The output type that the rules give.
 unfoldable pub output-type : Ty → Node → Ty

@@ -1,8 +1,8 @@
 -- The output type of the rules is the function's; every type that arises is within the limit exactly if the function says so.
 use mathlib.Core.Path.{_≡_, refl, ap₂}
 use Prim.Native.Nat.{_≤_}
-use Rattle.stream.specs.Types.{Ty, seq, par}
-use Rattle.node.specs.Nodes.{Node, Takes, takes-pass, takes-silent, takes-cue, takes-level, takes-both, takes-left, takes-right, takes-first, takes-second, takes-then, takes-chain, takes-regroup-right, takes-regroup-left, takes-spread, takes-front, Small, Arises, given, in-both-first, in-both-second, in-then-first, in-then-second, in-chain-first, in-chain-second, count, node-limit, Allowed}
+use Rattle.stream.specs.Types.{Ty, seq, par, Small}
+use Rattle.node.specs.Nodes.{Node, Takes, takes-pass, takes-silent, takes-cue, takes-level, takes-both, takes-left, takes-right, takes-first, takes-second, takes-then, takes-chain, takes-regroup-right, takes-regroup-left, takes-spread, takes-front, Arises, given, in-both-first, in-both-second, in-then-first, in-then-second, in-chain-first, in-chain-second, count, node-limit, Allowed, Few}
 use Rattle.node.specs.Nodes.Functions.{output-type, Fits}
 
 pub output-type-is : {s t : Ty} {n : Node} → Takes s n t → output-type s n ≡ t
@@ -86,7 +86,7 @@ fits-of takes-front h = h _ (given takes-front)
 
 -- A patch that is allowed, by the function
 module _ {s t : Ty} {n : Node} where
-  pub is-allowed : Takes s n t → Small s → count n ≤ node-limit → Fits s n → Allowed s n t
+  pub is-allowed : Takes s n t → Small s → Few n → Fits s n → Allowed s n t
   is-allowed d small few fits = record { types = d; input-small = small; few = few; each-small = λ u a. arises-small a fits }
 
   pub allowed-fits : Allowed s n t → Fits s n

@@ -7,7 +7,7 @@ use native.Mathlib.Omega.{arith}
 use lib.ListN.{length, getD, length-append}
 use Rattle.stream.specs.declared.Fault.{Fault}
 use Rattle.stream.specs.declared.Fault.the-variants.{CutShort, Unlisted, LeftOver, TooManyNodes}
-use Rattle.stream.specs.Types.{Ty, type-limit}
+use Rattle.stream.specs.Types.{Ty, type-limit, Small}
 use Rattle.stream.specs.Bounds.{twice-node-bytes, node-bytes-limit, patch-file-limit}
 use Rattle.stream.specs.Faults.{type-numbers, patch-numbers, Listed}
 use Rattle.stream.specs.Levels.{value-bytes, read-value}
@@ -17,7 +17,7 @@ use Rattle.stream.specs.Reading.Laws.{Reads, reads-leaf, reads-two, tree-reads,
 use Rattle.stream.specs.Reading.Refusals.{Faults, Refusals, read-on-faults, go-on-refusals, section-faults, tree-faults, whole-refusals, faults-too, listed-first}
 use Rattle.stream.specs.TypeFiles.{type-bytes, read-type, type-section}
 use Rattle.stream.specs.TypeFiles.Laws.{type-length, type-is-bytes, type-section-is-bytes, read-type-reads, read-type-sound, type-section-reads, type-section-sound, read-type-faults, type-section-faults}
-use Rattle.node.specs.Nodes.{Node, pass, silent, emit-cue, emit-level, both, left-side, right-side, first, second, then, chain, regroup-right, regroup-left, spread, front, count, node-limit, Small, Allowed, Patch, patch-of}
+use Rattle.node.specs.Nodes.{Node, pass, silent, emit-cue, emit-level, both, left-side, right-side, first, second, then, chain, regroup-right, regroup-left, spread, front, count, node-limit, Allowed, Patch, patch-of, Few}
 use Rattle.node.specs.Nodes.Laws.{is-allowed, allowed-fits}
 use Rattle.node.specs.Checking.{typing}
 use Rattle.node.specs.Checking.Laws.{types-carries, typing-sound, typing-complete, typing-refusals}
@@ -45,7 +45,7 @@ node-length regroup-left r f = omega arith
 node-length spread r f = omega arith
 node-length front r f = omega arith
 
-pub nodes-length : (n : Node) → Carries n → count n ≤ node-limit → length (node-bytes n []) ≤ node-bytes-limit
+pub nodes-length : (n : Node) → Carries n → Few n → length (node-bytes n []) ≤ node-bytes-limit
 unfolding node-limit
 nodes-length n f h = omega (arith, node-length n [] f)
 
@@ -103,11 +103,11 @@ reads regroup-left f = reads-leaf TooManyNodes node-root _ (λ s. refl)
 reads spread f = reads-leaf TooManyNodes node-root _ (λ s. refl)
 reads front f = reads-leaf TooManyNodes node-root _ (λ s. refl)
 
-pub read-node-reads : (n : Node) (r : List ℕ) → Carries n → count n ≤ node-limit → read-node (node-bytes n r) ≡ read n r
+pub read-node-reads : (n : Node) (r : List ℕ) → Carries n → Few n → read-node (node-bytes n r) ≡ read n r
 unfolding read-node
 read-node-reads n r f h = tree-reads TooManyNodes node-root node-limit r (reads n f) h
 
-node-section-reads : (n : Node) (r : List ℕ) → Carries n → count n ≤ node-limit → node-section (section-bytes (node-bytes n []) r) ≡ read n r
+node-section-reads : (n : Node) (r : List ℕ) → Carries n → Few n → node-section (section-bytes (node-bytes n []) r) ≡ read n r
 unfolding node-section
 node-section-reads n r f h =
     section-reads CutShort LeftOver read-node (node-bytes n []) r n (read-node-reads n [] f h)
@@ -186,7 +186,7 @@ root-sound w (k ∷ s) b = kinds-sound w s (bytes-tail k s b) k
 record FoundNodes (s : List ℕ) (n : Node) (r : List ℕ) : Type 0 where
   bytes : section-bytes (node-bytes n []) r ≡ s
   carries : Carries n
-  few : count n ≤ node-limit
+  few : Few n
 
 node-section-sound : (s : List ℕ) (n : Node) (r : List ℕ) → Bytes s → node-section s ≡ read n r → FoundNodes s n r
 unfolding node-section read-node
@@ -199,7 +199,7 @@ pub record FoundPatch (s : List ℕ) (p : Patch) : Type 0 where
   pub bytes : patch-file-bytes p ≡ s
   pub input-small : Small (p .input)
   pub carries : Carries (p .node)
-  pub few : count (p .node) ≤ node-limit
+  pub few : Few (p .node)
 
 pub first-pass-sound : (s : List ℕ) (p : Patch) → Bytes s → first-pass s ≡ accepted p → FoundPatch s p
 unfolding first-pass patch-sections patch-file-bytes
@@ -212,7 +212,7 @@ first-pass-sound s p b e =
     go (x .0) (y .0) (y .1) (let d = y .3 in cc) (let d = y .3 in cc) (rw (g .bytes) (f .bytes)) (f .within) (g .carries) (g .few)
   where
     go : (t : Ty) (n : Node) (r : List ℕ) → _≡_ {A = Patch} (record { input = t; node = n }) p → r ≡ []
-        → section-bytes (type-bytes t []) (section-bytes (node-bytes n []) r) ≡ s → Small t → Carries n → count n ≤ node-limit → FoundPatch s p
+        → section-bytes (type-bytes t []) (section-bytes (node-bytes n []) r) ≡ s → Small t → Carries n → Few n → FoundPatch s p
     go t n r h k e w v c = rw (← h) (record { bytes = rw k at e; input-small = w; carries = v; few = c })
 
 -- The trees of an accepted patch file, its bytes, and that they are allowed.

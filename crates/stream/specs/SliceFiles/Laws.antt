@@ -9,7 +9,7 @@ use lib.ListN.{length, getD}
 use borrow.Author.Tests.{not-true}
 use Rattle.stream.specs.declared.Fault.{Fault}
 use Rattle.stream.specs.declared.Fault.the-variants.{SliceCutShort, SliceUnlisted, SliceLeftOver, SliceMisplaced}
-use Rattle.stream.specs.Types.{Ty, size, type-limit, first-part, second-part, has-kind}
+use Rattle.stream.specs.Types.{Ty, size, type-limit, first-part, second-part, has-kind, Small}
 use Rattle.stream.specs.Types.Laws.{and-left, and-right, made-of, parts-size, size-positive}
 use Rattle.stream.specs.Levels.{value-bytes, read-value, value-width}
 use Rattle.stream.specs.Bounds.{slice-limit, slice-file-limit}
@@ -65,7 +65,7 @@ nodes-within (of-beside h k) = omega (arith, nodes-within h, nodes-within k)
 abbrev pub Short : Prefix → Type 0
 Short p = nodes p ≤ type-limit
 
-pub prefix-short : {t : Ty} {p : Prefix} → IsPrefix t p → size t ≤ type-limit → Short p
+pub prefix-short : {t : Ty} {p : Prefix} → IsPrefix t p → Small t → Short p
 prefix-short h w = omega (arith, nodes-within h)
 
 -- A level takes three bytes, so a prefix takes at most one byte more than two for each of its nodes.
@@ -219,7 +219,7 @@ slice-file-sound t s p b e =
     let g = tree-sound SliceCutShort prefix-root Fills prefix-bytes nodes root-sound type-limit (owed t false) (f .body) p [] (f .body-bytes) (f .inside) in
     (rw (g .bytes) (f .bytes), g .is .is, g .few)
 
-pub slice-file-accepted : (t : Ty) (s : List ℕ) → size t ≤ type-limit → Bytes s → IsAccepted (slice-file t s) ↔ SliceFile t s
+pub slice-file-accepted : (t : Ty) (s : List ℕ) → Small t → Bytes s → IsAccepted (slice-file t s) ↔ SliceFile t s
 slice-file-accepted t s w b = (
   (λ a. let f = slice-file-sound t s (a .0) b (a .1) in record { prefix = a .0; is-prefix = f .1; bytes = f .0 }),
   (λ f. (f .prefix, rw (← f .bytes) (slice-file-complete (f .is-prefix) (prefix-short (f .is-prefix) w)))),
@@ -267,7 +267,7 @@ root-lighter o [] = tt
 root-lighter o (k ∷ s) = kinds-lighter (o .type) (o .must-complete) s k
 
 -- Whatever the bytes, the reading of a slice never depends on the fault that a 256th node would give.
-pub limit-not-met : (e d : Fault) (t : Ty) (s : List ℕ) → size t ≤ type-limit
+pub limit-not-met : (e d : Fault) (t : Ty) (s : List ℕ) → Small t
     → forest e prefix-root type-limit (owed t false ∷ []) s ≡ forest d prefix-root type-limit (owed t false ∷ []) s
 unfolding weight
 limit-not-met e d t s h =

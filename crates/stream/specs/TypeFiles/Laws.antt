@@ -7,7 +7,7 @@ use native.Mathlib.Omega.{arith}
 use lib.ListN.{length}
 use Rattle.stream.specs.declared.Fault.{Fault}
 use Rattle.stream.specs.declared.Fault.the-variants.{CutShort, Unlisted, LeftOver, TypeTooLarge}
-use Rattle.stream.specs.Types.{Ty, empty, cue, level, seq, par, size, type-limit}
+use Rattle.stream.specs.Types.{Ty, empty, cue, level, seq, par, size, type-limit, Small}
 use Rattle.stream.specs.Bounds.{type-file-limit}
 use Rattle.stream.specs.Faults.{type-numbers, Listed}
 use Rattle.stream.specs.Reading.{Bytes, read, fault, accepted, IsAccepted, section-bytes}
@@ -23,7 +23,7 @@ type-length level r = omega arith
 type-length (seq s t) r = omega (arith, type-length s (type-bytes t r), type-length t r)
 type-length (par s t) r = omega (arith, type-length s (type-bytes t r), type-length t r)
 
-pub type-file-length : (t : Ty) → size t ≤ type-limit → length (type-file-bytes t) ≤ type-file-limit
+pub type-file-length : (t : Ty) → Small t → length (type-file-bytes t) ≤ type-file-limit
 unfolding type-file-bytes section-bytes type-limit
 type-file-length t w = rw (append-nil (type-bytes t [])) (omega (arith, type-length t []))
 
@@ -37,7 +37,7 @@ type-is-bytes level r b = bytes-cons 2 r (omega arith) b
 type-is-bytes (seq s t) r b = bytes-cons 3 (type-bytes s (type-bytes t r)) (omega arith) (type-is-bytes s (type-bytes t r) (type-is-bytes t r b))
 type-is-bytes (par s t) r b = bytes-cons 4 (type-bytes s (type-bytes t r)) (omega arith) (type-is-bytes s (type-bytes t r) (type-is-bytes t r b))
 
-pub type-section-is-bytes : (t : Ty) (r : List ℕ) → size t ≤ type-limit → Bytes r → Bytes (section-bytes (type-bytes t []) r)
+pub type-section-is-bytes : (t : Ty) (r : List ℕ) → Small t → Bytes r → Bytes (section-bytes (type-bytes t []) r)
 unfolding type-limit
 type-section-is-bytes t r h b =
     section-is-bytes (type-bytes t []) r (omega (arith, type-length t [])) (type-is-bytes t [] bytes-nil) b
@@ -52,16 +52,16 @@ reads level = reads-leaf TypeTooLarge type-root _ (λ s. refl)
 reads (seq s t) = reads-two TypeTooLarge type-root seq _ (λ r. refl) (reads s) (reads t)
 reads (par s t) = reads-two TypeTooLarge type-root par _ (λ r. refl) (reads s) (reads t)
 
-pub read-type-reads : (t : Ty) (r : List ℕ) → size t ≤ type-limit → read-type (type-bytes t r) ≡ read t r
+pub read-type-reads : (t : Ty) (r : List ℕ) → Small t → read-type (type-bytes t r) ≡ read t r
 unfolding read-type
 read-type-reads t r h = tree-reads TypeTooLarge type-root type-limit r (reads t) h
 
-pub type-section-reads : (t : Ty) (r : List ℕ) → size t ≤ type-limit → type-section (section-bytes (type-bytes t []) r) ≡ read t r
+pub type-section-reads : (t : Ty) (r : List ℕ) → Small t → type-section (section-bytes (type-bytes t []) r) ≡ read t r
 unfolding type-section
 type-section-reads t r h =
     section-reads CutShort LeftOver read-type (type-bytes t []) r t (read-type-reads t [] h)
 
-pub type-file-complete : (t : Ty) → size t ≤ type-limit → type-file (type-file-bytes t) ≡ accepted t
+pub type-file-complete : (t : Ty) → Small t → type-file (type-file-bytes t) ≡ accepted t
 unfolding type-file type-file-bytes
 type-file-complete t h = rw (type-section-reads t [] h)
 
@@ -87,7 +87,7 @@ root-sound w (k ∷ s) b =
 
 pub record FoundType (s : List ℕ) (t : Ty) (r : List ℕ) : Type 0 where
   pub bytes : type-bytes t r ≡ s
-  pub within : size t ≤ type-limit
+  pub within : Small t
   pub rest : Bytes r
 
 pub read-type-sound : (s : List ℕ) (t : Ty) (r : List ℕ) → Bytes s → read-type s ≡ read t r → FoundType s t r
@@ -98,7 +98,7 @@ read-type-sound s t r b e =
 
 pub record FoundTypeSection (s : List ℕ) (t : Ty) (r : List ℕ) : Type 0 where
   pub bytes : section-bytes (type-bytes t []) r ≡ s
-  pub within : size t ≤ type-limit
+  pub within : Small t
   pub rest : Bytes r
 
 pub type-section-sound : (s : List ℕ) (t : Ty) (r : List ℕ) → Bytes s → type-section s ≡ read t r → FoundTypeSection s t r
@@ -108,7 +108,7 @@ type-section-sound s t r b e =
     let g = read-type-sound (f .body) t [] (f .body-bytes) (f .inside) in
     record { bytes = rw (g .bytes) (f .bytes); within = g .within; rest = f .rest }
 
-pub type-file-sound : (s : List ℕ) (t : Ty) → Bytes s → type-file s ≡ accepted t → (type-file-bytes t ≡ s) × (size t ≤ type-limit)
+pub type-file-sound : (s : List ℕ) (t : Ty) → Bytes s → type-file s ≡ accepted t → (type-file-bytes t ≡ s) × Small t
 unfolding type-file type-file-bytes
 type-file-sound s t b e =
     let f = type-section-sound s t [] b (whole-sound LeftOver (type-section s) t e) in

@@ -9,13 +9,13 @@ use lib.ListN.{length, getD, take, drop}
 use borrow.Author.Tests.{le-leb, lt-leb, eq-eqb, ne-eqb}
 use Rattle.stream.specs.declared.Fault.{Fault}
 use Rattle.stream.specs.declared.Fault.the-variants.{TypeTooLarge}
-use Rattle.stream.specs.Types.{Ty, size, type-limit, kind, has-kind}
+use Rattle.stream.specs.Types.{Ty, size, type-limit, kind, has-kind, Small}
 use Rattle.stream.specs.Reading.{Result, accepted, refused, require}
 use Rattle.stream.specs.TypeFiles.{type-bytes}
 use Rattle.reading.specs.TypeReads.{TypeAt, TypeEnds}
 use Rattle.reading.specs.TypeReads.Laws.{type-width, bytes-at, kind-at}
 use Rattle.writing.specs.Appending.Laws.{WrittenSoFar}
-use Rattle.node.specs.Nodes.{Node, Small}
+use Rattle.node.specs.Nodes.{Node}
 use Rattle.node.specs.Nodes.Laws.{output-small}
 use Rattle.node.specs.Checking.{gives, typing}
 use Rattle.node.specs.Checking.Laws.{gives-accepted, typing-sound}

@@ -12,7 +12,7 @@ use Rattle.reading.specs.declared.types.TypeRead.the-variants.{Whole as WholeTy
 use Rattle.reading.specs.declared.prefixes.Known.{Known}
 use Rattle.reading.specs.declared.prefixes.SliceRead.{SliceRead}
 use Rattle.reading.specs.declared.prefixes.SliceRead.the-variants.{Whole, Refused}
-use Rattle.stream.specs.Types.{Ty, size, type-limit}
+use Rattle.stream.specs.Types.{Ty, size, type-limit, Small}
 use Rattle.stream.specs.Prefixes.{Prefix, derivative}
 use Rattle.stream.specs.Prefixes.Functions.{complete, concat}
 use Rattle.stream.specs.Prefixes.Laws.{derivative-size, concat-is-prefix}
@@ -105,11 +105,11 @@ module _ {types : List ℕ} {at : ℕ} {file : List ℕ} {answer : SliceRead} (t
       go (refused x) w = let z : x ≡ e = cc in ap refused z
 
 -- A type written at the front of some bytes stands there.
-pub written-stands : (t : Ty) (lent : List ℕ) {bytes : List ℕ} → bytes ≡ at-front (type-bytes t []) lent → size t ≤ type-limit → TypeAt bytes 0 t
+pub written-stands : (t : Ty) (lent : List ℕ) {bytes : List ℕ} → bytes ≡ at-front (type-bytes t []) lent → Small t → TypeAt bytes 0 t
 written-stands t lent e small = record { rest = drop (length (type-bytes t [])) lent; here = e ∙ sym (type-before t _); small = small }
 
 -- An accepted slice file is no longer than any.
-pub slice-short : {t : Ty} {file : List ℕ} {about : Known} → size t ≤ type-limit → AcceptedSlice t file about → length file ≤ slice-file-limit
+pub slice-short : {t : Ty} {file : List ℕ} {about : Known} → Small t → AcceptedSlice t file about → length file ≤ slice-file-limit
 slice-short small p =
     omega (arith, p .fills, slice-length (p .prefix) (prefix-short (p .is-prefix) small), prefix-bytes-length (p .prefix) [])
 
@@ -139,13 +139,13 @@ module _ {t : Ty} {first second : List ℕ} {one other : Known}
   pub joined-width : length first - 2 + (length second - 2) - one .overlap ≡ prefix-width (concat (p .prefix) (q .prefix))
   joined-width = omega (arith, p .fills, q .fills, p .overlap, concat-width (q .prefix) (p .is-prefix) (q .is-prefix))
 
-  pub joined-countable : size t ≤ type-limit → prefix-width (concat (p .prefix) (q .prefix)) ≤ 65535
+  pub joined-countable : Small t → prefix-width (concat (p .prefix) (q .prefix)) ≤ 65535
   joined-countable small =
       let joined = concat (p .prefix) (q .prefix) in
       let is-joined = concat-is-prefix (q .prefix) (p .is-prefix) (q .is-prefix) in
       omega (arith, slice-length joined (prefix-short is-joined small), prefix-bytes-length joined [])
 
-  abbrev pub joined-file-due : size t ≤ type-limit → (joined : ℕ) (lent : List ℕ) → joined ≡ prefix-width (concat (p .prefix) (q .prefix))
+  abbrev pub joined-file-due : Small t → (joined : ℕ) (lent : List ℕ) → joined ≡ prefix-width (concat (p .prefix) (q .prefix))
       → 2 + joined ≤ length lent → JoinedFileDue first second joined lent
   joined-file-due small joined lent measured room =
       record {
