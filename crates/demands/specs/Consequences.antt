@@ -196,8 +196,8 @@ module _ {start : List ℕ} {calls : List Call} {r : RunEnd} (ran : Ran start ca
 pub a-rule : {s t : Ty} {n : Node} {p : Prefix} → Allowed s n t → IsPrefix s p → (o : Prefix) × (n′ : Node) × Feeds s n p o n′
 a-rule a h = (_, _, feeds (a .types) h)
 
-pub one-rule : {s : Ty} {n n′ m : Node} {p o q : Prefix} → Feeds s n p o n′ → Feeds s n p q m → (o ≡ q) × (n′ ≡ m)
-one-rule h k = let x = feeds-only h in let y = feeds-only k in (x .sent ∙ sym (y .sent), x .node ∙ sym (y .node))
+pub one-rule : {s : Ty} {n n′ m : Node} {p o q : Prefix} → IsPrefix s p → Feeds s n p o n′ → Feeds s n p q m → (o ≡ q) × (n′ ≡ m)
+one-rule is-prefix h k = let x = feeds-only h is-prefix in let y = feeds-only k is-prefix in (x .sent ∙ sym (y .sent), x .node ∙ sym (y .node))
 
 -- So do the rules of Join.
 

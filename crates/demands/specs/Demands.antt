@@ -49,10 +49,10 @@ pub demand-1-join : (type first second : List ℕ) {lent lent-after : List ℕ} 
 demand-1-join type first second call = join-decided type first second call
 
 pub demand-1-feed : {file slice output-lent patch-lent output-after patch-after : List ℕ} {answer : Fed}
-    → FeedPromise file slice output-lent patch-lent answer output-after patch-after
+    → FeedPromise file slice output-lent patch-lent answer output-after patch-after → Bytes slice
     → Decided (patch-and-slice file slice) DueFromFeed (answer .number) (answer .output ∷ answer .patch ∷ [])
     (output-lent ∷ patch-lent ∷ []) (output-after ∷ patch-after ∷ [])
-demand-1-feed call = feed-decided call
+demand-1-feed call bytes = feed-decided call bytes
 
 -- Nothing is left for the caller to test first. (The exports have no `requires`; and a promise asks nothing of what is handed
 -- in: whatever that is, some answer and buffers keep it.)

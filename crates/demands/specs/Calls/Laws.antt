@@ -14,11 +14,11 @@ use borrow.Author.Tests.{le-leb, leb-false, leb-true}
 use Rattle.stream.specs.declared.Fault.{Fault}
 use Rattle.stream.specs.declared.Fault.the-variants.{NoRoom}
 use Rattle.stream.specs.Faults.{number, contains, Listed}
-use Rattle.stream.specs.Prefixes.{Prefix, Complete, derivative}
+use Rattle.stream.specs.Prefixes.{Prefix, Complete, IsPrefix, derivative}
 use Rattle.stream.specs.Prefixes.Functions.{complete, concat}
 use Rattle.stream.specs.Prefixes.Laws.{complete-sound, complete-complete, concat-only}
 use Rattle.stream.specs.Reading.{Bytes, Result, accepted, refused, IsAccepted, require, go-on}
-use Rattle.stream.specs.Reading.Laws.{bytes-append, bytes-drop}
+use Rattle.stream.specs.Reading.Laws.{bytes-append, bytes-drop, go-on-accepted}
 use Rattle.stream.specs.Reading.Refusals.{Refusals, refusals-too}
 use Rattle.meaning.specs.declared.Written.{Written}
 use Rattle.meaning.specs.declared.Admitted.{Admitted}
@@ -30,6 +30,7 @@ use Rattle.meaning.specs.Promises.{Writes, Admits, CheckPromise, AdmitPromise, 
 use Rattle.demands.specs.Calls.{type-and-slice, two-slices, patch-and-slice, DueFromCheck, DueFromAdmit, DueFromLeft, DueFromJoin, DueFromFeed, RoomFor, Wrote, WroteBoth, Decided, is-accepted, is-refused, is-short, TooShortFor, Ty}
 use Rattle.stream.specs.TypeFiles.{type-file, type-file-bytes}
 use Rattle.stream.specs.SliceFiles.{slice-file, slice-file-bytes}
+use Rattle.stream.specs.SliceFiles.Laws.{slice-file-sound}
 use Rattle.node.specs.PatchFiles.{patch-file, patch-file-bytes}
 use Rattle.node.specs.Nodes.{Patch}
 use Rattle.node.specs.Feeding.{FeedsPatch}
@@ -405,9 +406,10 @@ join-decided type first second call =
 
 -- Feed, which has two buffers. The rules leave no other files than the functions do.
 
-pub left-only : {a b : Patch} {p o : Prefix} → FeedsPatch a p o b → fed-files a p ≡ record { output = slice-file-bytes o; patch = patch-file-bytes b }
-left-only {a} {b} {p} {o} f =
-    let e = feeds-only (f .by-node) in
+pub left-only : {a b : Patch} {p o : Prefix} → IsPrefix (a .input) p → FeedsPatch a p o b
+    → fed-files a p ≡ record { output = slice-file-bytes o; patch = patch-file-bytes b }
+left-only {a} {b} {p} {o} is-prefix f =
+    let e = feeds-only (f .by-node) is-prefix in
     λ i. record {
       output = slice-file-bytes (sym (e .sent) i);
       patch = patch-file-bytes (record { input = sym (f .input-left) i; node = sym (e .node) i });
@@ -416,19 +418,32 @@ left-only {a} {b} {p} {o} f =
 abbrev both-files : FedFiles → List (List ℕ)
 both-files w = w .output ∷ w .patch ∷ []
 
-fed-only : (x : Patch × Prefix) (files : List (List ℕ)) → DueFromFeed x files → files ≡ both-files (fed-files (x .0) (x .1))
-fed-only x files (sent, next, rule, e) = e ∙ ap both-files (sym (left-only rule))
+abbrev SliceFits : Patch × Prefix → Type 0
+SliceFits x = IsPrefix (x .0 .input) (x .1)
+
+-- A slice that was read for a patch is a prefix of its input type.
+slice-fits : (file slice : List ℕ) → Bytes slice → (x : Patch × Prefix) → patch-and-slice file slice ≡ accepted x → SliceFits x
+slice-fits file slice b x e =
+    let c = go-on-accepted (patch-file file) (λ c. go-on (slice-file (c .patch .input) slice) (λ p. accepted (c .patch, p))) x e in
+    let p = go-on-accepted (slice-file (c .0 .patch .input) slice) (λ p. accepted (c .0 .patch, p)) x (c .2) in
+    go (c .0 .patch) (p .0) (p .2) (slice-file-sound (c .0 .patch .input) slice (p .0) b (p .1) .1)
+  where
+    go : (a : Patch) (q : Prefix) → _≡_ {A = Result (Patch × Prefix)} (accepted (a, q)) (accepted x) → IsPrefix (a .input) q → SliceFits x
+    go a q d h = let i : _≡_ {A = Patch × Prefix} (a, q) x = cc in rw (← i) h
+
+fed-only : (x : Patch × Prefix) (files : List (List ℕ)) → SliceFits x → DueFromFeed x files → files ≡ both-files (fed-files (x .0) (x .1))
+fed-only x files is-prefix (sent, next, rule, e) = e ∙ ap both-files (sym (left-only is-prefix rule))
 
 module _ {output-lent patch-lent output-after patch-after : List ℕ} {answer : Fed} where
-  by-both : (x : Patch × Prefix) (w : FedFiles) → w ≡ fed-files (x .0) (x .1) → (b : Bool) → fits-both (length output-lent) (length patch-lent) w ≡ b
+  by-both : (x : Patch × Prefix) (w : FedFiles) → SliceFits x → w ≡ fed-files (x .0) (x .1) → (b : Bool) → fits-both (length output-lent) (length patch-lent) w ≡ b
       → answer ≡ fed (require b NoRoom (accepted w)) → output-after ≡ after (λ v. v .output) (require b NoRoom (accepted w)) output-lent
       → patch-after ≡ after (λ v. v .patch) (require b NoRoom (accepted w)) patch-lent
       → Decided (accepted x) DueFromFeed (answer .number) (answer .output ∷ answer .patch ∷ [])
       (output-lent ∷ patch-lent ∷ []) (output-after ∷ patch-after ∷ [])
   unfolding fed after
-  by-both x w is true e n u v =
+  by-both x w h is true e n u v =
       is-accepted x refl (ap (λ (f : Fed). f .number) n)
-      (λ files d. rw (fed-only x files d ∙ ap both-files (sym is)) (
+      (λ files d. rw (fed-only x files h d ∙ ap both-files (sym is)) (
         (
           leb-true _ _ (and-left (leb (length (w .output)) (length output-lent)) _ e),
           (leb-true _ _ (and-right (leb (length (w .output)) (length output-lent)) _ e), tt),
@@ -436,31 +451,31 @@ module _ {output-lent patch-lent output-after patch-after : List ℕ} {answer : 
         ap (λ (f : Fed). f .output ∷ f .patch ∷ []) n,
         ap₂ (λ k l. k ∷ l ∷ []) u v,
       ))
-  by-both x w is false e n u v =
+  by-both x w h is false e n u v =
       is-short x refl (ap (λ (f : Fed). f .number) n)
-      (λ files d fit. short (rw (fed-only x files d ∙ ap both-files (sym is)) at fit)) (ap₂ (λ k l. k ∷ l ∷ []) u v)
+      (λ files d fit. short (rw (fed-only x files h d ∙ ap both-files (sym is)) at fit)) (ap₂ (λ k l. k ∷ l ∷ []) u v)
     where
       short : RoomFor (both-files w) (output-lent ∷ patch-lent ∷ []) → ⊥
       short fit = true≢false (sym (both-fit w (fit .0) (fit .1 .0)) ∙ e)
 
-  fed-decided : (read : Result (Patch × Prefix)) (o : Result FedFiles) → o ≡ go-on read (λ x. accepted (fed-files (x .0) (x .1)))
+  fed-decided : (read : Result (Patch × Prefix)) → ((x : Patch × Prefix) → read ≡ accepted x → SliceFits x) → (o : Result FedFiles) → o ≡ go-on read (λ x. accepted (fed-files (x .0) (x .1)))
       → answer ≡ fed (into-both output-lent patch-lent o)
       → output-after ≡ after (λ w. w .output) (into-both output-lent patch-lent o) output-lent
       → patch-after ≡ after (λ w. w .patch) (into-both output-lent patch-lent o) patch-lent
       → Decided read DueFromFeed (answer .number) (answer .output ∷ answer .patch ∷ []) (output-lent ∷ patch-lent ∷ []) (output-after ∷ patch-after ∷ [])
   unfolding with-room fed after
-  fed-decided (accepted x) o e n u v =
-      by-both x (fed-files (x .0) (x .1)) refl (fits-both (length output-lent) (length patch-lent) (fed-files (x .0) (x .1))) refl
+  fed-decided (accepted x) fits o e n u v =
+      by-both x (fed-files (x .0) (x .1)) (fits x refl) refl (fits-both (length output-lent) (length patch-lent) (fed-files (x .0) (x .1))) refl
       (rw e at n) (rw e at u) (rw e at v)
-  fed-decided (refused f) o e n u v =
+  fed-decided (refused f) fits o e n u v =
       is-refused f refl (ap (λ (w : Fed). w .number) (rw e at n)) (ap₂ (λ k l. k ∷ l ∷ []) (rw e at u) (rw e at v))
 
 pub feed-decided : {file slice output-lent patch-lent output-after patch-after : List ℕ} {answer : Fed}
-    → FeedPromise file slice output-lent patch-lent answer output-after patch-after
+    → FeedPromise file slice output-lent patch-lent answer output-after patch-after → Bytes slice
     → Decided (patch-and-slice file slice) DueFromFeed (answer .number) (answer .output ∷ answer .patch ∷ [])
     (output-lent ∷ patch-lent ∷ []) (output-after ∷ patch-after ∷ [])
 unfolding feed
-feed-decided {file} {slice} call =
-    fed-decided (patch-and-slice file slice) (feed file slice)
+feed-decided {file} {slice} call bytes =
+    fed-decided (patch-and-slice file slice) (slice-fits file slice bytes) (feed file slice)
     (both-read (patch-file file) (λ c. slice-file (c .patch .input) slice) (λ c. c .patch) (λ a p. accepted (fed-files a p)))
     (call .answers) (call .output-buffer) (call .patch-buffer)

@@ -144,7 +144,7 @@ pub feed-by-rules : {b : Patch} {o : Prefix} {file slice output-lent patch-lent 
     → WroteBoth (slice-file-bytes o) (patch-file-bytes b) output-lent patch-lent answer output-after patch-after
 feed-by-rules call patch taken rule i j =
     feeds-exactly call
-    (rw (patch .bytes, taken .bytes) at (feed-answers (patch .allowed) (taken .is-prefix)) ∙ ap accepted (left-only rule)) i j
+    (rw (patch .bytes, taken .bytes) at (feed-answers (patch .allowed) (taken .is-prefix)) ∙ ap accepted (left-only (taken .is-prefix) rule)) i j
 
 -- The rules define what is sent and left, of every prefix.
 pub feed-defined : {file slice : List ℕ} (patch : PatchFile file) (taken : SliceFile (patch .trees .input) slice)

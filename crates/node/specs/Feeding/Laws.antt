@@ -112,42 +112,42 @@ pub record Same (o u : Prefix) (n m : Node) : Type 0 where
 abbrev same : {o : Prefix} {n : Node} → Same o o n n
 same = record { sent = refl; node = refl }
 
-pub feeds-only : {s : Ty} {n n′ : Node} {p o : Prefix} → Feeds s n p o n′ → Same o (sends s n p) n′ (leaves s n p)
+pub feeds-only : {s : Ty} {n n′ : Node} {p o : Prefix} → Feeds s n p o n′ → IsPrefix s p → Same o (sends s n p) n′ (leaves s n p)
 unfolding sends leaves
-feeds-only feeds-pass = same
-feeds-only feeds-silent = same
-feeds-only feeds-cue = same
-feeds-only feeds-level = same
-feeds-only (feeds-both f g) =
-    let a = feeds-only f in
-    let b = feeds-only g in
+feeds-only feeds-pass h = same
+feeds-only feeds-silent h = same
+feeds-only feeds-cue h = same
+feeds-only feeds-level h = same
+feeds-only (feeds-both f g) h =
+    let a = feeds-only f h in
+    let b = feeds-only g h in
     record { sent = ap₂ beside a.sent b.sent; node = ap₂ both a.node b.node }
-feeds-only feeds-left = same
-feeds-only feeds-right = same
-feeds-only feeds-first-coming = same
-feeds-only feeds-first-crossed = same
-feeds-only feeds-second-coming = same
-feeds-only feeds-second-crossed = same
-feeds-only (feeds-then-coming f) =
-    let a = feeds-only f in
+feeds-only feeds-left h = same
+feeds-only feeds-right h = same
+feeds-only feeds-first-coming h = same
+feeds-only feeds-first-crossed h = same
+feeds-only feeds-second-coming h = same
+feeds-only feeds-second-crossed h = same
+feeds-only (feeds-then-coming f) (of-first h) =
+    let a = feeds-only f h in
     record { sent = ap in-first a.sent; node = ap₂ then a.node refl }
-feeds-only (feeds-then-crossed f g) =
-    let a = feeds-only f in
-    let b = feeds-only g in
+feeds-only (feeds-then-crossed f g) (of-crossed h c k) =
+    let a = feeds-only f h in
+    let b = feeds-only g k in
     record { sent = ap₂ crossed a.sent b.sent; node = b.node }
-feeds-only (feeds-chain d f g) =
-    let a = feeds-only f in
-    let b = feeds-only g in
+feeds-only (feeds-chain d f g) h =
+    let a = feeds-only f h in
+    let b = feeds-only g (rw a.sent ((preserved d h) .sent)) in
     rw (output-type-is d, ← a.sent) (record { sent = b.sent; node = ap₂ chain a.node b.node })
-feeds-only feeds-regroup-right-in-first = same
-feeds-only feeds-regroup-right-in-second = same
-feeds-only feeds-regroup-right-in-third = same
-feeds-only feeds-regroup-left-in-first = same
-feeds-only feeds-regroup-left-in-second = same
-feeds-only feeds-regroup-left-in-third = same
-feeds-only feeds-spread-coming = same
-feeds-only feeds-spread-crossed = same
-feeds-only feeds-front = same
+feeds-only feeds-regroup-right-in-first h = same
+feeds-only feeds-regroup-right-in-second h = same
+feeds-only feeds-regroup-right-in-third h = same
+feeds-only feeds-regroup-left-in-first h = same
+feeds-only feeds-regroup-left-in-second h = same
+feeds-only feeds-regroup-left-in-third h = same
+feeds-only feeds-spread-coming h = same
+feeds-only feeds-spread-crossed h = same
+feeds-only feeds-front h = same
 
 -- Feeding a joined prefix is feeding its two parts.
 pub feed-concat : {s t : Ty} {n : Node} {p : Prefix} (q : Prefix) → Takes s n t → IsPrefix s p → IsPrefix (derivative s p) q
