@@ -5,6 +5,7 @@ use mathlib.Core.List.{List, [], _∷_}
 use mathlib.Core.Path.{_≡_}
 use Prim.Native.Nat.{ℕ}
 use lib.ListN.{getD}
+use Rattle.stream.specs.declared.Fault.{Fault}
 use Rattle.stream.specs.declared.Fault.the-variants.{SliceCutShort, SliceUnlisted, SliceLeftOver, SliceMisplaced}
 use Rattle.stream.specs.Types.{Ty, first-part, second-part, has-kind, type-limit}
 use Rattle.stream.specs.Levels.{value-bytes, read-value}
@@ -66,10 +67,14 @@ unfoldable pub prefix-root : Owed → List ℕ → Reading (Root Owed Prefix)
 prefix-root o [] = fault SliceCutShort
 prefix-root o (k ∷ s) = getD prefix-kinds k (λ t c r. fault SliceUnlisted) (o .type) (o .must-complete) s
 
--- A prefix of t at the front of some bytes; a file that is one. (A prefix has no more nodes than its type, so the limit of
--- 255 is never met: `limit-not-met` in the laws.)
+-- The fault of a slice that needs a node too many. (A prefix has no more nodes than its type, so the limit of 255 is never met:
+-- `limit-not-met` in the laws.)
+abbrev pub slice-over : Fault
+slice-over = SliceCutShort
+
+-- A prefix of t at the front of some bytes; a file that is one.
 unfoldable pub read-prefix : Ty → List ℕ → Reading Prefix
-read-prefix t s = tree SliceCutShort prefix-root type-limit (owed t false) s
+read-prefix t s = tree slice-over prefix-root type-limit (owed t false) s
 
 unfoldable pub slice-file : Ty → List ℕ → Result Prefix
 slice-file t s = whole SliceLeftOver (section SliceCutShort SliceLeftOver (read-prefix t) s)

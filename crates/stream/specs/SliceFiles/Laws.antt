@@ -24,7 +24,7 @@ use Rattle.stream.specs.Reading.Walking.{MakesOne, leaf-makes, one-makes
 use Rattle.stream.specs.Reading.Parts.{weight, Lighter, same-forest, InFront, one-in-front, two-in-front}
 use Rattle.stream.specs.Reading.Budgets.{Spends, OneMore, leaf-one-more, one-one-more, two-one-more}
 use Rattle.stream.specs.Reading.Refusals.{Faults, Refusals, read-on-faults, section-faults, tree-faults, whole-refusals}
-use Rattle.stream.specs.SliceFiles.{prefix-bytes, slice-file-bytes, SliceFile, Owed, owed, belongs, prefix-kinds, prefix-root, read-prefix, slice-file}
+use Rattle.stream.specs.SliceFiles.{prefix-bytes, slice-file-bytes, SliceFile, Owed, owed, belongs, prefix-kinds, prefix-root, slice-over, read-prefix, slice-file}
 
 -- Lengths
 
@@ -112,25 +112,25 @@ slice-file-is-bytes {p = p} h w =
 -- Reading what was written
 
 reads : {t : Ty} {p : Prefix} (c : Bool) → IsPrefix t p → (c ≡ true → Complete p)
-    → Reads SliceCutShort prefix-root (owed t c) p (nodes p) (prefix-bytes p)
+    → Reads slice-over prefix-root (owed t c) p (nodes p) (prefix-bytes p)
 unfolding prefix-bytes nodes prefix-root
-reads c of-empty w = reads-leaf SliceCutShort prefix-root _ (λ s. refl)
+reads c of-empty w = reads-leaf slice-over prefix-root _ (λ s. refl)
 reads true of-cue-awaited w = elim (w refl) [ ]
-reads false of-cue-awaited w = reads-leaf SliceCutShort prefix-root _ (λ s. refl)
-reads c of-cue-come w = reads-leaf SliceCutShort prefix-root _ (λ s. refl)
+reads false of-cue-awaited w = reads-leaf slice-over prefix-root _ (λ s. refl)
+reads c of-cue-come w = reads-leaf slice-over prefix-root _ (λ s. refl)
 reads true of-level-awaited w = elim (w refl) [ ]
-reads false of-level-awaited w = reads-leaf SliceCutShort prefix-root _ (λ s. refl)
-reads c (of-level-come {v = v} h) w = reads-leaf SliceCutShort prefix-root _ (λ s. rw (value-reads SliceCutShort v s))
+reads false of-level-awaited w = reads-leaf slice-over prefix-root _ (λ s. refl)
+reads c (of-level-come {v = v} h) w = reads-leaf slice-over prefix-root _ (λ s. rw (value-reads SliceCutShort v s))
 reads true (of-first h) w = elim (w refl) [ ]
-reads false (of-first h) w = reads-one SliceCutShort prefix-root in-first _ (λ s. refl) (reads false h (λ e. absurd (false≢true e)))
+reads false (of-first h) w = reads-one slice-over prefix-root in-first _ (λ s. refl) (reads false h (λ e. absurd (false≢true e)))
 reads c (of-crossed h d k) w =
-    reads-two SliceCutShort prefix-root crossed _ (λ s. refl) (reads true h (λ e. d)) (reads c k (λ e. crossed-second (w e)))
+    reads-two slice-over prefix-root crossed _ (λ s. refl) (reads true h (λ e. d)) (reads c k (λ e. crossed-second (w e)))
 reads c (of-beside h k) w =
-    reads-two SliceCutShort prefix-root beside _ (λ s. refl) (reads c h (λ e. beside-first (w e))) (reads c k (λ e. beside-second (w e)))
+    reads-two slice-over prefix-root beside _ (λ s. refl) (reads c h (λ e. beside-first (w e))) (reads c k (λ e. beside-second (w e)))
 
 pub read-prefix-reads : {t : Ty} {p : Prefix} (r : List ℕ) → IsPrefix t p → Short p → read-prefix t (prefix-bytes p r) ≡ read p r
 unfolding read-prefix
-read-prefix-reads r h w = tree-reads SliceCutShort prefix-root type-limit r (reads false h (λ e. absurd (false≢true e))) w
+read-prefix-reads r h w = tree-reads slice-over prefix-root type-limit r (reads false h (λ e. absurd (false≢true e))) w
 
 pub slice-file-complete : {t : Ty} {p : Prefix} → IsPrefix t p → Short p → slice-file t (slice-file-bytes p) ≡ accepted p
 unfolding slice-file slice-file-bytes
@@ -144,7 +144,7 @@ pub record Fills (o : Owed) (p : Prefix) : Type 0 where
   pub whole : o .must-complete ≡ true → Complete p
 
 abbrev PrefixRootIs : Owed → List ℕ → Reading (Root Owed Prefix) → Type 0
-PrefixRootIs o s g = RootIs SliceCutShort prefix-root Fills prefix-bytes nodes o s g
+PrefixRootIs o s g = RootIs slice-over prefix-root Fills prefix-bytes nodes o s g
 
 belongs-is : (o : Owed) (s r : List ℕ) (b : Bool) (root : List ℕ → Reading (Root Owed Prefix))
     → (b ≡ true → PrefixRootIs o s (root r)) → PrefixRootIs o s (belongs b root r)
@@ -164,7 +164,7 @@ value-is t c s b e = go (read-value SliceCutShort s) refl
     go (fault x) h = tt
     go (read v r) h =
         let f = value-sound SliceCutShort s v r b h in
-        leaf-is SliceCutShort prefix-root Fills prefix-bytes nodes (level-come v) (4 ∷ s) r (f .rest)
+        leaf-is slice-over prefix-root Fills prefix-bytes nodes (level-come v) (4 ∷ s) r (f .rest)
         (record { is = rw (made-of 2 t e) (of-level-come (f .below)); whole = λ d. whole-level }) refl (ap (λ l. 4 ∷ l) (f .bytes))
 
 kinds-sound : (t : Ty) (c : Bool) (s : List ℕ) → Bytes s → (k : ℕ)
@@ -178,18 +178,18 @@ kinds-sound t c s b =
     & plain (has-kind 2 t && not c) level-awaited (λ e. rw (made-of 2 t (and-left (has-kind 2 t) (not c) e)) of-level-awaited) (free (has-kind 2 t) c) refl refl
     & belongs-is (owed t c) _ s (has-kind 2 t) _ (λ e. value-is t c s b e)
     & belongs-is (owed t c) _ s (has-kind 3 t && not c) _
-    (λ e. one-is SliceCutShort prefix-root Fills prefix-bytes nodes in-first 5 s b (λ p i. first-fills p e i) (λ p. refl) (λ p x. refl))
+    (λ e. one-is slice-over prefix-root Fills prefix-bytes nodes in-first 5 s b (λ p i. first-fills p e i) (λ p. refl) (λ p x. refl))
     & belongs-is (owed t c) _ s (has-kind 3 t) _
-    (λ e. two-is SliceCutShort prefix-root Fills prefix-bytes nodes crossed 6 s b (λ p q i j. crossed-fills p q e i j) (λ p q. refl) (λ p q x. refl))
+    (λ e. two-is slice-over prefix-root Fills prefix-bytes nodes crossed 6 s b (λ p q i j. crossed-fills p q e i j) (λ p q. refl) (λ p q x. refl))
     & belongs-is (owed t c) _ s (has-kind 4 t) _
-    (λ e. two-is SliceCutShort prefix-root Fills prefix-bytes nodes beside 7 s b (λ p q i j. beside-fills p q e i j) (λ p q. refl) (λ p q x. refl))
+    (λ e. two-is slice-over prefix-root Fills prefix-bytes nodes beside 7 s b (λ p q i j. beside-fills p q e i j) (λ p q. refl) (λ p q x. refl))
     & past (λ k h. tt))
   where
     plain : {k : ℕ} (b : Bool) (p : Prefix) → (b ≡ true → IsPrefix t p) → (b ≡ true → c ≡ true → Complete p) → nodes p ≡ 1
         → prefix-bytes p s ≡ k ∷ s → PrefixRootIs (owed t c) (k ∷ s) (belongs b (leaf p) s)
     plain b′ p h w n e =
         belongs-is (owed t c) _ s b′ (leaf p)
-        (λ d. leaf-is SliceCutShort prefix-root Fills prefix-bytes nodes p _ s b (record { is = h d; whole = λ x. w d x }) n e)
+        (λ d. leaf-is slice-over prefix-root Fills prefix-bytes nodes p _ s b (record { is = h d; whole = λ x. w d x }) n e)
 
     first-fills : (p : Prefix) → has-kind 3 t && not c ≡ true → Fills (owed (first-part t) false) p → Fills (owed t c) (in-first p)
     first-fills p e i =
@@ -216,7 +216,7 @@ unfolding slice-file slice-file-bytes read-prefix
 slice-file-sound t s p b e =
     let w = whole-sound SliceLeftOver (section SliceCutShort SliceLeftOver (read-prefix t) s) p e in
     let f = section-sound SliceCutShort SliceLeftOver (read-prefix t) s p [] b w in
-    let g = tree-sound SliceCutShort prefix-root Fills prefix-bytes nodes root-sound type-limit (owed t false) (f .body) p [] (f .body-bytes) (f .inside) in
+    let g = tree-sound slice-over prefix-root Fills prefix-bytes nodes root-sound type-limit (owed t false) (f .body) p [] (f .body-bytes) (f .inside) in
     (rw (g .bytes) (f .bytes), g .is .is, g .few)
 
 pub slice-file-accepted : (t : Ty) (s : List ℕ) → Small t → Bytes s → IsAccepted (slice-file t s) ↔ SliceFile t s
@@ -348,7 +348,7 @@ root-faults o (k ∷ s) = kinds-faults (o .type) (o .must-complete) s k
 
 read-prefix-faults : (t : Ty) (s : List ℕ) → Faults SliceFault (read-prefix t s)
 unfolding read-prefix
-read-prefix-faults t s = tree-faults SliceFault SliceCutShort prefix-root refl root-faults type-limit (owed t false) s
+read-prefix-faults t s = tree-faults SliceFault slice-over prefix-root refl root-faults type-limit (owed t false) s
 
 pub slice-file-refusals : (t : Ty) (s : List ℕ) → Refusals (Listed slice-numbers) (slice-file t s)
 unfolding slice-file
