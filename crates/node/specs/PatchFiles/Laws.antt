@@ -2,7 +2,7 @@
 use mathlib.Core.Path.{_≡_, refl, ap}
 use mathlib.Core.Logic.{_↔_}
 use mathlib.Core.List.{List, [], _∷_, append-nil}
-use Prim.Native.Nat.{ℕ, suc, _+_, _*_, _≤_}
+use Prim.Native.Nat.{ℕ, suc, _+_, _*_, _≤_, _<_}
 use native.Mathlib.Omega.{arith}
 use lib.ListN.{length, getD, length-append}
 use Rattle.stream.specs.declared.Fault.{Fault}
@@ -10,10 +10,10 @@ use Rattle.stream.specs.declared.Fault.the-variants.{CutShort, Unlisted, LeftOv
 use Rattle.stream.specs.Types.{Ty, type-limit, Small}
 use Rattle.stream.specs.Bounds.{twice-node-bytes, node-bytes-limit, patch-file-limit}
 use Rattle.stream.specs.Faults.{type-numbers, patch-numbers, Listed}
-use Rattle.stream.specs.Levels.{value-bytes, read-value}
+use Rattle.stream.specs.Levels.{level-limit, value-bytes, read-value}
 use Rattle.stream.specs.Levels.Laws.{value-length, value-is-bytes, value-reads, value-sound, value-faults}
 use Rattle.stream.specs.Reading.{Bytes, Reading, read, fault, accepted, IsAccepted, read-on, section-bytes, Root, leaf, two-parts}
-use Rattle.stream.specs.Reading.Laws.{Reads, reads-leaf, reads-two, tree-reads, RootIs, leaf-is, two-is, tree-sound, section-reads, section-sound, whole-sound, _&_, past, every, bytes-tail, bytes-nil, bytes-cons, section-is-bytes, read-on-read, go-on-accepted}
+use Rattle.stream.specs.Reading.Laws.{Reads, reads-leaf, reads-two, tree-reads, RootIs, leaf-is, FoundContents, carried-is, two-is, tree-sound, section-reads, section-sound, whole-sound, _&_, past, every, bytes-tail, bytes-nil, bytes-cons, section-is-bytes, read-on-read, go-on-accepted}
 use Rattle.stream.specs.Reading.Refusals.{Faults, Refusals, read-on-faults, go-on-refusals, section-faults, tree-faults, whole-refusals, faults-too, listed-first}
 use Rattle.stream.specs.TypeFiles.{type-bytes, read-type, type-section}
 use Rattle.stream.specs.TypeFiles.Laws.{type-length, type-is-bytes, type-section-is-bytes, read-type-reads, read-type-sound, type-section-reads, type-section-sound, read-type-faults, type-section-faults}
@@ -127,36 +127,15 @@ IsNode w n = Carries n
 abbrev NodeRootIs : Unit {0} → List ℕ → Reading (Root (Unit {0}) Node) → Type 0
 NodeRootIs w s g = RootIs TooManyNodes node-root IsNode node-bytes count w s g
 
-carried-is : (w : Unit {0}) (s : List ℕ) → Bytes s → NodeRootIs w (1 ∷ s) (read-on (read-type s) (λ n r. leaf (silent n) r))
-unfolding node-bytes count
-carried-is w s b = go (read-type s) refl
-  where
-    go : (g : Reading Ty) → read-type s ≡ g → NodeRootIs w (1 ∷ s) (read-on g (λ n r. leaf (silent n) r))
-    go (fault e) h = tt
-    go (read n r) h =
-        let f = read-type-sound s n r b h in
-        leaf-is TooManyNodes node-root IsNode node-bytes count (silent n) (1 ∷ s) r (f .rest)
-        (f .within) refl (ap (λ l. 1 ∷ l) (f .bytes))
-
-value-is : (w : Unit {0}) (s : List ℕ) → Bytes s → NodeRootIs w (3 ∷ s) (read-on (read-value CutShort s) (λ v r. leaf (emit-level v) r))
-unfolding node-bytes count
-value-is w s b = go (read-value CutShort s) refl
-  where
-    go : (g : Reading ℕ) → read-value CutShort s ≡ g → NodeRootIs w (3 ∷ s) (read-on g (λ v r. leaf (emit-level v) r))
-    go (fault e) h = tt
-    go (read v r) h =
-        let f = value-sound CutShort s v r b h in
-        leaf-is TooManyNodes node-root IsNode node-bytes count (emit-level v) (3 ∷ s) r (f .rest)
-        (f .below) refl (ap (λ l. 3 ∷ l) (f .bytes))
-
 kinds-sound : (w : Unit {0}) (s : List ℕ) → Bytes s → (k : ℕ) → NodeRootIs w (k ∷ s) (getD node-kinds k (λ r. fault Unlisted) s)
 unfolding node-bytes count
 kinds-sound w s b =
     every (λ k f. NodeRootIs w (k ∷ s) (f s)) (λ r. fault Unlisted) node-kinds
     (plain pass tt refl refl
-    & carried-is w s b
+    & carrying read-type type-bytes Small (λ t r e. read-type-sound s t r b e) silent 1 (λ t h. h) (λ t. refl) (λ t x. refl)
     & plain emit-cue tt refl refl
-    & value-is w s b
+    & carrying (read-value CutShort) value-bytes (λ v. v < level-limit) (λ v r e. value-sound CutShort s v r b e) emit-level 3
+    (λ v h. h) (λ v. refl) (λ v x. refl)
     & forked both 4 (λ n m i j. (i, j)) (λ n m. refl) (λ n m x. refl)
     & plain left-side tt refl refl
     & plain right-side tt refl refl
@@ -172,6 +151,13 @@ kinds-sound w s b =
   where
     plain : {k : ℕ} (n : Node) → Carries n → count n ≡ 1 → node-bytes n s ≡ k ∷ s → NodeRootIs w (k ∷ s) (leaf n s)
     plain n f c e = leaf-is TooManyNodes node-root IsNode node-bytes count n _ s b f c e
+
+    carrying : {C : Type 0} (contents : List ℕ → Reading C) (put : C → List ℕ → List ℕ) (Held : C → Type 0)
+        → ((c : C) (r : List ℕ) → contents s ≡ read c r → FoundContents put Held s c r)
+        → (make : C → Node) (k : ℕ) → ((c : C) → Held c → Carries (make c)) → ((c : C) → count (make c) ≡ 1)
+        → ((c : C) (x : List ℕ) → node-bytes (make c) x ≡ k ∷ put c x) → NodeRootIs w (k ∷ s) (read-on (contents s) (λ c r. leaf (make c) r))
+    carrying contents put Held sound make k i c e =
+        carried-is TooManyNodes node-root IsNode node-bytes count contents put Held make k s sound i c e
 
     forked : (f : Node → Node → Node) (k : ℕ) → ((n m : Node) → IsNode tt n → IsNode tt m → IsNode w (f n m))
         → ((n m : Node) → count (f n m) ≡ suc (count n + count m)) → ((n m : Node) (x : List ℕ) → node-bytes (f n m) x ≡ k ∷ node-bytes n (node-bytes m x))
@@ -252,11 +238,14 @@ PatchFault = Listed patch-numbers
 type-fault : (e : Fault) → Listed type-numbers e → PatchFault e
 type-fault e h = listed-first type-numbers (5 ∷ 6 ∷ 7 ∷ []) e h
 
+carried-faults : (make : Ty → Node) (s : List ℕ) → Faults PatchFault (read-on (read-type s) (λ t r. leaf {W = Unit {0}} (make t) r))
+carried-faults make s = read-on-faults PatchFault (read-type s) _ (faults-too type-fault (read-type s) (read-type-faults s)) (λ t r. tt)
+
 kinds-faults : (s : List ℕ) (k : ℕ) → Faults PatchFault (getD node-kinds k (λ r. fault Unlisted) s)
 kinds-faults s =
     every (λ k f. Faults PatchFault (f s)) (λ r. fault Unlisted) node-kinds
     (tt
-    & read-on-faults PatchFault (read-type s) _ (faults-too type-fault (read-type s) (read-type-faults s)) (λ n r. tt)
+    & carried-faults silent s
     & tt
     & read-on-faults PatchFault (read-value CutShort s) _ (value-faults PatchFault CutShort refl s) (λ v r. tt)
     & tt & tt & tt & tt & tt & tt & tt & tt & tt & tt & tt

@@ -6,7 +6,7 @@ use native.Mathlib.Omega.{arith}
 use lib.ListN.{length}
 use Rattle.stream.specs.declared.Fault.{Fault}
 use Rattle.stream.specs.Reading.{Bytes, read}
-use Rattle.stream.specs.Reading.Laws.{bytes-cons}
+use Rattle.stream.specs.Reading.Laws.{bytes-cons, FoundContents}
 use Rattle.stream.specs.Reading.Refusals.{Faults}
 use Rattle.stream.specs.Levels.{level-limit, value-bytes, read-value, value-width}
 
@@ -22,12 +22,8 @@ pub value-reads : (cut-short : Fault) (v : ℕ) (r : List ℕ) → read-value cu
 unfolding read-value value-bytes
 value-reads cut-short v r = ap₂ read (omega arith) refl
 
-pub record FoundValue (s : List ℕ) (v : ℕ) (r : List ℕ) : Type 0 where
-  pub bytes : value-bytes v r ≡ s
-  pub below : v < level-limit
-  pub rest : Bytes r
-
-pub value-sound : (cut-short : Fault) (s : List ℕ) (v : ℕ) (r : List ℕ) → Bytes s → read-value cut-short s ≡ read v r → FoundValue s v r
+pub value-sound : (cut-short : Fault) (s : List ℕ) (v : ℕ) (r : List ℕ) → Bytes s → read-value cut-short s ≡ read v r
+    → FoundContents value-bytes (λ x. x < level-limit) s v r
 unfolding read-value value-bytes level-limit
 value-sound cut-short [] v r b e = let z : _≡_ {A = ℕ} 0 1 = cc in absurd (omega arith)
 value-sound cut-short (h ∷ []) v r b e = let z : _≡_ {A = ℕ} 0 1 = cc in absurd (omega arith)
@@ -36,7 +32,7 @@ value-sound cut-short (h ∷ l ∷ s) v r b e =
     let t : s ≡ r = cc in
     let x : v / 256 ≡ h = omega (arith, b 0, b 1) in
     let y : v % 256 ≡ l = omega (arith, b 0, b 1) in
-    record { bytes = rw (x, y, t); below = omega (arith, b 0, b 1); rest = rw (← t) (λ i. b (suc (suc i))) }
+    record { bytes = rw (x, y, t); within = omega (arith, b 0, b 1); rest = rw (← t) (λ i. b (suc (suc i))) }
 
 pub value-faults : (P : Fault → Type 0) (cut-short : Fault) → P cut-short → (s : List ℕ) → Faults P (read-value cut-short s)
 unfolding read-value

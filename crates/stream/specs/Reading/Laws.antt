@@ -116,6 +116,12 @@ module _ {W A : Type 0} (over : Fault) (root : W → List ℕ → Reading (Root 
       = rw e at (k .reads (budget - n) [] s ∙ ap (prepend a) (none-owed (budget - n) s)) in
       rw g
 
+-- What a leaf carries, read at the front of the bytes s: it was written there, it is held to its limit, and r is left.
+pub record FoundContents {C : Type 0} (put : C → List ℕ → List ℕ) (Held : C → Type 0) (s : List ℕ) (c : C) (r : List ℕ) : Type 0 where
+  pub bytes : put c r ≡ s
+  pub within : Held c
+  pub rest : Bytes r
+
 -- What was read is what was written. `Is w a` says that a is a tree for the entry w, `write` gives its bytes, `nodes` their number of roots.
 module _ {W A : Type 0} (over : Fault) (root : W → List ℕ → Reading (Root W A))
     (Is : W → A → Type 0) (write : A → List ℕ → List ℕ) (nodes : A → ℕ) where
@@ -153,6 +159,18 @@ module _ {W A : Type 0} (over : Fault) (root : W → List ℕ → Reading (Root 
 
   pub leaf-is : {w : W} (a : A) (s r : List ℕ) → Bytes r → Is w a → nodes a ≡ 1 → write a r ≡ s → RootIs w s (leaf a r)
   leaf-is a s r b i n e = record { rest = b; makes = λ owed ts x each h. leaf-makes a s r i n e owed ts x each h }
+
+  pub carried-is : {C : Type 0} {w : W} (contents : List ℕ → Reading C) (put : C → List ℕ → List ℕ) (Held : C → Type 0) (make : C → A) (k : ℕ)
+      (s : List ℕ) → ((c : C) (r : List ℕ) → contents s ≡ read c r → FoundContents put Held s c r)
+      → ((c : C) → Held c → Is w (make c)) → ((c : C) → nodes (make c) ≡ 1) → ((c : C) (x : List ℕ) → write (make c) x ≡ k ∷ put c x)
+      → RootIs w (k ∷ s) (read-on (contents s) (λ c r. leaf (make c) r))
+  carried-is {C} {w} contents put Held make k s sound i n e = go (contents s) refl
+    where
+      go : (g : Reading C) → contents s ≡ g → RootIs w (k ∷ s) (read-on g (λ c r. leaf (make c) r))
+      go (fault x) h = tt
+      go (read c r) h =
+          let f = sound c r h in
+          leaf-is (make c) (k ∷ s) r (f .rest) (i c (f .within)) (n c) (e c r ∙ ap (λ l. k ∷ l) (f .bytes))
 
   one-makes : {v w : W} (f : A → A) (k : ℕ) (r : List ℕ) → ((a : A) → Is v a → Is w (f a))
       → ((a : A) → nodes (f a) ≡ suc (nodes a)) → ((a : A) (x : List ℕ) → write (f a) x ≡ k ∷ write a x)

@@ -3,7 +3,7 @@ use mathlib.Core.Path.{_≡_, refl, sym, ap, _∙_}
 use mathlib.Core.Bool.{Bool, true, false, _&&_, not, true≢false, false≢true}
 use mathlib.Core.Logic.{_↔_}
 use mathlib.Core.List.{List, [], _∷_, append-nil}
-use Prim.Native.Nat.{ℕ, suc, _+_, _*_, _≤_}
+use Prim.Native.Nat.{ℕ, suc, _+_, _*_, _≤_, _<_}
 use native.Mathlib.Omega.{arith}
 use lib.ListN.{length, getD}
 use borrow.Author.Tests.{not-true}
@@ -11,7 +11,7 @@ use Rattle.stream.specs.declared.Fault.{Fault}
 use Rattle.stream.specs.declared.Fault.the-variants.{SliceCutShort, SliceUnlisted, SliceLeftOver, SliceMisplaced}
 use Rattle.stream.specs.Types.{Ty, size, type-limit, first-part, second-part, has-kind, Small}
 use Rattle.stream.specs.Types.Laws.{and-left, and-right, made-of, parts-size, size-positive}
-use Rattle.stream.specs.Levels.{value-bytes, read-value, value-width}
+use Rattle.stream.specs.Levels.{level-limit, value-bytes, read-value, value-width}
 use Rattle.stream.specs.Bounds.{slice-limit, slice-file-limit}
 use Rattle.stream.specs.Faults.{slice-numbers, Listed}
 use Rattle.stream.specs.Levels.Laws.{value-length, value-is-bytes, value-reads, value-sound, value-faults}
@@ -19,7 +19,7 @@ use Rattle.stream.specs.Prefixes.{Prefix, nothing, cue-awaited, cue-come
 use Rattle.stream.specs.Prefixes.Kinds.{tally}
 use Rattle.stream.specs.Prefixes.Laws.{crossed-second, beside-first, beside-second}
 use Rattle.stream.specs.Reading.{Bytes, Reading, read, fault, accepted, IsAccepted, read-on, whole, section-bytes, section, Root, forest, leaf, one-part, two-parts}
-use Rattle.stream.specs.Reading.Laws.{Reads, reads-leaf, reads-one, reads-two, tree-reads, RootIs, leaf-is, one-is, two-is, tree-sound, section-reads, section-sound, whole-sound, _&_, past, every, bytes-tail, bytes-nil, bytes-cons, section-is-bytes}
+use Rattle.stream.specs.Reading.Laws.{Reads, reads-leaf, reads-one, reads-two, tree-reads, RootIs, leaf-is, carried-is, one-is, two-is, tree-sound, section-reads, section-sound, whole-sound, _&_, past, every, bytes-tail, bytes-nil, bytes-cons, section-is-bytes}
 use Rattle.stream.specs.Reading.Walking.{MakesOne, leaf-makes, one-makes, two-makes}
 use Rattle.stream.specs.Reading.Parts.{weight, Lighter, same-forest, InFront, one-in-front, two-in-front}
 use Rattle.stream.specs.Reading.Budgets.{Spends, OneMore, leaf-one-more, one-one-more, two-one-more}
@@ -158,14 +158,10 @@ free b c e d = absurd (true≢false (sym d ∙ not-true c (and-right b (not c) e
 value-is : (t : Ty) (c : Bool) (s : List ℕ) → Bytes s → has-kind 2 t ≡ true
     → PrefixRootIs (owed t c) (4 ∷ s) (read-on (read-value SliceCutShort s) (λ v r. leaf (level-come v) r))
 unfolding prefix-bytes nodes
-value-is t c s b e = go (read-value SliceCutShort s) refl
-  where
-    go : (g : Reading ℕ) → read-value SliceCutShort s ≡ g → PrefixRootIs (owed t c) (4 ∷ s) (read-on g (λ v r. leaf (level-come v) r))
-    go (fault x) h = tt
-    go (read v r) h =
-        let f = value-sound SliceCutShort s v r b h in
-        leaf-is slice-over prefix-root Fills prefix-bytes nodes (level-come v) (4 ∷ s) r (f .rest)
-        (record { is = rw (made-of 2 t e) (of-level-come (f .below)); whole = λ d. whole-level }) refl (ap (λ l. 4 ∷ l) (f .bytes))
+value-is t c s b e =
+    carried-is slice-over prefix-root Fills prefix-bytes nodes (read-value SliceCutShort) value-bytes (λ v. v < level-limit) level-come 4 s
+    (λ v r h. value-sound SliceCutShort s v r b h)
+    (λ v h. record { is = rw (made-of 2 t e) (of-level-come h); whole = λ d. whole-level }) (λ v. refl) (λ v x. refl)
 
 kinds-sound : (t : Ty) (c : Bool) (s : List ℕ) → Bytes s → (k : ℕ)
     → PrefixRootIs (owed t c) (k ∷ s) (getD prefix-kinds k (λ u d r. fault SliceUnlisted) t c s)

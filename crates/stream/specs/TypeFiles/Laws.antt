@@ -11,7 +11,7 @@ use Rattle.stream.specs.Types.{Ty, empty, cue, level, seq, par, size, ty
 use Rattle.stream.specs.Bounds.{type-file-limit}
 use Rattle.stream.specs.Faults.{type-numbers, Listed}
 use Rattle.stream.specs.Reading.{Bytes, read, fault, accepted, IsAccepted, section-bytes}
-use Rattle.stream.specs.Reading.Laws.{Reads, reads-leaf, reads-two, tree-reads, RootIs, leaf-is, two-is, tree-sound, section-reads, section-sound, whole-sound, _&_, past, every, bytes-tail, bytes-nil, bytes-cons, section-is-bytes}
+use Rattle.stream.specs.Reading.Laws.{Reads, reads-leaf, reads-two, tree-reads, RootIs, leaf-is, FoundContents, two-is, tree-sound, section-reads, section-sound, whole-sound, _&_, past, every, bytes-tail, bytes-nil, bytes-cons, section-is-bytes}
 use Rattle.stream.specs.Reading.Refusals.{Faults, Refusals, section-faults, tree-faults, whole-refusals}
 use Rattle.stream.specs.TypeFiles.{type-bytes, type-file-bytes, TypeFile, type-kinds, type-root, read-type, type-section, type-file}
 
@@ -85,12 +85,7 @@ root-sound w (k ∷ s) b =
     c : Bytes s
     c = bytes-tail k s b
 
-pub record FoundType (s : List ℕ) (t : Ty) (r : List ℕ) : Type 0 where
-  pub bytes : type-bytes t r ≡ s
-  pub within : Small t
-  pub rest : Bytes r
-
-pub read-type-sound : (s : List ℕ) (t : Ty) (r : List ℕ) → Bytes s → read-type s ≡ read t r → FoundType s t r
+pub read-type-sound : (s : List ℕ) (t : Ty) (r : List ℕ) → Bytes s → read-type s ≡ read t r → FoundContents type-bytes Small s t r
 unfolding read-type
 read-type-sound s t r b e =
     let f = tree-sound TypeTooLarge type-root IsType type-bytes size root-sound type-limit tt s t r b e in
