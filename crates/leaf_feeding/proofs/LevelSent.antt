@@ -1,13 +1,13 @@
 -- A level's value: its bytes stand behind the kind byte of the node, and are sent behind the kind byte of a level that has come.
 use mathlib.Core.Path.{_≡_, refl, sym}
-use mathlib.Core.List.{List, [], _++_}
+use mathlib.Core.List.{List, []}
 use Prim.Native.Nat.{ℕ, _+_, _-_, _≤_}
 use native.Mathlib.Omega.{arith}
 use lib.ListN.{length, take, drop, set}
-use lib.Seq.{drop-drop, take-at}
+use lib.Seq.{drop-drop}
 use Rattle.stream.specs.Buffers.{at-front}
 use Rattle.stream.specs.Levels.{value-bytes, value-width}
-use Rattle.stream.specs.Levels.Laws.{value-length}
+use Rattle.stream.specs.Levels.Laws.{value-length, value-front}
 use Rattle.stream.specs.Prefixes.{level-come}
 use Rattle.stream.specs.SliceFiles.{prefix-bytes}
 use Rattle.reading.specs.SliceReads.{prefix-width}
@@ -15,7 +15,7 @@ use Rattle.node.specs.Nodes.{emit-level}
 use Rattle.node.specs.Feeding.Functions.{sends, leaves}
 use Rattle.node.specs.PatchFiles.{node-bytes}
 use Rattle.patch_reading.specs.PatchReads.{NodeAt}
-use Rattle.patch_reading.specs.PatchReads.Laws.{ends-inside, node-before, by-byte}
+use Rattle.patch_reading.specs.PatchReads.Laws.{ends-inside, by-byte}
 use Rattle.writing.specs.Writing.Laws.{part, back, begins, goes-on, room-left}
 use Rattle.writing.specs.Writing.{Begun}
 use Rattle.leaf_feeding.specs.declared.Sent.{Sent}
@@ -53,9 +53,7 @@ module _ {nodes : List ℕ} {from : ℕ} {slice : List ℕ} {place : ℕ} {out r
   unfolding node-bytes
   value-taken =
       let long : from + 1 + value-width - (from + 1) ≡ value-width = omega arith in
-      let behind : value-bytes value (stands .rest) ≡ value-bytes value [] ++ stands .rest = cc (node-before (emit-level value) (stands .rest)) in
-      rw (long, ← drop-drop 1 from nodes, stands .here, behind)
-      (take-at (value-bytes value []) (stands .rest) value-width (omega (arith, value-length value [])))
+      rw (long, ← drop-drop 1 from nodes, stands .here) (value-front value (stands .rest))
 
   -- They have room behind the kind byte, and make a level that has come.
 

@@ -5,8 +5,8 @@ use Prim.Native.Nat.{ℕ}
 use lib.ListN.{getD}
 use Rattle.stream.specs.declared.Fault.the-variants.{CutShort, Unlisted, LeftOver, TooManyNodes}
 use Rattle.stream.specs.Types.{Ty}
-use Rattle.stream.specs.Levels.{value-bytes, read-value}
-use Rattle.stream.specs.Reading.{Reading, read, fault, Result, accepted, read-on, go-on, whole, section-bytes, section, Root, tree, leaf, two-parts}
+use Rattle.stream.specs.Levels.{value-width}
+use Rattle.stream.specs.Reading.{Reading, read, fault, Result, accepted, read-on, go-on, whole, next-byte, number-bytes, read-number, section-bytes, section, Root, tree, leaf, two-parts}
 use Rattle.stream.specs.TypeFiles.{type-bytes, read-type, type-section}
 use Rattle.node.specs.Nodes.{Node, pass, silent, emit-cue, emit-level, both, left-side, right-side, first, second, then, chain, regroup-right, regroup-left, spread, front, node-limit, Allowed, Patch}
 use Rattle.node.specs.Checking.{typing}
@@ -18,7 +18,7 @@ unfoldable pub node-bytes : Node → List ℕ → List ℕ
 node-bytes pass r = 0 ∷ r
 node-bytes (silent n) r = 1 ∷ type-bytes n r
 node-bytes emit-cue r = 2 ∷ r
-node-bytes (emit-level v) r = 3 ∷ value-bytes v r
+node-bytes (emit-level v) r = 3 ∷ number-bytes value-width v r
 node-bytes (both n m) r = 4 ∷ node-bytes n (node-bytes m r)
 node-bytes left-side r = 5 ∷ r
 node-bytes right-side r = 6 ∷ r
@@ -48,7 +48,7 @@ node-kinds =
     leaf pass
     ∷ (λ s. read-on (read-type s) (λ n r. leaf (silent n) r))
     ∷ leaf emit-cue
-    ∷ (λ s. read-on (read-value CutShort s) (λ v r. leaf (emit-level v) r))
+    ∷ (λ s. read-on (read-number CutShort value-width s) (λ v r. leaf (emit-level v) r))
     ∷ two-parts both tt tt
     ∷ leaf left-side
     ∷ leaf right-side
@@ -63,8 +63,7 @@ node-kinds =
     ∷ []
 
 unfoldable pub node-root : Unit {0} → List ℕ → Reading (Root (Unit {0}) Node)
-node-root w [] = fault CutShort
-node-root w (k ∷ s) = getD node-kinds k (λ r. fault Unlisted) s
+node-root w s = read-on (next-byte CutShort s) (λ k r. getD node-kinds k (λ x. fault Unlisted) r)
 
 unfoldable pub read-node : List ℕ → Reading Node
 read-node s = tree TooManyNodes node-root node-limit tt s

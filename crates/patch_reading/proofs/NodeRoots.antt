@@ -1,8 +1,9 @@
 -- The root of a node, by its kind byte: where it ends, how many parts it owes, and which bytes it leaves.
 use mathlib.Core.Path.{_≡_, refl, sym, ap, _∙_}
+use mathlib.Core.Logic.{⊎-elim}
 use mathlib.Core.List.{List, [], _∷_}
 use Prim.Native.Nat.{ℕ, _+_, _-_, _≤_, _<_}
-use native.Mathlib.Omega.{arith}
+use native.Mathlib.Omega.{arith, le-or-lt}
 use native.Mathlib.Numerals.{add-one}
 use lib.ListN.{length, getD, drop, length-drop, drop-of-length-le, List·getD-eq-default}
 use lib.Seq.{drop-cons, drop-drop}
@@ -11,8 +12,8 @@ use Rattle.stream.specs.declared.Fault.the-variants.{CutShort, Unlisted, TooMan
 use Rattle.reading.specs.declared.sections.TreeEnd.{TreeEnd}
 use Rattle.reading.specs.declared.sections.TreeEnd.the-variants.{At, Failed}
 use Rattle.stream.specs.Types.{Ty, size}
-use Rattle.stream.specs.Levels.{value-bytes, read-value}
-use Rattle.stream.specs.Levels.Laws.{value-length, value-sound}
+use Rattle.stream.specs.Levels.{value-width, read-value}
+use Rattle.stream.specs.Levels.Laws.{value-length, value-behind, value-sound, value-there, value-missing}
 use Rattle.stream.specs.Reading.{Bytes, Reading, read, fault, read-on, Root, leaf, two-parts}
 use Rattle.stream.specs.Reading.Laws.{_&_, past, every, bytes-drop}
 use Rattle.stream.specs.Reading.Walking.{Owes, MakesOne, leaf-makes, two-makes}
@@ -99,10 +100,9 @@ within-after k s (read a r) make h = omega arith
 within-after k s (fault e) make h = tt
 
 value-within : (s : List ℕ) → Within s (read-value CutShort s)
-unfolding read-value
-value-within [] = tt
-value-within (a ∷ []) = tt
-value-within (a ∷ b ∷ s) = omega arith
+value-within s =
+    ⊎-elim (λ h. rw (value-there CutShort s h .1) (omega (arith, length-drop value-width s))) (λ h. rw (value-missing CutShort s h) tt)
+    (le-or-lt value-width (length s))
 
 within : {k parts : ℕ} {f : ReadsRoot} → Shape k parts f → (s : List ℕ) → Within (k ∷ s) (f s)
 within (plain n) s = omega arith
@@ -136,17 +136,13 @@ module _ (m : ℕ) (s : List ℕ) where
       go (read t r) w told = let e : length s - length r ≡ k = cc in ap At (omega arith)
       go (fault e) w told = let z : _≡_ {A = ℕ} 0 1 = cc in absurd (omega arith)
 
-valued-fails : (m : ℕ) (s : List ℕ) → length s < 2 → end-of m (valued s) ≡ Failed CutShort
-unfolding end-of read-value
-valued-fails m [] h = refl
-valued-fails m (a ∷ []) h = refl
-valued-fails m (a ∷ b ∷ s) h = absurd (omega arith)
+valued-fails : (m : ℕ) (s : List ℕ) → length s < value-width → end-of m (valued s) ≡ Failed CutShort
+unfolding end-of
+valued-fails m s h = rw (value-missing CutShort s h)
 
-valued-ends : (m : ℕ) (s : List ℕ) → 2 ≤ length s → length s ≤ m → end-of m (valued s) ≡ At (m - length s + 2)
-unfolding end-of read-value
-valued-ends m [] h l = absurd (omega arith)
-valued-ends m (a ∷ []) h l = absurd (omega arith)
-valued-ends m (a ∷ b ∷ s) h l = ap At (omega arith)
+valued-ends : (m : ℕ) (s : List ℕ) → value-width ≤ length s → length s ≤ m → end-of m (valued s) ≡ At (m - length s + value-width)
+unfolding end-of
+valued-ends m s h l = rw (value-there CutShort s h .1) (ap At (omega (arith, length-drop value-width s)))
 
 plain-ends : {k parts : ℕ} {f : ReadsRoot} → Shape k parts f → (k ≡ 1 → ⊥) → (k ≡ 3 → ⊥) → k < 15
     → (m : ℕ) (s : List ℕ) → end-of m (f s) ≡ At (m - length s)
@@ -176,7 +172,7 @@ module _ (m : ℕ) (s : List ℕ) (l : length s ≤ m) (end : ℕ) where
       record { width = w; inside = inside; place = omega (arith, simp length-drop at (ap length e)); owes = (_, ap (leaf (make a)) e, refl) }
 
   leaves : {k parts : ℕ} {f : ReadsRoot} → Shape k parts f → Bytes s → end-of m (f s) ≡ At end → Leaves parts m s (f s) end
-  unfolding end-of value-bytes
+  unfolding end-of
   leaves (plain n) b h = let e : m - length s ≡ end = cc in record { width = 0; inside = omega arith; place = omega arith; owes = (_, refl, refl) }
   leaves carries b h = leaves-after (read-type s) silent behind h
     where
@@ -189,7 +185,7 @@ module _ (m : ℕ) (s : List ℕ) (l : length s ≤ m) (end : ℕ) where
       behind : (v : ℕ) (r : List ℕ) → read-value CutShort s ≡ read v r → (w : ℕ) × (w ≤ length s) × (r ≡ drop w s)
       behind v r e =
           let f = value-sound CutShort s v r b e in
-          (2, omega (arith, value-length v r, ap length (f .bytes)), rw (← f .bytes) refl)
+          (value-width, omega (arith, value-length v r, ap length (f .bytes)), rw (← f .bytes) (sym (value-behind v r)))
   leaves (forks f) b h = let e : m - length s ≡ end = cc in record { width = 0; inside = omega arith; place = omega arith; owes = (_, refl, refl) }
   leaves (unlisted i) b h = let z : _≡_ {A = ℕ} 0 1 = cc in absurd (omega arith)
 
@@ -236,13 +232,13 @@ module _ (s : List ℕ) (at : ℕ) where
           by-kind ∙ rw one (carried-ends (length s) (drop (at + 1) s) l k h) ∙ ap (λ n. At (n + k)) behind-kind
 
     module _ (three : getD s at 0 ≡ 3) where
-      pub value-failed : length s - (at + 1) < 2 → root-end ≡ Failed CutShort
+      pub value-failed : length s - (at + 1) < value-width → root-end ≡ Failed CutShort
       value-failed h = by-kind ∙ rw three (valued-fails (length s) (drop (at + 1) s) (simp length-drop h))
 
-      pub value-ended : 2 ≤ length s - (at + 1) → root-end ≡ At (at + 1 + 2)
+      pub value-ended : value-width ≤ length s - (at + 1) → root-end ≡ At (at + 1 + value-width)
       value-ended h =
           let l : length (drop (at + 1) s) ≤ length s = simp length-drop (omega arith) in
-          by-kind ∙ rw three (valued-ends (length s) (drop (at + 1) s) (simp length-drop h) l) ∙ ap (λ n. At (n + 2)) behind-kind
+          by-kind ∙ rw three (valued-ends (length s) (drop (at + 1) s) (simp length-drop h) l) ∙ ap (λ n. At (n + value-width)) behind-kind
 
   -- A root that ends at `end` was read.
   pub record RootRead (end : ℕ) : Type 0 where

@@ -1,9 +1,10 @@
 -- A prefix walked through beside its type: what each kind byte comes to, from how the walks through the parts ended.
 use mathlib.Core.Path.{_≡_, refl, sym, ap, ap₂, _∙_}
 use mathlib.Core.Bool.{Bool, true, false, not}
+use mathlib.Core.Logic.{⊎-elim}
 use mathlib.Core.List.{List, [], _∷_}
 use Prim.Native.Nat.{ℕ, zero, suc, _+_, _-_, _/_, _≤_, _<_, min}
-use native.Mathlib.Omega.{arith}
+use native.Mathlib.Omega.{arith, le-or-lt}
 use native.Mathlib.Numerals.{add-one}
 use lib.Dec.{eqb}
 use lib.ListN.{length, getD, drop, length-drop, drop-of-length-le}
@@ -16,15 +17,16 @@ use Rattle.reading.specs.declared.prefixes.Walk.{Walk}
 use Rattle.reading.specs.declared.prefixes.Walk.the-variants.{Past, Failed}
 use Rattle.stream.specs.Types.{Ty, size, type-limit, kind, first-part, second-part}
 use Rattle.stream.specs.Types.Laws.{and-left}
-use Rattle.stream.specs.Levels.{read-value}
-use Rattle.stream.specs.Prefixes.{Prefix, nothing, cue-awaited, cue-come, level-awaited, in-first, crossed, beside, derivative}
+use Rattle.stream.specs.Levels.{value-width}
+use Rattle.stream.specs.Levels.Laws.{value-there, value-missing}
+use Rattle.stream.specs.Prefixes.{Prefix, nothing, cue-awaited, cue-come, level-awaited, level-come, in-first, crossed, beside, derivative}
 use Rattle.stream.specs.Prefixes.Functions.{complete}
 use Rattle.stream.specs.Prefixes.Laws.{derivative-size}
-use Rattle.stream.specs.Reading.{Bytes, Reading, read, fault, read-on}
+use Rattle.stream.specs.Reading.{Bytes, Reading, read, fault, read-on, Root, leaf}
 use Rattle.stream.specs.Reading.Laws.{bytes-drop}
 use Rattle.reading.specs.TypeReads.{TypeAt, TypeEnds}
 use Rattle.reading.specs.TypeReads.Laws.{kind-at, fork-size, leaf-size, first-at, second-at, same-type}
-use Rattle.stream.specs.SliceFiles.{owed, belongs, prefix-root, prefix-bytes}
+use Rattle.stream.specs.SliceFiles.{Owed, owed, belongs, prefix-root, prefix-bytes}
 use Rattle.stream.specs.Prefixes.Kinds.{root-width}
 use Rattle.reading.specs.SliceReads.{overlap, prefix-width, known, type-kind-of, is-unfinished, belongs-at, first-complete, leaf-walked, first-known, both-known, beside-walked, SumsFit, read-owed, walked, Walks}
 use Rattle.reading.specs.SliceReads.Laws.{prefix-bytes-length, behind-prefix}
@@ -44,13 +46,25 @@ module _ (t : Ty) (end n from k : ℕ) where
   unfolding leaf-walked
   missing l = rw (lt-leb (root-width k) (n - from) l)
 
+abbrev level-root : Reading ℕ → Reading (Root Owed Prefix)
+level-root g = read-on g (λ v r. leaf (level-come v) r)
+
 module _ (t : Ty) (c : Bool) (small : size t ≤ type-limit) (alone : size t ≡ 1) (end n from : ℕ) (s : List ℕ) where
   level-read : (r : List ℕ) → n ≡ from + 1 + length r → prefix-root (owed t c) s ≡ kind-root 4 t c r
       → leaf-walked end n from 4 ≡ walked t end n (read-owed (owed t c) s)
-  unfolding read-value complete derivative overlap size walked
-  level-read [] l e = rw (reads-fault t c small s SliceCutShort e) (missing t end n from 4 (omega arith))
-  level-read (h ∷ []) l e = rw (reads-fault t c small s SliceCutShort e) (missing t end n from 4 (omega arith))
-  level-read (h ∷ v ∷ r) l e = rw (reads-leaf t c small s _ r e) (come t end n from 4 _ r (omega arith) refl refl refl)
+  unfolding complete derivative overlap size walked
+  level-read r l e = ⊎-elim there short (le-or-lt value-width (length r))
+    where
+      there : value-width ≤ length r → leaf-walked end n from 4 ≡ walked t end n (read-owed (owed t c) s)
+      there h =
+          let value = value-there SliceCutShort r h in
+          let rest = drop value-width r in
+          rw (reads-leaf t c small s (level-come (value .0)) rest (e ∙ ap level-root (value .1)))
+          (come t end n from 4 (level-come (value .0)) rest (omega (arith, length-drop value-width r)) refl refl refl)
+
+      short : length r < value-width → leaf-walked end n from 4 ≡ walked t end n (read-owed (owed t c) s)
+      short h =
+          rw (reads-fault t c small s SliceCutShort (e ∙ ap level-root (value-missing SliceCutShort r h))) (missing t end n from 4 (omega arith))
 
   leaf-read : (r : List ℕ) → n ≡ from + 1 + length r → (k : ℕ) → k < 5 → prefix-root (owed t c) s ≡ kind-root k t c r
       → leaf-walked end n from k ≡ walked t end n (read-owed (owed t c) s)

@@ -7,6 +7,7 @@ use lib.Dec.{leb}
 use lib.ListN.{length, getD, take, drop}
 use Rattle.stream.specs.declared.Fault.{Fault}
 pub mod Laws
+pub mod Numbers
 pub mod Walking
 pub mod Parts
 pub mod Budgets
@@ -55,19 +56,30 @@ abbrev pub followed-by : {A : Type 0} → List ℕ → Result A → Reading A
 followed-by r (accepted a) = read a r
 followed-by r (refused e) = fault e
 
+-- The next byte, and the bytes after it.
+abbrev pub next-byte : Fault → List ℕ → Reading ℕ
+next-byte cut-short [] = fault cut-short
+next-byte cut-short (b ∷ s) = read b s
+
+-- "A number of two bytes has its high byte first", and so has one of any width: its bytes, and then r; and its reading.
+unfoldable pub number-bytes : (width v : ℕ) → List ℕ → List ℕ
+number-bytes zero v r = r
+number-bytes (suc width) v r = number-bytes width (v / 256) (v % 256 ∷ r)
+
+unfoldable pub read-number : Fault → (width : ℕ) → List ℕ → Reading ℕ
+read-number cut-short zero s = read 0 s
+read-number cut-short (suc width) s = read-on (read-number cut-short width s) (λ high r. read-on (next-byte cut-short r) (λ low x. read (high * 256 + low) x))
+
 -- "A section is a two-byte count and then that many bytes", the high byte first: the section of `body`, and then `r`.
 unfoldable pub section-bytes : List ℕ → List ℕ → List ℕ
 section-bytes body r = length body / 256 ∷ length body % 256 ∷ (body ++ r)
 
 -- "A section's length is tried before its contents": the contents of a section whose count is n, which they have to fill.
 unfoldable pub counted : {A : Type 0} → Fault → Fault → (List ℕ → Reading A) → ℕ → List ℕ → Reading A
-counted cut-short left-over contents n s =
-    elim (leb n (length s)) [ true ↦ followed-by (drop n s) (whole left-over (contents (take n s))) | false ↦ fault cut-short ]
+counted cut-short left-over contents n s = followed-by (drop n s) (require (leb n (length s)) cut-short (whole left-over (contents (take n s))))
 
 unfoldable pub section : {A : Type 0} → Fault → Fault → (List ℕ → Reading A) → List ℕ → Reading A
-section cut-short left-over contents [] = fault cut-short
-section cut-short left-over contents (h ∷ []) = fault cut-short
-section cut-short left-over contents (h ∷ l ∷ s) = counted cut-short left-over contents (h * 256 + l) s
+section cut-short left-over contents s = read-on (read-number cut-short 2 s) (counted cut-short left-over contents)
 
 -- "Trees are in preorder, root first, then the parts left to right." What the root's own bytes say: what is owed for each
 -- part, and `build`, which puts the tree made of the first trees that follow in their place.

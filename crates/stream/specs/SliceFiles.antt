@@ -8,9 +8,9 @@ use lib.ListN.{getD}
 use Rattle.stream.specs.declared.Fault.{Fault}
 use Rattle.stream.specs.declared.Fault.the-variants.{SliceCutShort, SliceUnlisted, SliceLeftOver, SliceMisplaced}
 use Rattle.stream.specs.Types.{Ty, first-part, second-part, has-kind, type-limit}
-use Rattle.stream.specs.Levels.{value-bytes, read-value}
+use Rattle.stream.specs.Levels.{value-width}
 use Rattle.stream.specs.Prefixes.{Prefix, nothing, cue-awaited, cue-come, level-awaited, level-come, in-first, crossed, beside, IsPrefix}
-use Rattle.stream.specs.Reading.{Reading, fault, Result, read-on, whole, section-bytes, section, Root, tree, leaf, one-part, two-parts}
+use Rattle.stream.specs.Reading.{Reading, fault, Result, read-on, whole, next-byte, number-bytes, read-number, section-bytes, section, Root, tree, leaf, one-part, two-parts}
 pub mod Laws
 pub mod Examples
 
@@ -20,7 +20,7 @@ prefix-bytes nothing r = 0 ∷ r
 prefix-bytes cue-awaited r = 1 ∷ r
 prefix-bytes cue-come r = 2 ∷ r
 prefix-bytes level-awaited r = 3 ∷ r
-prefix-bytes (level-come v) r = 4 ∷ value-bytes v r
+prefix-bytes (level-come v) r = 4 ∷ number-bytes value-width v r
 prefix-bytes (in-first p) r = 5 ∷ prefix-bytes p r
 prefix-bytes (crossed b q) r = 6 ∷ prefix-bytes b (prefix-bytes q r)
 prefix-bytes (beside p q) r = 7 ∷ prefix-bytes p (prefix-bytes q r)
@@ -56,7 +56,7 @@ prefix-kinds =
     ∷ (λ t c. belongs (has-kind 1 t && not c) (leaf cue-awaited))
     ∷ (λ t c. belongs (has-kind 1 t) (leaf cue-come))
     ∷ (λ t c. belongs (has-kind 2 t && not c) (leaf level-awaited))
-    ∷ (λ t c. belongs (has-kind 2 t) (λ s. read-on (read-value SliceCutShort s) (λ v r. leaf (level-come v) r)))
+    ∷ (λ t c. belongs (has-kind 2 t) (λ s. read-on (read-number SliceCutShort value-width s) (λ v r. leaf (level-come v) r)))
     ∷ (λ t c. belongs (has-kind 3 t && not c) (one-part in-first (owed (first-part t) false)))
     ∷ (λ t c. belongs (has-kind 3 t) (two-parts crossed (owed (first-part t) true) (owed (second-part t) c)))
     ∷ (λ t c. belongs (has-kind 4 t) (two-parts beside (owed (first-part t) c) (owed (second-part t) c)))
@@ -64,8 +64,7 @@ prefix-kinds =
 
 -- "At one byte 11, 12, 14 in that order."
 unfoldable pub prefix-root : Owed → List ℕ → Reading (Root Owed Prefix)
-prefix-root o [] = fault SliceCutShort
-prefix-root o (k ∷ s) = getD prefix-kinds k (λ t c r. fault SliceUnlisted) (o .type) (o .must-complete) s
+prefix-root o s = read-on (next-byte SliceCutShort s) (λ k r. getD prefix-kinds k (λ t c x. fault SliceUnlisted) (o .type) (o .must-complete) r)
 
 -- The fault of a slice that needs a node too many. (A prefix has no more nodes than its type, so the limit of 255 is never met:
 -- `limit-not-met` in the laws.)

@@ -5,7 +5,7 @@ use Prim.Native.Nat.{ℕ, _≤_}
 use lib.ListN.{getD}
 use Rattle.stream.specs.declared.Fault.the-variants.{CutShort, Unlisted, LeftOver, TypeTooLarge}
 use Rattle.stream.specs.Types.{Ty, empty, cue, level, seq, par, size, type-limit, Small}
-use Rattle.stream.specs.Reading.{Reading, fault, Result, whole, section-bytes, section, Root, tree, leaf, two-parts}
+use Rattle.stream.specs.Reading.{Reading, fault, Result, read-on, whole, next-byte, section-bytes, section, Root, tree, leaf, two-parts}
 pub mod Laws
 pub mod Examples
 
@@ -32,8 +32,7 @@ abbrev pub type-kinds : List (List ℕ → Reading (Root (Unit {0}) Ty))
 type-kinds = leaf empty ∷ leaf cue ∷ leaf level ∷ two-parts seq tt tt ∷ two-parts par tt tt ∷ []
 
 unfoldable pub type-root : Unit {0} → List ℕ → Reading (Root (Unit {0}) Ty)
-type-root w [] = fault CutShort
-type-root w (k ∷ s) = getD type-kinds k (λ r. fault Unlisted) s
+type-root w s = read-on (next-byte CutShort s) (λ k r. getD type-kinds k (λ x. fault Unlisted) r)
 
 -- A type of at most 255 nodes at the front of some bytes; a section that holds one; a file that is one.
 unfoldable pub read-type : List ℕ → Reading Ty

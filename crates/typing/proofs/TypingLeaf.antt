@@ -1,11 +1,11 @@
 -- The second pass at a node without parts: what it gives is known from its kind byte and its input type.
 use mathlib.Core.Path.{_≡_, refl, ap}
 use mathlib.Core.List.{List, [], _∷_}
-use Prim.Native.Nat.{ℕ, _+_, _≤_, _<_}
+use Prim.Native.Nat.{ℕ, suc, _+_, _≤_, _<_}
 use native.Mathlib.Omega.{arith}
 use lib.ListN.{length, getD}
 use Rattle.stream.specs.Types.{Ty, size, Small}
-use Rattle.stream.specs.Levels.{value-bytes}
+use Rattle.stream.specs.Levels.Laws.{value-length}
 use Rattle.stream.specs.Reading.{Result}
 use Rattle.stream.specs.TypeFiles.{type-bytes}
 use Rattle.reading.specs.TypeReads.{TypeAt, SomeTypeAt}
@@ -61,9 +61,9 @@ module _ {types : List ℕ} {at : ℕ} {nodes : List ℕ} {from : ℕ} where
 
   -- A level's value stands behind its kind byte.
   pub level-inside : TypingDue types at nodes from → getD nodes from 0 ≡ 3 → from + 3 ≤ length nodes
-  unfolding node-bytes value-bytes
+  unfolding node-bytes
   level-inside due e =
-      let wide = by-byte (λ n. node-width n ≡ 3) (due .node-at) e (λ v. refl) in
+      let wide = by-byte (λ n. node-width n ≡ 3) (due .node-at) e (λ v. ap suc (value-length v [])) in
       omega (arith, ends-inside (due .node-at))
 
 -- The kinds that are left when all others but those with parts have been tried: front alone.

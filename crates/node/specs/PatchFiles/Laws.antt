@@ -63,7 +63,7 @@ unfolding node-bytes
 node-is-bytes pass r f b = bytes-cons 0 r (omega arith) b
 node-is-bytes (silent n) r f b = bytes-cons 1 (type-bytes n r) (omega arith) (type-is-bytes n r b)
 node-is-bytes emit-cue r f b = bytes-cons 2 r (omega arith) b
-node-is-bytes (emit-level v) r f b = bytes-cons 3 (value-bytes v r) (omega arith) (value-is-bytes v r f b)
+node-is-bytes (emit-level v) r f b = bytes-cons 3 (value-bytes v r) (omega arith) (value-is-bytes v r b)
 node-is-bytes (both n m) r f b = bytes-cons 4 (node-bytes n (node-bytes m r)) (omega arith) (node-is-bytes n (node-bytes m r) f.0 (node-is-bytes m r f.1 b))
 node-is-bytes left-side r f b = bytes-cons 5 r (omega arith) b
 node-is-bytes right-side r f b = bytes-cons 6 r (omega arith) b
@@ -90,7 +90,7 @@ unfolding node-bytes count node-root
 reads pass f = reads-leaf TooManyNodes node-root _ (λ s. refl)
 reads (silent n) f = reads-leaf TooManyNodes node-root _ (λ s. rw (read-type-reads n s f))
 reads emit-cue f = reads-leaf TooManyNodes node-root _ (λ s. refl)
-reads (emit-level v) f = reads-leaf TooManyNodes node-root _ (λ s. rw (value-reads CutShort v s))
+reads (emit-level v) f = reads-leaf TooManyNodes node-root _ (λ s. rw (value-reads CutShort v s f))
 reads (both n m) f = reads-two TooManyNodes node-root both _ (λ s. refl) (reads n f.0) (reads m f.1)
 reads left-side f = reads-leaf TooManyNodes node-root _ (λ s. refl)
 reads right-side f = reads-leaf TooManyNodes node-root _ (λ s. refl)

@@ -7,7 +7,7 @@ use native.Mathlib.Nat.{add-zero}
 use lib.ListN.{length, getD, take, drop, length-append, length-drop}
 use lib.Seq.{getD-drop, drop-drop, take-at, drop-at}
 use Rattle.stream.specs.Types.{Ty, size}
-use Rattle.stream.specs.Levels.{value-bytes}
+use Rattle.stream.specs.Levels.Laws.{value-length, value-append}
 use Rattle.stream.specs.Reading.Laws.{_&_, past, every}
 use Rattle.stream.specs.TypeFiles.{type-bytes}
 use Rattle.reading.specs.TypeReads.{TypeAt}
@@ -56,11 +56,11 @@ root-first front r = (refl, omega arith)
 -- Behind a node stands what was put there.
 
 node-append : (n : Node) (r s : List ℕ) → node-bytes n (r ++ s) ≡ node-bytes n r ++ s
-unfolding node-bytes value-bytes
+unfolding node-bytes
 node-append pass r s = refl
 node-append (silent n) r s = rw (type-before n (r ++ s), type-before n r, append-assoc (type-bytes n []) r s)
 node-append emit-cue r s = refl
-node-append (emit-level v) r s = refl
+node-append (emit-level v) r s = ap (λ l. 3 ∷ l) (value-append v r s)
 node-append (both n m) r s = ap (λ l. 4 ∷ l) (ap (node-bytes n) (node-append m r s) ∙ node-append n (node-bytes m r) s)
 node-append left-side r s = refl
 node-append right-side r s = refl
@@ -84,11 +84,11 @@ node-drop n r = ap (drop (node-width n)) (node-before n r) ∙ drop-at (node-byt
 
 -- Each node has a byte at least.
 pub count-within : (n : Node) → count n ≤ node-width n
-unfolding count node-bytes value-bytes
+unfolding count node-bytes
 count-within pass = omega arith
 count-within (silent n) = omega arith
 count-within emit-cue = omega arith
-count-within (emit-level v) = omega arith
+count-within (emit-level v) = omega (arith, value-length v [])
 count-within (both n m) = omega (arith, count-within n, count-within m, node-bytes-length n (node-bytes m []))
 count-within left-side = omega arith
 count-within right-side = omega arith

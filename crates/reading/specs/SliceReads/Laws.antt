@@ -7,8 +7,7 @@ use native.Mathlib.Nat.{add-zero}
 use lib.ListN.{length, getD, take, drop, length-drop}
 use lib.Seq.{drop-drop, getD-drop, take-at}
 use Rattle.stream.specs.Types.{Ty}
-use Rattle.stream.specs.Levels.{value-bytes}
-use Rattle.stream.specs.Levels.Laws.{value-length}
+use Rattle.stream.specs.Levels.Laws.{value-length, value-append, value-behind}
 use Rattle.stream.specs.Prefixes.{Prefix, nothing, cue-awaited, cue-come, level-awaited, level-come, in-first, crossed, beside, IsPrefix, of-empty, of-cue-awaited, of-cue-come, of-level-awaited, of-level-come, of-first, of-crossed, of-beside, derivative}
 use Rattle.stream.specs.Prefixes.Functions.{concat}
 use Rattle.stream.specs.Reading.Laws.{_&_, past, every}
@@ -73,23 +72,23 @@ concat-width q (of-beside h i) (of-beside k l) = omega (arith, concat-width _ h 
 -- What stands behind a prefix
 
 pub behind-prefix : (p : Prefix) (r : List ℕ) → drop (prefix-width p) (prefix-bytes p r) ≡ r
-unfolding prefix-bytes value-bytes prefix-width
+unfolding prefix-bytes prefix-width
 behind-prefix nothing r = refl
 behind-prefix cue-awaited r = refl
 behind-prefix cue-come r = refl
 behind-prefix level-awaited r = refl
-behind-prefix (level-come v) r = refl
+behind-prefix (level-come v) r = value-behind v r
 behind-prefix (in-first p) r = behind-prefix p r
 behind-prefix (crossed b q) r = rw (← drop-drop, behind-prefix b (prefix-bytes q r)) (behind-prefix q r)
 behind-prefix (beside p q) r = rw (← drop-drop, behind-prefix p (prefix-bytes q r)) (behind-prefix q r)
 
 prefix-append : (p : Prefix) (r s : List ℕ) → prefix-bytes p (r ++ s) ≡ prefix-bytes p r ++ s
-unfolding prefix-bytes value-bytes
+unfolding prefix-bytes
 prefix-append nothing r s = refl
 prefix-append cue-awaited r s = refl
 prefix-append cue-come r s = refl
 prefix-append level-awaited r s = refl
-prefix-append (level-come v) r s = refl
+prefix-append (level-come v) r s = ap (λ l. 4 ∷ l) (value-append v r s)
 prefix-append (in-first p) r s = ap (λ l. 5 ∷ l) (prefix-append p r s)
 prefix-append (crossed b q) r s =
     ap (λ l. 6 ∷ l) (ap (prefix-bytes b) (prefix-append q r s) ∙ prefix-append b (prefix-bytes q r) s)

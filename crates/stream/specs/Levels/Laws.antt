@@ -1,41 +1,49 @@
--- A value is read as it was written.
-use mathlib.Core.Path.{_≡_, refl, ap₂}
-use mathlib.Core.List.{List, [], _∷_}
-use Prim.Native.Nat.{ℕ, suc, _+_, _*_, _/_, _%_, _<_}
+-- A value is read as it was written: the laws of numbers at the width of a value.
+use mathlib.Core.Path.{_≡_, refl}
+use mathlib.Core.List.{List, [], _++_}
+use Prim.Native.Nat.{ℕ, _+_, _≤_, _<_}
 use native.Mathlib.Omega.{arith}
-use lib.ListN.{length}
+use lib.ListN.{length, take, drop}
 use Rattle.stream.specs.declared.Fault.{Fault}
-use Rattle.stream.specs.Reading.{Bytes, read}
-use Rattle.stream.specs.Reading.Laws.{bytes-cons, FoundContents}
+use Rattle.stream.specs.Reading.{Bytes, read, fault}
+use Rattle.stream.specs.Reading.Laws.{FoundContents}
+use Rattle.stream.specs.Reading.Numbers.{number-limit, number-length, number-append, number-front, number-behind, number-is-bytes, number-reads, number-sound, number-faults, number-there, number-missing}
 use Rattle.stream.specs.Reading.Refusals.{Faults}
 use Rattle.stream.specs.Levels.{level-limit, value-bytes, read-value, value-width}
 
+pub level-limit-is : level-limit ≡ number-limit value-width
+unfolding level-limit number-limit
+level-limit-is = refl
+
 pub value-length : (v : ℕ) (r : List ℕ) → length (value-bytes v r) ≡ value-width + length r
-unfolding value-bytes
-value-length v r = omega arith
+value-length v r = number-length value-width v r
 
-pub value-is-bytes : (v : ℕ) (r : List ℕ) → v < level-limit → Bytes r → Bytes (value-bytes v r)
-unfolding value-bytes level-limit
-value-is-bytes v r h b = bytes-cons (v / 256) (v % 256 ∷ r) (omega arith) (bytes-cons (v % 256) r (omega arith) b)
+pub value-append : (v : ℕ) (r s : List ℕ) → value-bytes v (r ++ s) ≡ value-bytes v r ++ s
+value-append v r s = number-append value-width v r s
 
-pub value-reads : (cut-short : Fault) (v : ℕ) (r : List ℕ) → read-value cut-short (value-bytes v r) ≡ read v r
-unfolding read-value value-bytes
-value-reads cut-short v r = ap₂ read (omega arith) refl
+pub value-front : (v : ℕ) (r : List ℕ) → take value-width (value-bytes v r) ≡ value-bytes v []
+value-front v r = number-front value-width v r
+
+pub value-behind : (v : ℕ) (r : List ℕ) → drop value-width (value-bytes v r) ≡ r
+value-behind v r = number-behind value-width v r
+
+pub value-is-bytes : (v : ℕ) (r : List ℕ) → Bytes r → Bytes (value-bytes v r)
+value-is-bytes v r b = number-is-bytes value-width v r b
+
+pub value-reads : (cut-short : Fault) (v : ℕ) (r : List ℕ) → v < level-limit → read-value cut-short (value-bytes v r) ≡ read v r
+value-reads cut-short v r h = number-reads cut-short value-width v r (rw level-limit-is at h)
 
 pub value-sound : (cut-short : Fault) (s : List ℕ) (v : ℕ) (r : List ℕ) → Bytes s → read-value cut-short s ≡ read v r
     → FoundContents value-bytes (λ x. x < level-limit) s v r
-unfolding read-value value-bytes level-limit
-value-sound cut-short [] v r b e = let z : _≡_ {A = ℕ} 0 1 = cc in absurd (omega arith)
-value-sound cut-short (h ∷ []) v r b e = let z : _≡_ {A = ℕ} 0 1 = cc in absurd (omega arith)
-value-sound cut-short (h ∷ l ∷ s) v r b e =
-    let n : h * 256 + l ≡ v = cc in
-    let t : s ≡ r = cc in
-    let x : v / 256 ≡ h = omega (arith, b 0, b 1) in
-    let y : v % 256 ≡ l = omega (arith, b 0, b 1) in
-    record { bytes = rw (x, y, t); within = omega (arith, b 0, b 1); rest = rw (← t) (λ i. b (suc (suc i))) }
+value-sound cut-short s v r b e =
+    let f = number-sound cut-short value-width s v r b e in
+    record { bytes = f .bytes; within = rw level-limit-is (f .within); rest = f .rest }
 
 pub value-faults : (P : Fault → Type 0) (cut-short : Fault) → P cut-short → (s : List ℕ) → Faults P (read-value cut-short s)
-unfolding read-value
-value-faults P cut-short c [] = c
-value-faults P cut-short c (h ∷ []) = c
-value-faults P cut-short c (h ∷ l ∷ s) = tt
+value-faults P cut-short c s = number-faults P cut-short c value-width s
+
+pub value-there : (cut-short : Fault) (s : List ℕ) → value-width ≤ length s → (v : ℕ) × (read-value cut-short s ≡ read v (drop value-width s))
+value-there cut-short s h = number-there cut-short value-width s h
+
+pub value-missing : (cut-short : Fault) (s : List ℕ) → length s < value-width → read-value cut-short s ≡ fault cut-short
+value-missing cut-short s h = number-missing cut-short value-width s h

@@ -1,5 +1,5 @@
 -- Reading undoes writing, and what was read is what was written: for any trees, and for sections.
-use mathlib.Core.Path.{_≡_, refl, ap, _∙_}
+use mathlib.Core.Path.{_≡_, refl, sym, ap, _∙_}
 use mathlib.Core.Bool.{Bool, true, false}
 use mathlib.Core.List.{List, [], _∷_, _++_}
 use Prim.Native.Nat.{ℕ, zero, suc, _+_, _-_, _*_, _/_, _%_, _≤_, _<_}
@@ -10,7 +10,7 @@ use lib.ListN.{length, getD, take, drop, length-append, take-append-drop}
 use lib.Seq.{getD-drop, length-take-le, take-append-seam, drop-append-seam}
 use borrow.Author.Tests.{le-leb, leb-true}
 use Rattle.stream.specs.declared.Fault.{Fault}
-use Rattle.stream.specs.Reading.{Bytes, Reading, read, fault, Result, accepted, refused, read-on, go-on, require, whole, followed-by, section-bytes, counted, section, Root, forest, only, tree, leaf, one-part, two-parts, on-one, on-two}
+use Rattle.stream.specs.Reading.{Bytes, Reading, read, fault, Result, accepted, refused, read-on, go-on, require, whole, followed-by, read-number, section-bytes, counted, section, Root, forest, only, tree, leaf, one-part, two-parts, on-one, on-two}
 
 -- A table of proofs is written `a & b & past c`.
 infixr 5 _&_
@@ -255,9 +255,9 @@ module _ {W A : Type 0} (over : Fault) (root : W → List ℕ → Reading (Root 
 module _ {A : Type 0} (cut-short left-over : Fault) (contents : List ℕ → Reading A) where
   pub section-reads : (body r : List ℕ) (a : A) → contents body ≡ read a []
       → section cut-short left-over contents (section-bytes body r) ≡ read a r
-  unfolding section section-bytes counted
+  unfolding section section-bytes counted read-number
   section-reads body r a e =
-      let n : length body / 256 * 256 + length body % 256 ≡ length body = omega arith in
+      let n : (0 * 256 + length body / 256) * 256 + length body % 256 ≡ length body = omega arith in
       let m : length body ≤ length (body ++ r) = rw (length-append body r) (omega arith) in
       ap (λ k. counted cut-short left-over contents k (body ++ r)) n
       ∙ rw (counted, le-leb _ _ m, take-append-seam body r, drop-append-seam body r, e)
@@ -280,8 +280,7 @@ module _ {A : Type 0} (cut-short left-over : Fault) (contents : List ℕ → Rea
   counted-sound n s a r e = go (leb n (length s)) refl e
     where
       go : (t : Bool) → leb n (length s) ≡ t
-          → elim t as (λ u. Reading A)
-          [ true ↦ followed-by (drop n s) (whole left-over (contents (take n s))) | false ↦ fault cut-short ] ≡ read a r
+          → followed-by (drop n s) (require t cut-short (whole left-over (contents (take n s)))) ≡ read a r
           → (n ≤ length s) × (contents (take n s) ≡ read a []) × (drop n s ≡ r)
       go false d e = let z : _≡_ {A = ℕ} 0 1 = cc in absurd (omega arith)
       go true d e =
@@ -289,12 +288,13 @@ module _ {A : Type 0} (cut-short left-over : Fault) (contents : List ℕ → Rea
           (leb-true n (length s) d, w .0, w .1)
 
   pub section-sound : (s : List ℕ) (a : A) (r : List ℕ) → Bytes s → section cut-short left-over contents s ≡ read a r → FoundSection s a r
-  unfolding section section-bytes
+  unfolding section section-bytes read-number
   section-sound [] a r b e = let z : _≡_ {A = ℕ} 0 1 = cc in absurd (omega arith)
   section-sound (h ∷ []) a r b e = let z : _≡_ {A = ℕ} 0 1 = cc in absurd (omega arith)
   section-sound (h ∷ l ∷ s) a r b e =
       let c : Bytes s = λ i. b (suc (suc i)) in
-      let w = counted-sound (h * 256 + l) s a r e in
+      let k : (0 * 256 + h) * 256 + l ≡ h * 256 + l = omega arith in
+      let w = counted-sound (h * 256 + l) s a r (sym (ap (λ n. counted cut-short left-over contents n s) k) ∙ e) in
       let n : length (take (h * 256 + l) s) ≡ h * 256 + l = length-take-le (h * 256 + l) s (w .0) in
       let x : (h * 256 + l) / 256 ≡ h = omega (arith, b 0, b 1) in
       let y : (h * 256 + l) % 256 ≡ l = omega (arith, b 0, b 1) in

@@ -7,7 +7,7 @@ use lib.Dec.{leb, eqb}
 use lib.ListN.{length, take, drop}
 use Rattle.stream.specs.declared.Fault.{Fault}
 use Rattle.stream.specs.Faults.{number, contains, Listed}
-use Rattle.stream.specs.Reading.{Reading, read, fault, Result, accepted, refused, read-on, go-on, require, whole, followed-by, counted, section, Root, forest, only, tree}
+use Rattle.stream.specs.Reading.{Reading, read, fault, Result, accepted, refused, read-on, go-on, require, whole, followed-by, read-number, counted, section, Root, forest, only, tree}
 
 -- Every fault has the property P.
 module _ (P : Fault → Type 0) where
@@ -44,17 +44,13 @@ module _ (P : Fault → Type 0) where
     counted-faults : P cut-short → P left-over → ((s : List ℕ) → Faults (contents s)) → (n : ℕ) (s : List ℕ)
         → Faults (counted cut-short left-over contents n s)
     unfolding counted
-    counted-faults c o k n s = go (leb n (length s))
-      where
-        go : (t : Bool)
-            → Faults {A = A} (elim t as (λ u. Reading A)
-            [ true ↦ followed-by (drop n s) (whole left-over (contents (take n s))) | false ↦ fault cut-short ])
-        go true = followed-by-faults (drop n s) (whole left-over (contents (take n s))) (whole-refusals left-over (contents (take n s)) o (k (take n s)))
-        go false = c
+    counted-faults c o k n s =
+        followed-by-faults (drop n s) _
+        (require-refusals (leb n (length s)) cut-short _ c (whole-refusals left-over (contents (take n s)) o (k (take n s))))
 
     pub section-faults : P cut-short → P left-over → ((s : List ℕ) → Faults (contents s)) → (s : List ℕ)
         → Faults (section cut-short left-over contents s)
-    unfolding section
+    unfolding section read-number
     section-faults c o k [] = c
     section-faults c o k (h ∷ []) = c
     section-faults c o k (h ∷ l ∷ s) = counted-faults c o k _ s

@@ -1,12 +1,12 @@
 -- Reading one root at a time, and sections by their counts: what a loop over the bytes is held to.
-use mathlib.Core.Path.{_≡_, refl, _∙_}
+use mathlib.Core.Path.{_≡_, refl, ap, _∙_}
 use mathlib.Core.List.{List, [], _∷_, _++_}
 use Prim.Native.Nat.{ℕ, zero, suc, _+_, _-_, _*_, _≤_, _<_}
 use native.Mathlib.Omega.{arith}
 use lib.ListN.{length, getD, take, drop, replicate, length-append, replicate-append-replicate}
 use borrow.Author.Tests.{le-leb, lt-leb}
 use Rattle.stream.specs.declared.Fault.{Fault}
-use Rattle.stream.specs.Reading.{Reading, read, fault, read-on, whole, followed-by, counted, section, Root, forest, only, tree, leaf, one-part, two-parts, on-one, on-two}
+use Rattle.stream.specs.Reading.{Reading, read, fault, read-on, whole, followed-by, read-number, counted, section, Root, forest, only, tree, leaf, one-part, two-parts, on-one, on-two}
 use Rattle.stream.specs.Reading.Laws.{none-owed}
 
 -- The bytes after what was read, or the fault: all that a loop knows of trees that it does not build.
@@ -143,23 +143,24 @@ body s = take (count s) (drop 2 s)
 
 module _ {A : Type 0} (cut-short left-over : Fault) (contents : List ℕ → Reading A) where
   pub no-count : (s : List ℕ) → length s < 2 → section cut-short left-over contents s ≡ fault cut-short
-  unfolding section
+  unfolding section read-number
   no-count [] h = refl
   no-count (a ∷ []) h = refl
   no-count (a ∷ b ∷ s) h = absurd (omega arith)
 
   pub body-short : (s : List ℕ) → length s - 2 < count s → section cut-short left-over contents s ≡ fault cut-short
-  unfolding section counted
+  unfolding section counted read-number
   body-short [] h = refl
   body-short (a ∷ []) h = refl
-  body-short (a ∷ b ∷ s) h = let e : length s < a * 256 + b = omega arith in rw (counted, lt-leb _ _ e)
+  body-short (a ∷ b ∷ s) h = let e : length s < (0 * 256 + a) * 256 + b = omega arith in rw (counted, lt-leb _ _ e)
 
   pub body-whole : (s : List ℕ) → 2 ≤ length s → count s ≤ length s - 2
       → section cut-short left-over contents s ≡ followed-by (drop (2 + count s) s) (whole left-over (contents (body s)))
-  unfolding section counted
+  unfolding section counted read-number
   body-whole [] two h = absurd (omega arith)
   body-whole (a ∷ []) two h = absurd (omega arith)
   body-whole (a ∷ b ∷ s) two h =
+      let n : (0 * 256 + a) * 256 + b ≡ a * 256 + b = omega arith in
       let e : a * 256 + b ≤ length s = omega arith in
       let f : 2 + (a * 256 + b) ≡ suc (suc (a * 256 + b)) = omega arith in
-      rw (counted, le-leb _ _ e, f)
+      ap (λ k. counted cut-short left-over contents k s) n ∙ rw (counted, le-leb _ _ e, f)

@@ -97,7 +97,7 @@ prefix-is-bytes r of-empty b = bytes-cons 0 r (omega arith) b
 prefix-is-bytes r of-cue-awaited b = bytes-cons 1 r (omega arith) b
 prefix-is-bytes r of-cue-come b = bytes-cons 2 r (omega arith) b
 prefix-is-bytes r of-level-awaited b = bytes-cons 3 r (omega arith) b
-prefix-is-bytes r (of-level-come {v = v} h) b = bytes-cons 4 (value-bytes v r) (omega arith) (value-is-bytes v r h b)
+prefix-is-bytes r (of-level-come {v = v} h) b = bytes-cons 4 (value-bytes v r) (omega arith) (value-is-bytes v r b)
 prefix-is-bytes r (of-first {p = p} h) b = bytes-cons 5 (prefix-bytes p r) (omega arith) (prefix-is-bytes r h b)
 prefix-is-bytes r (of-crossed {b = x} {q = q} h c k) b =
     bytes-cons 6 (prefix-bytes x (prefix-bytes q r)) (omega arith) (prefix-is-bytes (prefix-bytes q r) h (prefix-is-bytes r k b))
@@ -120,7 +120,7 @@ reads false of-cue-awaited w = reads-leaf slice-over prefix-root _ (λ s. refl)
 reads c of-cue-come w = reads-leaf slice-over prefix-root _ (λ s. refl)
 reads true of-level-awaited w = elim (w refl) [ ]
 reads false of-level-awaited w = reads-leaf slice-over prefix-root _ (λ s. refl)
-reads c (of-level-come {v = v} h) w = reads-leaf slice-over prefix-root _ (λ s. rw (value-reads SliceCutShort v s))
+reads c (of-level-come {v = v} h) w = reads-leaf slice-over prefix-root _ (λ s. rw (value-reads SliceCutShort v s h))
 reads true (of-first h) w = elim (w refl) [ ]
 reads false (of-first h) w = reads-one slice-over prefix-root in-first _ (λ s. refl) (reads false h (λ e. absurd (false≢true e)))
 reads c (of-crossed h d k) w =

@@ -1,11 +1,11 @@
 -- `type_leaf` meets its contract: each kind without parts gives what the function for it writes (`TypingLeaf`).
 use borrow.Author.Needs.{needs}
-use mathlib.Core.Path.{_≡_, refl}
-use Prim.Native.Nat.{ℕ}
+use mathlib.Core.Path.{_≡_, refl, ap}
+use Prim.Native.Nat.{ℕ, suc}
 use native.Mathlib.Omega.{arith}
 use lib.ListN.{getD}
 use Rattle.stream.specs.Types.{cue, level, size, type-limit}
-use Rattle.stream.specs.Levels.{value-bytes}
+use Rattle.stream.specs.Levels.Laws.{value-length}
 use Rattle.stream.specs.TypeFiles.{type-bytes}
 use Rattle.node.specs.Checking.{typing}
 use Rattle.node.specs.PatchFiles.{node-bytes}
@@ -92,8 +92,8 @@ same-length-4 : tie.Need-same-length-4
 same-length-4 c = search needs
 
 returns-4 : tie.Need-returns-4
-unfolding typing node-bytes value-bytes type-bytes size type-limit
-returns-4 c = emitter-typed 3 level (c .before .before .before .before .match .keys4) (λ v. (refl, λ t. refl)) (omega arith) (c .before .before .append-kind2 .ensures)
+unfolding typing node-bytes type-bytes size type-limit
+returns-4 c = emitter-typed 3 level (c .before .before .before .before .match .keys4) (λ v. (ap suc (value-length v []), λ t. refl)) (omega arith) (c .before .before .append-kind2 .ensures)
 
 same-length-5 : tie.Need-same-length-5
 same-length-5 c = search needs
