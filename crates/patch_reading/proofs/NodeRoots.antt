@@ -3,7 +3,7 @@ use mathlib.Core.Path.{_≡_, refl, sym, ap, _∙_}
 use mathlib.Core.Logic.{⊎-elim}
 use mathlib.Core.List.{List, [], _∷_}
 use Prim.Native.Nat.{ℕ, _+_, _-_, _≤_, _<_}
-use native.Mathlib.Omega.{arith, le-or-lt}
+use native.Mathlib.Omega.{arith}
 use native.Mathlib.Numerals.{add-one}
 use lib.ListN.{length, getD, drop, length-drop, drop-of-length-le, List·getD-eq-default}
 use lib.Seq.{drop-cons, drop-drop}
@@ -16,6 +16,7 @@ use Rattle.stream.specs.Levels.{value-width, read-value}
 use Rattle.stream.specs.Levels.Laws.{value-length, value-behind, value-sound, value-there, value-missing}
 use Rattle.stream.specs.Reading.{Bytes, Reading, read, fault, read-on, Root, leaf, two-parts}
 use Rattle.stream.specs.Reading.Laws.{_&_, past, every, bytes-drop}
+use Rattle.stream.specs.Reading.Numbers.{long-or-short}
 use Rattle.stream.specs.Reading.Walking.{Owes, MakesOne, leaf-makes, two-makes}
 use Rattle.stream.specs.TypeFiles.{read-type}
 use Rattle.stream.specs.TypeFiles.Laws.{type-length, read-type-sound}
@@ -102,7 +103,7 @@ within-after k s (fault e) make h = tt
 value-within : (s : List ℕ) → Within s (read-value CutShort s)
 value-within s =
     ⊎-elim (λ h. rw (value-there CutShort s h .1) (omega (arith, length-drop value-width s))) (λ h. rw (value-missing CutShort s h) tt)
-    (le-or-lt value-width (length s))
+    (long-or-short value-width s)
 
 within : {k parts : ℕ} {f : ReadsRoot} → Shape k parts f → (s : List ℕ) → Within (k ∷ s) (f s)
 within (plain n) s = omega arith

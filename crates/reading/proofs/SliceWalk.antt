@@ -4,7 +4,7 @@ use mathlib.Core.Bool.{Bool, true, false, not}
 use mathlib.Core.Logic.{⊎-elim}
 use mathlib.Core.List.{List, [], _∷_}
 use Prim.Native.Nat.{ℕ, zero, suc, _+_, _-_, _/_, _≤_, _<_, min}
-use native.Mathlib.Omega.{arith, le-or-lt}
+use native.Mathlib.Omega.{arith}
 use native.Mathlib.Numerals.{add-one}
 use lib.Dec.{eqb}
 use lib.ListN.{length, getD, drop, length-drop, drop-of-length-le}
@@ -24,6 +24,7 @@ use Rattle.stream.specs.Prefixes.Functions.{complete}
 use Rattle.stream.specs.Prefixes.Laws.{derivative-size}
 use Rattle.stream.specs.Reading.{Bytes, Reading, read, fault, read-on, Root, leaf}
 use Rattle.stream.specs.Reading.Laws.{bytes-drop}
+use Rattle.stream.specs.Reading.Numbers.{long-or-short}
 use Rattle.reading.specs.TypeReads.{TypeAt, TypeEnds}
 use Rattle.reading.specs.TypeReads.Laws.{kind-at, fork-size, leaf-size, first-at, second-at, same-type}
 use Rattle.stream.specs.SliceFiles.{Owed, owed, belongs, prefix-root, prefix-bytes}
@@ -53,7 +54,7 @@ module _ (t : Ty) (c : Bool) (small : size t ≤ type-limit) (alone : size t ≡
   level-read : (r : List ℕ) → n ≡ from + 1 + length r → prefix-root (owed t c) s ≡ kind-root 4 t c r
       → leaf-walked end n from 4 ≡ walked t end n (read-owed (owed t c) s)
   unfolding complete derivative overlap size walked
-  level-read r l e = ⊎-elim there short (le-or-lt value-width (length r))
+  level-read r l e = ⊎-elim there short (long-or-short value-width r)
     where
       there : value-width ≤ length r → leaf-walked end n from 4 ≡ walked t end n (read-owed (owed t c) s)
       there h =

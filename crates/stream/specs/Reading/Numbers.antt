@@ -1,11 +1,14 @@
 -- Numbers of any width: how many bytes they take, that these are bytes, and that a number is read as it was written.
 use mathlib.Core.Path.{_≡_, refl, ap, ap₂, _∙_}
-use mathlib.Core.Logic.{⊎-elim}
+use mathlib.Core.Logic.{_⊎_, inl, inr, ⊎-elim}
+use mathlib.Core.Bool.{Bool, true, false}
 use mathlib.Core.List.{List, [], _∷_, _++_}
 use Prim.Native.Nat.{ℕ, zero, suc, _+_, _*_, _/_, _%_, _≤_, _<_}
-use native.Mathlib.Omega.{arith, le-or-lt}
+use native.Mathlib.Omega.{arith}
+use lib.Dec.{leb}
 use lib.ListN.{length, getD, take, drop, drop-of-length-le}
 use lib.Seq.{drop-cons, take-at, drop-at}
+use borrow.Author.Tests.{leb-true, leb-false}
 use Rattle.stream.specs.declared.Fault.{Fault}
 use Rattle.stream.specs.Reading.{Bytes, Reading, read, fault, read-on, next-byte, number-bytes, read-number}
 use Rattle.stream.specs.Reading.Laws.{bytes-cons, bytes-tail, read-on-read, FoundContents}
@@ -89,6 +92,13 @@ number-faults P cut-short c (suc w) s = read-on-faults P (read-number cut-short 
 
 -- Whether a number is there is a matter of lengths alone: all that a loop over the bytes asks.
 
+pub long-or-short : (w : ℕ) (s : List ℕ) → (w ≤ length s) ⊎ (length s < w)
+long-or-short w s = go (leb w (length s)) refl
+  where
+    go : (b : Bool) → leb w (length s) ≡ b → (w ≤ length s) ⊎ (length s < w)
+    go true e = inl (leb-true w (length s) e)
+    go false e = inr (leb-false w (length s) e)
+
 pub number-there : (cut-short : Fault) (w : ℕ) (s : List ℕ) → w ≤ length s → (v : ℕ) × (read-number cut-short w s ≡ read v (drop w s))
 unfolding read-number
 number-there cut-short zero s h = (0, refl)
@@ -99,7 +109,7 @@ number-there cut-short (suc w) s h =
 pub number-missing : (cut-short : Fault) (w : ℕ) (s : List ℕ) → length s < w → read-number cut-short w s ≡ fault cut-short
 unfolding read-number
 number-missing cut-short zero s h = absurd (omega arith)
-number-missing cut-short (suc w) s h = ⊎-elim last earlier (le-or-lt w (length s))
+number-missing cut-short (suc w) s h = ⊎-elim last earlier (long-or-short w s)
   where
     last : w ≤ length s → read-on (read-number cut-short w s) (low-byte cut-short) ≡ fault cut-short
     last k =

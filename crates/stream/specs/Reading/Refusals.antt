@@ -45,8 +45,9 @@ module _ (P : Fault → Type 0) where
         → Faults (counted cut-short left-over contents n s)
     unfolding counted
     counted-faults c o k n s =
-        followed-by-faults (drop n s) _
-        (require-refusals (leb n (length s)) cut-short _ c (whole-refusals left-over (contents (take n s)) o (k (take n s))))
+        let inside = whole left-over (contents (take n s)) in
+        followed-by-faults (drop n s) (require (leb n (length s)) cut-short inside)
+        (require-refusals (leb n (length s)) cut-short inside c (whole-refusals left-over (contents (take n s)) o (k (take n s))))
 
     pub section-faults : P cut-short → P left-over → ((s : List ℕ) → Faults (contents s)) → (s : List ℕ)
         → Faults (section cut-short left-over contents s)
