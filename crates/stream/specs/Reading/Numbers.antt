@@ -109,13 +109,11 @@ number-there cut-short (suc w) s h =
 pub number-missing : (cut-short : Fault) (w : ℕ) (s : List ℕ) → length s < w → read-number cut-short w s ≡ fault cut-short
 unfolding read-number
 number-missing cut-short zero s h = absurd (omega arith)
-number-missing cut-short (suc w) s h = ⊎-elim last earlier (long-or-short w s)
+number-missing cut-short (suc w) s h =
+    ⊎-elim last (λ k. ap (λ g. read-on g (low-byte cut-short)) (number-missing cut-short w s k)) (long-or-short w s)
   where
     last : w ≤ length s → read-on (read-number cut-short w s) (low-byte cut-short) ≡ fault cut-short
     last k =
         let high = number-there cut-short w s k in
         let none : length s ≤ w = omega arith in
         ap (λ g. read-on g (low-byte cut-short)) (high .1) ∙ ap (low-byte cut-short (high .0)) (drop-of-length-le s none)
-
-    earlier : length s < w → read-on (read-number cut-short w s) (low-byte cut-short) ≡ fault cut-short
-    earlier k = ap (λ g. read-on g (low-byte cut-short)) (number-missing cut-short w s k)
