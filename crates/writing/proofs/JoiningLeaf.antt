@@ -1,106 +1,76 @@
 -- The join of two prefixes of which the first is a leaf, in their bytes: one of the two is copied.
-use mathlib.Core.Path.{_≡_, refl}
-use mathlib.Core.Bool.{true, false, false≢true, true≢false}
+use mathlib.Core.Path.{_≡_}
+use mathlib.Core.Bool.{true, false}
 use mathlib.Core.List.{List, []}
-use Prim.Native.Nat.{ℕ, _+_, _<_}
+use Prim.Native.Nat.{ℕ, _+_, _≤_, _<_}
 use native.Mathlib.Omega.{arith}
 use lib.ListN.{getD}
-use Rattle.stream.specs.Types.{Ty}
-use Rattle.stream.specs.Prefixes.{Prefix, nothing, cue-awaited, cue-come, level-awaited, level-come, in-first, crossed, beside, IsPrefix, of-empty, of-cue-awaited, of-cue-come, of-level-awaited, of-level-come, of-first, of-crossed, of-beside, derivative}
 use Rattle.stream.specs.Prefixes.Functions.{concat}
-use Rattle.stream.specs.Prefixes.Kinds.{prefix-kind}
+use Rattle.stream.specs.Prefixes.Kinds.{prefix-arity}
 use Rattle.reading.specs.SliceReads.{prefix-width, is-unfinished}
 use Rattle.reading.specs.SliceReads.Laws.{prefix-bytes-length, kind-at}
 use Rattle.writing.specs.Writing.{PrefixDue, PrefixWritten, ConcatDue, LeafConcatDue, ConcatWritten}
+use Rattle.writing.proofs.PrefixKinds.{leaf-kind, kind-listed, Awaited, awaited, Come, come, empty-wide}
 
--- A leaf still awaited gives way to the second prefix; after one that has come there is nothing left but the empty type.
+module _ {first second : List ℕ} {first-place second-place : ℕ} {lent : List ℕ} where
+  module _ (leaf : prefix-arity (getD first first-place 0) ≡ 0) where
+    -- A leaf still awaited gives way to the second prefix.
+    module _ (unfinished : is-unfinished (getD first first-place 0) ≡ true) where
+      is-awaited : (due : ConcatDue first first-place second second-place lent) → Awaited (due .one)
+      is-awaited due =
+          let k = kind-at (due .follows .first-at) in
+          awaited (due .one) (rw k at leaf) (rw k at unfinished)
 
-gives-way : (p q : Prefix) → prefix-kind p < 5 → is-unfinished (prefix-kind p) ≡ true → (prefix-width p ≡ 1) × (concat p q ≡ q)
-unfolding prefix-width concat
-gives-way nothing q h u = absurd (false≢true u)
-gives-way cue-awaited q h u = (refl, refl)
-gives-way cue-come q h u = absurd (false≢true u)
-gives-way level-awaited q h u = (refl, refl)
-gives-way (level-come v) q h u = absurd (false≢true u)
-gives-way (in-first p) q h u = absurd (omega arith)
-gives-way (crossed b p) q h u = absurd (omega arith)
-gives-way (beside p r) q h u = absurd (omega arith)
+      pub awaited-due : ConcatDue first first-place second second-place lent → PrefixDue second second-place lent
+      awaited-due due =
+          record { prefix = due .other; stands = due .follows .second-at; room = rw (is-awaited due .gives-way (due .other)) at (due .room) }
 
-stays : {t : Ty} {p : Prefix} (q : Prefix) → IsPrefix t p → IsPrefix (derivative t p) q → prefix-kind p < 5
-    → is-unfinished (prefix-kind p) ≡ false → (prefix-width q ≡ 1) × (concat p q ≡ p)
-unfolding prefix-width concat derivative
-stays q of-empty of-empty h u = (refl, refl)
-stays q of-cue-awaited k h u = absurd (true≢false u)
-stays q of-cue-come of-empty h u = (refl, refl)
-stays q of-level-awaited k h u = absurd (true≢false u)
-stays q (of-level-come v) of-empty h u = (refl, refl)
-stays q (of-first i) k h u = absurd (omega arith)
-stays q (of-crossed i d j) k h u = absurd (omega arith)
-stays q (of-beside i j) k h u = absurd (omega arith)
+      pub awaited-written : {lent-after : List ℕ} {written : ℕ} → PrefixWritten second second-place lent lent-after written
+          → ConcatWritten first first-place second second-place lent lent-after (record { first = first-place + 1; second = second-place + written; written = written })
+      unfolding awaited-due
+      awaited-written done =
+          record {
+            each = λ due.
+                let w = is-awaited due in
+                let d = done .each (awaited-due due) in
+                record {
+                  first = omega (arith, w .wide);
+                  second = omega (arith, d .0);
+                  written = rw (w .gives-way (due .other)) (omega (arith, d .0, prefix-bytes-length (due .other) []));
+                  buffer = rw (w .gives-way (due .other)) (d .1);
+                };
+          }
 
-module _ {first second : List ℕ} {at from : ℕ} {lent : List ℕ} (leaf : getD first at 0 < 5) where
-  module _ (awaited : is-unfinished (getD first at 0) ≡ true) where
-    way : (due : ConcatDue first at second from lent) → (prefix-width (due .one) ≡ 1) × (concat (due .one) (due .other) ≡ due .other)
-    way due =
-        let k = kind-at (due .follows .first-at) in
-        gives-way (due .one) (due .other) (omega arith) (rw k at awaited)
+    -- After one that has come there is nothing left but the empty type.
+    module _ (finished : is-unfinished (getD first first-place 0) ≡ false) where
+      is-come : (due : ConcatDue first first-place second second-place lent) → Come (due .type) (due .one)
+      is-come due =
+          let k = kind-at (due .follows .first-at) in
+          come (due .follows .is-first) (rw k at leaf) (rw k at finished)
 
-    pub awaited-due : ConcatDue first at second from lent → PrefixDue second from lent
-    awaited-due due =
-        record { prefix = due .other; stands = due .follows .second-at; room = rw (way due .1) at (due .room) }
+      pub come-due : ConcatDue first first-place second second-place lent → PrefixDue first first-place lent
+      come-due due =
+          record { prefix = due .one; stands = due .follows .first-at; room = rw (is-come due .stays (due .other)) at (due .room) }
 
-    pub awaited-written : {lent-after : List ℕ} {written : ℕ} → PrefixWritten second from lent lent-after written
-        → ConcatWritten first at second from lent lent-after (record { first = at + 1; second = from + written; written = written })
-    unfolding awaited-due
-    awaited-written done =
-        record {
-          each = λ due.
-              let w = way due in
-              let d = done .each (awaited-due due) in
-              record {
-                first = omega arith;
-                second = omega (arith, d .0);
-                written = rw (w .1) (omega (arith, d .0, prefix-bytes-length (due .other) []));
-                buffer = rw (w .1) (d .1);
-              };
-        }
+      pub come-written : {lent-after : List ℕ} {written : ℕ} → PrefixWritten first first-place lent lent-after written
+          → ConcatWritten first first-place second second-place lent lent-after (record { first = first-place + written; second = second-place + 1; written = written })
+      unfolding come-due
+      come-written done =
+          record {
+            each = λ due.
+                let w = is-come due in
+                let d = done .each (come-due due) in
+                record {
+                  first = omega (arith, d .0);
+                  second = omega (arith, empty-wide (rw (w .leaves) at (due .follows .is-second)));
+                  written = rw (w .stays (due .other)) (omega (arith, d .0, prefix-bytes-length (due .one) []));
+                  buffer = rw (w .stays (due .other)) (d .1);
+                };
+          }
 
-  module _ (come : is-unfinished (getD first at 0) ≡ false) where
-    stay : (due : ConcatDue first at second from lent) → (prefix-width (due .other) ≡ 1) × (concat (due .one) (due .other) ≡ due .one)
-    stay due =
-        let k = kind-at (due .follows .first-at) in
-        stays (due .other) (due .follows .is-first) (due .follows .is-second) (omega arith) (rw k at come)
+  pub leaf-due : getD first first-place 0 < 5 → ConcatDue first first-place second second-place lent → LeafConcatDue first first-place second second-place lent
+  leaf-due h due = record { due = due; leaf = leaf-kind _ h }
 
-    pub come-due : ConcatDue first at second from lent → PrefixDue first at lent
-    come-due due = record { prefix = due .one; stands = due .follows .first-at; room = rw (stay due .1) at (due .room) }
-
-    pub come-written : {lent-after : List ℕ} {written : ℕ} → PrefixWritten first at lent lent-after written
-        → ConcatWritten first at second from lent lent-after (record { first = at + written; second = from + 1; written = written })
-    unfolding come-due
-    come-written done =
-        record {
-          each = λ due.
-              let w = stay due in
-              let d = done .each (come-due due) in
-              record {
-                first = omega (arith, d .0);
-                second = omega arith;
-                written = rw (w .1) (omega (arith, d .0, prefix-bytes-length (due .one) []));
-                buffer = rw (w .1) (d .1);
-              };
-        }
-
--- A first prefix of another kind than 5, 6 and 7 is a leaf.
-kind-listed : (p : Prefix) → prefix-kind p < 8
-kind-listed nothing = omega arith
-kind-listed cue-awaited = omega arith
-kind-listed cue-come = omega arith
-kind-listed level-awaited = omega arith
-kind-listed (level-come v) = omega arith
-kind-listed (in-first p) = omega arith
-kind-listed (crossed b q) = omega arith
-kind-listed (beside p q) = omega arith
-
-pub leaf-due : {first second : List ℕ} {at from : ℕ} {lent : List ℕ} → ConcatDue first at second from lent
-    → (getD first at 0 ≡ 5 → ⊥) → (getD first at 0 ≡ 6 → ⊥) → (getD first at 0 ≡ 7 → ⊥) → LeafConcatDue first at second from lent
-leaf-due due f g h = record { due = due; leaf = omega (arith, kind-at (due .follows .first-at), kind-listed (due .one)) }
+  -- A kind above 7 does not stand there.
+  pub unlisted : 8 ≤ getD first first-place 0 → ConcatDue first first-place second second-place lent → ⊥
+  unlisted h due = omega (arith, kind-at (due .follows .first-at), kind-listed (due .one))

@@ -8,6 +8,7 @@ use Rattle.writing.specs.declared.Moved.{Moved}
 use Rattle.stream.specs.Types.{Ty}
 use Rattle.stream.specs.Prefixes.{Prefix, in-first, crossed, beside, IsPrefix, of-empty, of-cue-awaited, of-cue-come, of-level-awaited, of-level-come, of-first, of-crossed, of-beside, derivative}
 use Rattle.stream.specs.Prefixes.Functions.{concat}
+use Rattle.stream.specs.Prefixes.Kinds.{prefix-arity}
 use Rattle.stream.specs.SliceFiles.{prefix-bytes}
 use Rattle.reading.specs.SliceReads.{prefix-width, PrefixAt}
 use Rattle.reading.specs.SliceReads.Laws.{prefix-bytes-length, width-positive, prefix-before, prefix-inside, kind-at, in-first-at, crossed-first-at, crossed-second-at, beside-first-at, beside-second-at}
@@ -15,30 +16,30 @@ use Rattle.writing.specs.Writing.{PrefixDue, PrefixWritten, Moves, Follo
 use Rattle.writing.specs.Writing.Laws.{part, back, front-length, begins, goes-on, room-left, length-kept}
 
 -- How two prefixes meet, if the first has parts.
-data Meets (first : List ℕ) (at : ℕ) (second : List ℕ) (from : ℕ) : Prefix → Prefix → Type 0 where
-  coming : {t : Ty} {p q : Prefix} → getD first at 0 ≡ 5 → getD second from 0 ≡ 5
-      → Follows first (at + 1) second (from + 1) t p q → Meets first at second from (in-first p) (in-first q)
-  crossing : {t : Ty} {p q r : Prefix} → getD first at 0 ≡ 5 → getD second from 0 ≡ 6
-      → Follows first (at + 1) second (from + 1) t p q
-      → ((end : ℕ) → end ≡ from + 1 + prefix-width q → PrefixAt second end r) → Meets first at second from (in-first p) (crossed q r)
-  behind : {t : Ty} {b p q : Prefix} → getD first at 0 ≡ 6 → PrefixAt first (at + 1) b
-      → ((end : ℕ) → end ≡ at + 1 + prefix-width b → Follows first end second from t p q) → Meets first at second from (crossed b p) q
-  aside : {s t : Ty} {p q r u : Prefix} → getD first at 0 ≡ 7 → Follows first (at + 1) second (from + 1) s p r
-      → ((first-end second-end : ℕ) → first-end ≡ at + 1 + prefix-width p → second-end ≡ from + 1 + prefix-width r
-      → Follows first first-end second second-end t q u) → Meets first at second from (beside p q) (beside r u)
+data Meets (first : List ℕ) (first-place : ℕ) (second : List ℕ) (second-place : ℕ) : Prefix → Prefix → Type 0 where
+  coming : {t : Ty} {p q : Prefix} → getD first first-place 0 ≡ 5 → getD second second-place 0 ≡ 5
+      → Follows first (first-place + 1) second (second-place + 1) t p q → Meets first first-place second second-place (in-first p) (in-first q)
+  crossing : {t : Ty} {p q r : Prefix} → getD first first-place 0 ≡ 5 → getD second second-place 0 ≡ 6
+      → Follows first (first-place + 1) second (second-place + 1) t p q
+      → ((end : ℕ) → end ≡ second-place + 1 + prefix-width q → PrefixAt second end r) → Meets first first-place second second-place (in-first p) (crossed q r)
+  behind : {t : Ty} {b p q : Prefix} → getD first first-place 0 ≡ 6 → PrefixAt first (first-place + 1) b
+      → ((end : ℕ) → end ≡ first-place + 1 + prefix-width b → Follows first end second second-place t p q) → Meets first first-place second second-place (crossed b p) q
+  aside : {s t : Ty} {p q r u : Prefix} → getD first first-place 0 ≡ 7 → Follows first (first-place + 1) second (second-place + 1) s p r
+      → ((first-end second-end : ℕ) → first-end ≡ first-place + 1 + prefix-width p → second-end ≡ second-place + 1 + prefix-width r
+      → Follows first first-end second second-end t q u) → Meets first first-place second second-place (beside p q) (beside r u)
 
-meets : {first second : List ℕ} {at from : ℕ} {t : Ty} {one other : Prefix} → Follows first at second from t one other
-    → 5 ≤ getD first at 0 → Meets first at second from one other
+meets : {first second : List ℕ} {first-place second-place : ℕ} {t : Ty} {one other : Prefix} → Follows first first-place second second-place t one other
+    → 0 < prefix-arity (getD first first-place 0) → Meets first first-place second second-place one other
 unfolding derivative
-meets {first} {second} {at} {from} f h = go (f .is-first) (f .is-second) (f .first-at) (f .second-at)
+meets {first} {second} {first-place} {second-place} f h = go (f .is-first) (f .is-second) (f .first-at) (f .second-at)
   where
-    go : {t : Ty} {p q : Prefix} → IsPrefix t p → IsPrefix (derivative t p) q → PrefixAt first at p → PrefixAt second from q
-        → Meets first at second from p q
-    go of-empty k x y = absurd (omega (arith, kind-at x))
-    go of-cue-awaited k x y = absurd (omega (arith, kind-at x))
-    go of-cue-come k x y = absurd (omega (arith, kind-at x))
-    go of-level-awaited k x y = absurd (omega (arith, kind-at x))
-    go (of-level-come v) k x y = absurd (omega (arith, kind-at x))
+    go : {t : Ty} {p q : Prefix} → IsPrefix t p → IsPrefix (derivative t p) q → PrefixAt first first-place p → PrefixAt second second-place q
+        → Meets first first-place second second-place p q
+    go of-empty k x y = absurd (omega (arith, rw (kind-at x) at h))
+    go of-cue-awaited k x y = absurd (omega (arith, rw (kind-at x) at h))
+    go of-cue-come k x y = absurd (omega (arith, rw (kind-at x) at h))
+    go of-level-awaited k x y = absurd (omega (arith, rw (kind-at x) at h))
+    go (of-level-come v) k x y = absurd (omega (arith, rw (kind-at x) at h))
     go (of-first i) (of-first k) x y =
         coming (kind-at x) (kind-at y)
         (record { first-at = in-first-at x; second-at = in-first-at y; is-first = i; is-second = k })
@@ -59,19 +60,20 @@ kind-and-parts : {k j : ℕ} (p q : Prefix) → k ≡ j → (k ∷ prefix-bytes 
 kind-and-parts p q e = ap₂ _∷_ e (sym (prefix-before p (prefix-bytes q [])))
 
 -- What is known of a join that was written.
-pub record Settled (second lent lent-after : List ℕ) (moved : Moved) : Type 0 where
+pub record Settled (first second lent lent-after : List ℕ) (moved : Moved) : Type 0 where
+  pub first-inside : moved .first ≤ length first
   pub second-inside : moved .second ≤ length second
   pub within : moved .written ≤ length lent
   pub kept : length lent-after ≡ length lent
 
 -- Both prefixes have a byte where they stand, and there is room for one.
-pub record Inside (first : List ℕ) (at : ℕ) (second : List ℕ) (from : ℕ) (lent : List ℕ) : Type 0 where
-  pub first-there : at < length first
-  pub second-there : from < length second
+pub record Inside (first : List ℕ) (first-place : ℕ) (second : List ℕ) (second-place : ℕ) (lent : List ℕ) : Type 0 where
+  pub first-there : first-place < length first
+  pub second-there : second-place < length second
   pub some : 0 < length lent
 
-module _ (first : List ℕ) (at : ℕ) (second : List ℕ) (from : ℕ) (lent : List ℕ) where
-  pub inside : ConcatDue first at second from lent → Inside first at second from lent
+module _ (first : List ℕ) (first-place : ℕ) (second : List ℕ) (second-place : ℕ) (lent : List ℕ) where
+  pub inside : ConcatDue first first-place second second-place lent → Inside first first-place second second-place lent
   inside due =
       record {
         first-there = omega (arith, prefix-inside (due .follows .first-at), width-positive (due .one));
@@ -79,12 +81,13 @@ module _ (first : List ℕ) (at : ℕ) (second : List ℕ) (from : ℕ) (lent : 
         some = omega (arith, due .room, width-positive (concat (due .one) (due .other)));
       }
 
-  pub settled : {after : List ℕ} {m : Moved} → ConcatDue first at second from lent → ConcatWritten first at second from lent after m
-      → Settled second lent after m
+  pub settled : {after : List ℕ} {m : Moved} → ConcatDue first first-place second second-place lent → ConcatWritten first first-place second second-place lent after m
+      → Settled first second lent after m
   settled due done =
       let d = done .each due in
       let n = prefix-bytes-length (concat (due .one) (due .other)) [] in
       record {
+        first-inside = omega (arith, d .first, prefix-inside (due .follows .first-at));
         second-inside = omega (arith, d .second, prefix-inside (due .follows .second-at));
         within = omega (arith, d .written, due .room);
         kept = ap length (d .buffer) ∙ front-length (prefix-bytes (concat (due .one) (due .other)) []) lent (omega (arith, due .room));
@@ -96,29 +99,29 @@ module _ (first : List ℕ) (at : ℕ) (second : List ℕ) (from : ℕ) (lent : 
 
   -- The first parts are joined behind a kind byte k.
   module _ (k : ℕ) where
-    abbrev first-due : {t : Ty} {p q : Prefix} → Follows first (at + 1) second (from + 1) t p q → prefix-width (concat p q) < length lent
-        → ConcatDue first (at + 1) second (from + 1) (part 1 (set lent 0 k))
+    abbrev first-due : {t : Ty} {p q : Prefix} → Follows first (first-place + 1) second (second-place + 1) t p q → prefix-width (concat p q) < length lent
+        → ConcatDue first (first-place + 1) second (second-place + 1) (part 1 (set lent 0 k))
     first-due {t} {p} {q} f h =
         record { type = t; one = p; other = q; follows = f; room = omega (arith, room-left (begins {lent = lent} k (omega arith))) }
 
-    pub joins-first : ConcatDue first at second from lent → 5 ≤ getD first at 0 → (getD first at 0 ≡ 6 → ⊥)
-        → ConcatDue first (at + 1) second (from + 1) (part 1 (set lent 0 k))
+    pub joins-first : ConcatDue first first-place second second-place lent → 0 < prefix-arity (getD first first-place 0) → (getD first first-place 0 ≡ 6 → ⊥)
+        → ConcatDue first (first-place + 1) second (second-place + 1) (part 1 (set lent 0 k))
     unfolding prefix-width concat
     joins-first due h n = go (meets (due .follows) h) (due .room)
       where
-        go : {p q : Prefix} → Meets first at second from p q → prefix-width (concat p q) ≤ length lent
-            → ConcatDue first (at + 1) second (from + 1) (part 1 (set lent 0 k))
+        go : {p q : Prefix} → Meets first first-place second second-place p q → prefix-width (concat p q) ≤ length lent
+            → ConcatDue first (first-place + 1) second (second-place + 1) (part 1 (set lent 0 k))
         go (coming d e f) r = first-due f (omega arith)
         go (crossing d e f s) r = first-due f (omega arith)
         go (behind d b f) r = absurd (n d)
         go (aside d f s) r = first-due f (omega arith)
 
-    module _ {y : List ℕ} {m : Moved} (done : ConcatWritten first (at + 1) second (from + 1) (part 1 (set lent 0 k)) y m) where
-      first-moves : {t : Ty} {p q : Prefix} → Follows first (at + 1) second (from + 1) t p q → prefix-width (concat p q) < length lent
-          → Moves (at + 1 + prefix-width p) (from + 1 + prefix-width q) (prefix-bytes (concat p q) []) (part 1 (set lent 0 k)) y m
+    module _ {y : List ℕ} {m : Moved} (done : ConcatWritten first (first-place + 1) second (second-place + 1) (part 1 (set lent 0 k)) y m) where
+      first-moves : {t : Ty} {p q : Prefix} → Follows first (first-place + 1) second (second-place + 1) t p q → prefix-width (concat p q) < length lent
+          → Moves (first-place + 1 + prefix-width p) (second-place + 1 + prefix-width q) (prefix-bytes (concat p q) []) (part 1 (set lent 0 k)) y m
       first-moves f h = done .each (first-due f h)
 
-      first-begun : {t : Ty} {p q : Prefix} → Follows first (at + 1) second (from + 1) t p q → prefix-width (concat p q) < length lent
+      first-begun : {t : Ty} {p q : Prefix} → Follows first (first-place + 1) second (second-place + 1) t p q → prefix-width (concat p q) < length lent
           → Begun (k ∷ prefix-bytes (concat p q) []) lent (back 1 (set lent 0 k) y) (1 + m .written)
       first-begun {p = p} {q = q} f h =
           let d = first-moves f h in
@@ -126,35 +129,35 @@ module _ (first : List ℕ) (at : ℕ) (second : List ℕ) (from : ℕ) (lent : 
 
       -- After the first piece: the next starts further on in the first prefix, and within what was lent.
       pub record Started : Type 0 where
-        pub beyond : at < m .first
+        pub beyond : first-place < m .first
         pub within : 1 + m .written ≤ length lent
         pub kept : length (back 1 (set lent 0 k) y) ≡ length lent
 
-      pub started : ConcatDue first at second from lent → 5 ≤ getD first at 0 → (getD first at 0 ≡ 6 → ⊥) → Started
+      pub started : ConcatDue first first-place second second-place lent → 0 < prefix-arity (getD first first-place 0) → (getD first first-place 0 ≡ 6 → ⊥) → Started
       unfolding prefix-width concat
       started due h n = go (meets (due .follows) h) (due .room)
         where
-          so-far : {t : Ty} {p q : Prefix} → Follows first (at + 1) second (from + 1) t p q → prefix-width (concat p q) < length lent → Started
+          so-far : {t : Ty} {p q : Prefix} → Follows first (first-place + 1) second (second-place + 1) t p q → prefix-width (concat p q) < length lent → Started
           so-far {p = p} {q = q} f r =
               let d = first-moves f r in
               let l : 1 + m .written ≤ length lent = omega (arith, d .written, prefix-bytes-length (concat p q) []) in
               record { beyond = omega (arith, d .first); within = l; kept = length-kept (first-begun f r) l }
 
-          go : {p q : Prefix} → Meets first at second from p q → prefix-width (concat p q) ≤ length lent → Started
+          go : {p q : Prefix} → Meets first first-place second second-place p q → prefix-width (concat p q) ≤ length lent → Started
           go (coming d e f) r = so-far f (omega arith)
           go (crossing d e f s) r = so-far f (omega arith)
           go (behind d b f) r = absurd (n d)
           go (aside d f s) r = so-far f (omega arith)
 
-      module _ (same-kind : k ≡ getD second from 0) (one-kind : getD first at 0 ≡ 5) where
+      module _ (same-kind : k ≡ getD second second-place 0) (one-kind : getD first first-place 0 ≡ 5) where
         -- Both first parts are still coming.
-        pub coming-written : getD second from 0 ≡ 5
-            → ConcatWritten first at second from lent (back 1 (set lent 0 k) y) (record { first = m .first; second = m .second; written = 1 + m .written })
+        pub coming-written : getD second second-place 0 ≡ 5
+            → ConcatWritten first first-place second second-place lent (back 1 (set lent 0 k) y) (record { first = m .first; second = m .second; written = 1 + m .written })
         unfolding prefix-width concat prefix-bytes
-        coming-written other-kind = record { each = λ due. go (meets (due .follows) (omega arith)) (due .room) }
+        coming-written other-kind = record { each = λ due. go (meets (due .follows) (rw one-kind (omega arith))) (due .room) }
           where
-            go : {p q : Prefix} → Meets first at second from p q → prefix-width (concat p q) ≤ length lent
-                → Moves (at + prefix-width p) (from + prefix-width q) (prefix-bytes (concat p q) []) lent (back 1 (set lent 0 k) y)
+            go : {p q : Prefix} → Meets first first-place second second-place p q → prefix-width (concat p q) ≤ length lent
+                → Moves (first-place + prefix-width p) (second-place + prefix-width q) (prefix-bytes (concat p q) []) lent (back 1 (set lent 0 k) y)
                 (record { first = m .first; second = m .second; written = 1 + m .written })
             go (coming {p = p} {q = q} d e f) r =
                 let g = first-moves f (omega arith) in
@@ -165,9 +168,9 @@ module _ (first : List ℕ) (at : ℕ) (second : List ℕ) (from : ℕ) (lent : 
             go (aside d f s) r = absurd (omega arith)
 
         -- The second prefix brings the crossing.
-        module _ (other-kind : getD second from 0 ≡ 5 → ⊥) where
-          abbrev rest-due : {t : Ty} {p q u : Prefix} → Follows first (at + 1) second (from + 1) t p q
-              → ((end : ℕ) → end ≡ from + 1 + prefix-width q → PrefixAt second end u) → prefix-width (concat p q) + prefix-width u < length lent
+        module _ (other-kind : getD second second-place 0 ≡ 5 → ⊥) where
+          abbrev rest-due : {t : Ty} {p q u : Prefix} → Follows first (first-place + 1) second (second-place + 1) t p q
+              → ((end : ℕ) → end ≡ second-place + 1 + prefix-width q → PrefixAt second end u) → prefix-width (concat p q) + prefix-width u < length lent
               → PrefixDue second (m .second) (part (1 + m .written) (back 1 (set lent 0 k) y))
           rest-due {p = p} {q = q} {u = u} f s r =
               let g = first-moves f (omega arith) in
@@ -177,11 +180,11 @@ module _ (first : List ℕ) (at : ℕ) (second : List ℕ) (from : ℕ) (lent : 
                 room = omega (arith, room-left (first-begun f (omega arith)), g .written, prefix-bytes-length (concat p q) []);
               }
 
-          pub crossing-due : ConcatDue first at second from lent → PrefixDue second (m .second) (part (1 + m .written) (back 1 (set lent 0 k) y))
+          pub crossing-due : ConcatDue first first-place second second-place lent → PrefixDue second (m .second) (part (1 + m .written) (back 1 (set lent 0 k) y))
           unfolding prefix-width concat
-          crossing-due due = go (meets (due .follows) (omega arith)) (due .room)
+          crossing-due due = go (meets (due .follows) (rw one-kind (omega arith))) (due .room)
             where
-              go : {p q : Prefix} → Meets first at second from p q → prefix-width (concat p q) ≤ length lent
+              go : {p q : Prefix} → Meets first first-place second second-place p q → prefix-width (concat p q) ≤ length lent
                   → PrefixDue second (m .second) (part (1 + m .written) (back 1 (set lent 0 k) y))
               go (coming d e f) r = absurd (other-kind e)
               go (crossing d e f s) r = rest-due f s (omega arith)
@@ -189,13 +192,13 @@ module _ (first : List ℕ) (at : ℕ) (second : List ℕ) (from : ℕ) (lent : 
               go (aside d f s) r = absurd (omega arith)
 
           pub crossing-written : {z : List ℕ} {n : ℕ} → PrefixWritten second (m .second) (part (1 + m .written) (back 1 (set lent 0 k) y)) z n
-              → ConcatWritten first at second from lent (back (1 + m .written) (back 1 (set lent 0 k) y) z)
+              → ConcatWritten first first-place second second-place lent (back (1 + m .written) (back 1 (set lent 0 k) y) z)
               (record { first = m .first; second = m .second + n; written = 1 + m .written + n })
           unfolding prefix-width concat prefix-bytes
-          crossing-written {z} {n} copied = record { each = λ due. go (meets (due .follows) (omega arith)) (due .room) }
+          crossing-written {z} {n} copied = record { each = λ due. go (meets (due .follows) (rw one-kind (omega arith))) (due .room) }
             where
-              go : {p q : Prefix} → Meets first at second from p q → prefix-width (concat p q) ≤ length lent
-                  → Moves (at + prefix-width p) (from + prefix-width q) (prefix-bytes (concat p q) []) lent (back (1 + m .written) (back 1 (set lent 0 k) y) z)
+              go : {p q : Prefix} → Meets first first-place second second-place p q → prefix-width (concat p q) ≤ length lent
+                  → Moves (first-place + prefix-width p) (second-place + prefix-width q) (prefix-bytes (concat p q) []) lent (back (1 + m .written) (back 1 (set lent 0 k) y) z)
                   (record { first = m .first; second = m .second + n; written = 1 + m .written + n })
               go (coming d e f) r = absurd (other-kind e)
               go (crossing {p = p} {q = q} {r = u} d e f s) r =
@@ -209,9 +212,9 @@ module _ (first : List ℕ) (at : ℕ) (second : List ℕ) (from : ℕ) (lent : 
               go (aside d f s) r = absurd (omega arith)
 
       -- Two prefixes side by side.
-      module _ (written-kind : k ≡ 7) (one-kind : getD first at 0 ≡ 7) where
-        abbrev second-due : {s t : Ty} {p q r u : Prefix} → Follows first (at + 1) second (from + 1) s p r
-            → ((first-end second-end : ℕ) → first-end ≡ at + 1 + prefix-width p → second-end ≡ from + 1 + prefix-width r
+      module _ (written-kind : k ≡ 7) (one-kind : getD first first-place 0 ≡ 7) where
+        abbrev second-due : {s t : Ty} {p q r u : Prefix} → Follows first (first-place + 1) second (second-place + 1) s p r
+            → ((first-end second-end : ℕ) → first-end ≡ first-place + 1 + prefix-width p → second-end ≡ second-place + 1 + prefix-width r
             → Follows first first-end second second-end t q u) → prefix-width (concat p r) + prefix-width (concat q u) < length lent
             → ConcatDue first (m .first) second (m .second) (part (1 + m .written) (back 1 (set lent 0 k) y))
         second-due {t = t} {p = p} {q = q} {r = r} {u = u} f s h =
@@ -224,12 +227,12 @@ module _ (first : List ℕ) (at : ℕ) (second : List ℕ) (from : ℕ) (lent : 
               room = omega (arith, room-left (first-begun f (omega arith)), g .written, prefix-bytes-length (concat p r) []);
             }
 
-        pub aside-due : ConcatDue first at second from lent
+        pub aside-due : ConcatDue first first-place second second-place lent
             → ConcatDue first (m .first) second (m .second) (part (1 + m .written) (back 1 (set lent 0 k) y))
         unfolding prefix-width concat
-        aside-due due = go (meets (due .follows) (omega arith)) (due .room)
+        aside-due due = go (meets (due .follows) (rw one-kind (omega arith))) (due .room)
           where
-            go : {p q : Prefix} → Meets first at second from p q → prefix-width (concat p q) ≤ length lent
+            go : {p q : Prefix} → Meets first first-place second second-place p q → prefix-width (concat p q) ≤ length lent
                 → ConcatDue first (m .first) second (m .second) (part (1 + m .written) (back 1 (set lent 0 k) y))
             go (coming d e f) r = absurd (omega arith)
             go (crossing d e f s) r = absurd (omega arith)
@@ -238,13 +241,13 @@ module _ (first : List ℕ) (at : ℕ) (second : List ℕ) (from : ℕ) (lent : 
 
         pub aside-written : {z : List ℕ} {n : Moved}
             → ConcatWritten first (m .first) second (m .second) (part (1 + m .written) (back 1 (set lent 0 k) y)) z n
-            → ConcatWritten first at second from lent (back (1 + m .written) (back 1 (set lent 0 k) y) z)
+            → ConcatWritten first first-place second second-place lent (back (1 + m .written) (back 1 (set lent 0 k) y) z)
             (record { first = n .first; second = n .second; written = 1 + m .written + n .written })
         unfolding prefix-width concat prefix-bytes
-        aside-written {z} {n} joined = record { each = λ due. go (meets (due .follows) (omega arith)) (due .room) }
+        aside-written {z} {n} joined = record { each = λ due. go (meets (due .follows) (rw one-kind (omega arith))) (due .room) }
           where
-            go : {p q : Prefix} → Meets first at second from p q → prefix-width (concat p q) ≤ length lent
-                → Moves (at + prefix-width p) (from + prefix-width q) (prefix-bytes (concat p q) []) lent (back (1 + m .written) (back 1 (set lent 0 k) y) z)
+            go : {p q : Prefix} → Meets first first-place second second-place p q → prefix-width (concat p q) ≤ length lent
+                → Moves (first-place + prefix-width p) (second-place + prefix-width q) (prefix-bytes (concat p q) []) lent (back (1 + m .written) (back 1 (set lent 0 k) y) z)
                 (record { first = n .first; second = n .second; written = 1 + m .written + n .written })
             go (coming d e f) r = absurd (omega arith)
             go (crossing d e f s) r = absurd (omega arith)
@@ -257,56 +260,56 @@ module _ (first : List ℕ) (at : ℕ) (second : List ℕ) (from : ℕ) (lent : 
                 (kind-and-parts (concat p v) (concat q u) written-kind)
 
   -- The complete first part is copied, and what the first prefix has of the second part is joined.
-  module _ (one-kind : getD first at 0 ≡ 6) where
-    abbrev whole-due : {b : Prefix} → PrefixAt first (at + 1) b → prefix-width b < length lent → PrefixDue first (at + 1) (part 1 (set lent 0 6))
+  module _ (one-kind : getD first first-place 0 ≡ 6) where
+    abbrev whole-due : {b : Prefix} → PrefixAt first (first-place + 1) b → prefix-width b < length lent → PrefixDue first (first-place + 1) (part 1 (set lent 0 6))
     whole-due {b} x h =
         record { prefix = b; stands = x; room = omega (arith, room-left (begins {lent = lent} 6 (omega arith))) }
 
-    pub copies-first : ConcatDue first at second from lent → PrefixDue first (at + 1) (part 1 (set lent 0 6))
+    pub copies-first : ConcatDue first first-place second second-place lent → PrefixDue first (first-place + 1) (part 1 (set lent 0 6))
     unfolding prefix-width concat
-    copies-first due = go (meets (due .follows) (omega arith)) (due .room)
+    copies-first due = go (meets (due .follows) (rw one-kind (omega arith))) (due .room)
       where
-        go : {p q : Prefix} → Meets first at second from p q → prefix-width (concat p q) ≤ length lent
-            → PrefixDue first (at + 1) (part 1 (set lent 0 6))
+        go : {p q : Prefix} → Meets first first-place second second-place p q → prefix-width (concat p q) ≤ length lent
+            → PrefixDue first (first-place + 1) (part 1 (set lent 0 6))
         go (coming d e f) r = absurd (omega arith)
         go (crossing d e f s) r = absurd (omega arith)
         go (behind d x f) r = whole-due x (omega arith)
         go (aside d f s) r = absurd (omega arith)
 
-    module _ {y : List ℕ} {n : ℕ} (done : PrefixWritten first (at + 1) (part 1 (set lent 0 6)) y n) where
-      whole-width : {b : Prefix} → PrefixAt first (at + 1) b → prefix-width b < length lent → n ≡ prefix-width b
+    module _ {y : List ℕ} {n : ℕ} (done : PrefixWritten first (first-place + 1) (part 1 (set lent 0 6)) y n) where
+      whole-width : {b : Prefix} → PrefixAt first (first-place + 1) b → prefix-width b < length lent → n ≡ prefix-width b
       whole-width x h = done .each (whole-due x h) .0
 
-      whole-begun : {b : Prefix} → PrefixAt first (at + 1) b → prefix-width b < length lent
+      whole-begun : {b : Prefix} → PrefixAt first (first-place + 1) b → prefix-width b < length lent
           → Begun (6 ∷ prefix-bytes b []) lent (back 1 (set lent 0 6) y) (1 + n)
       whole-begun {b} x h =
           let c = done .each (whole-due x h) in
           goes-on (begins {lent = lent} 6 (omega arith)) (prefix-bytes b []) (c .1) (omega (arith, c .0, prefix-bytes-length b []))
 
-      abbrev behind-first : {t : Ty} {b p q : Prefix} → PrefixAt first (at + 1) b
-          → ((end : ℕ) → end ≡ at + 1 + prefix-width b → Follows first end second from t p q) → prefix-width b + prefix-width (concat p q) < length lent
-          → ConcatDue first (at + (1 + n)) second from (part (1 + n) (back 1 (set lent 0 6) y))
+      abbrev behind-first : {t : Ty} {b p q : Prefix} → PrefixAt first (first-place + 1) b
+          → ((end : ℕ) → end ≡ first-place + 1 + prefix-width b → Follows first end second second-place t p q) → prefix-width b + prefix-width (concat p q) < length lent
+          → ConcatDue first (first-place + (1 + n)) second second-place (part (1 + n) (back 1 (set lent 0 6) y))
       behind-first {t} {b} {p} {q} x f h =
           let w = whole-width x (omega arith) in
           record {
             type = t;
             one = p;
             other = q;
-            follows = f (at + (1 + n)) (omega arith);
+            follows = f (first-place + (1 + n)) (omega arith);
             room = omega (arith, room-left (whole-begun x (omega arith)));
           }
 
       -- After the first piece.
       pub record Copied : Type 0 where
-        pub inside : at + (1 + n) ≤ length first
+        pub inside : first-place + (1 + n) ≤ length first
         pub within : 1 + n ≤ length lent
         pub kept : length (back 1 (set lent 0 6) y) ≡ length lent
 
-      pub copied : ConcatDue first at second from lent → Copied
+      pub copied : ConcatDue first first-place second second-place lent → Copied
       unfolding prefix-width concat
-      copied due = go (meets (due .follows) (omega arith)) (due .room)
+      copied due = go (meets (due .follows) (rw one-kind (omega arith))) (due .room)
         where
-          go : {p q : Prefix} → Meets first at second from p q → prefix-width (concat p q) ≤ length lent → Copied
+          go : {p q : Prefix} → Meets first first-place second second-place p q → prefix-width (concat p q) ≤ length lent → Copied
           go (coming d e f) r = absurd (omega arith)
           go (crossing d e f s) r = absurd (omega arith)
           go (behind d x f) r =
@@ -315,27 +318,27 @@ module _ (first : List ℕ) (at : ℕ) (second : List ℕ) (from : ℕ) (lent : 
               record { inside = omega (arith, prefix-inside x); within = l; kept = length-kept (whole-begun x (omega arith)) l }
           go (aside d f s) r = absurd (omega arith)
 
-      pub behind-due : ConcatDue first at second from lent
-          → ConcatDue first (at + (1 + n)) second from (part (1 + n) (back 1 (set lent 0 6) y))
+      pub behind-due : ConcatDue first first-place second second-place lent
+          → ConcatDue first (first-place + (1 + n)) second second-place (part (1 + n) (back 1 (set lent 0 6) y))
       unfolding prefix-width concat
-      behind-due due = go (meets (due .follows) (omega arith)) (due .room)
+      behind-due due = go (meets (due .follows) (rw one-kind (omega arith))) (due .room)
         where
-          go : {p q : Prefix} → Meets first at second from p q → prefix-width (concat p q) ≤ length lent
-              → ConcatDue first (at + (1 + n)) second from (part (1 + n) (back 1 (set lent 0 6) y))
+          go : {p q : Prefix} → Meets first first-place second second-place p q → prefix-width (concat p q) ≤ length lent
+              → ConcatDue first (first-place + (1 + n)) second second-place (part (1 + n) (back 1 (set lent 0 6) y))
           go (coming d e f) r = absurd (omega arith)
           go (crossing d e f s) r = absurd (omega arith)
           go (behind d x f) r = behind-first x f (omega arith)
           go (aside d f s) r = absurd (omega arith)
 
       pub behind-written : {z : List ℕ} {m : Moved}
-          → ConcatWritten first (at + (1 + n)) second from (part (1 + n) (back 1 (set lent 0 6) y)) z m
-          → ConcatWritten first at second from lent (back (1 + n) (back 1 (set lent 0 6) y) z)
+          → ConcatWritten first (first-place + (1 + n)) second second-place (part (1 + n) (back 1 (set lent 0 6) y)) z m
+          → ConcatWritten first first-place second second-place lent (back (1 + n) (back 1 (set lent 0 6) y) z)
           (record { first = m .first; second = m .second; written = 1 + n + m .written })
       unfolding prefix-width concat prefix-bytes
-      behind-written {z} {m} joined = record { each = λ due. go (meets (due .follows) (omega arith)) (due .room) }
+      behind-written {z} {m} joined = record { each = λ due. go (meets (due .follows) (rw one-kind (omega arith))) (due .room) }
         where
-          go : {p q : Prefix} → Meets first at second from p q → prefix-width (concat p q) ≤ length lent
-              → Moves (at + prefix-width p) (from + prefix-width q) (prefix-bytes (concat p q) []) lent (back (1 + n) (back 1 (set lent 0 6) y) z)
+          go : {p q : Prefix} → Meets first first-place second second-place p q → prefix-width (concat p q) ≤ length lent
+              → Moves (first-place + prefix-width p) (second-place + prefix-width q) (prefix-bytes (concat p q) []) lent (back (1 + n) (back 1 (set lent 0 6) y) z)
               (record { first = m .first; second = m .second; written = 1 + n + m .written })
           go (coming d e f) r = absurd (omega arith)
           go (crossing d e f s) r = absurd (omega arith)

@@ -1,13 +1,14 @@
 -- What the writers promise and ask: contracts inside the library, which no demand rests on.
 use mathlib.Core.Path.{_≡_}
 use mathlib.Core.List.{List, [], _∷_}
-use Prim.Native.Nat.{ℕ, _+_, _≤_, _<_}
+use Prim.Native.Nat.{ℕ, _+_, _≤_}
 use lib.ListN.{length, getD}
 use Rattle.writing.specs.declared.Moved.{Moved}
 use Rattle.stream.specs.Types.{Ty, size}
 use Rattle.stream.specs.Buffers.{at-front}
 use Rattle.stream.specs.Prefixes.{Prefix, Complete, IsPrefix, empty-prefix, derivative}
 use Rattle.stream.specs.Prefixes.Functions.{concat}
+use Rattle.stream.specs.Prefixes.Kinds.{prefix-arity}
 use Rattle.stream.specs.TypeFiles.{type-bytes, type-file-bytes}
 use Rattle.stream.specs.SliceFiles.{prefix-bytes, slice-file-bytes}
 use Rattle.reading.specs.TypeReads.{TypeAt}
@@ -20,31 +21,41 @@ pub record Begun (bytes lent now : List ℕ) (written : ℕ) : Type 0 where
   pub long : written ≡ length bytes
   pub buffer : now ≡ at-front bytes lent
 
--- The prefix at `at` is to be copied onto `lent`, which has room for it.
-pub record PrefixDue (bytes : List ℕ) (at : ℕ) (lent : List ℕ) : Type 0 where
+-- The prefix at `place` is to be copied onto `lent`, which has room for it.
+pub record PrefixDue (slice : List ℕ) (place : ℕ) (lent : List ℕ) : Type 0 where
   pub prefix : Prefix
-  pub stands : PrefixAt bytes at prefix
+  pub stands : PrefixAt slice place prefix
   pub room : prefix-width prefix ≤ length lent
 
-pub record PrefixWritten (bytes : List ℕ) (at : ℕ) (lent lent-after : List ℕ) (written : ℕ) : Type 0 where
-  pub each : (due : PrefixDue bytes at lent) → (written ≡ prefix-width (due .prefix)) × (lent-after ≡ at-front (prefix-bytes (due .prefix) []) lent)
+pub record PrefixWritten (slice : List ℕ) (place : ℕ) (lent lent-after : List ℕ) (written : ℕ) : Type 0 where
+  pub each : (due : PrefixDue slice place lent) → (written ≡ prefix-width (due .prefix)) × (lent-after ≡ at-front (prefix-bytes (due .prefix) []) lent)
 
--- The kind of the type that a leaf of a slice leaves.
-abbrev pub leaf-left : ℕ → ℕ
-leaf-left k = getD (0 ∷ 1 ∷ 0 ∷ 2 ∷ []) k 0
+-- The type at `at` likewise.
+pub record TypeDue (types : List ℕ) (at : ℕ) (lent : List ℕ) : Type 0 where
+  pub type : Ty
+  pub stands : TypeAt types at type
+  pub room : size type ≤ length lent
+
+pub record TypeWritten (types : List ℕ) (at : ℕ) (lent lent-after : List ℕ) (written : ℕ) : Type 0 where
+  pub each : (due : TypeDue types at lent) → (written ≡ size (due .type)) × (lent-after ≡ at-front (type-bytes (due .type) []) lent)
 
 -- A type and a prefix of it, in their bytes.
-pub record Stands (types : List ℕ) (at : ℕ) (slice : List ℕ) (from : ℕ) (t : Ty) (p : Prefix) : Type 0 where
+pub record Stands (types : List ℕ) (at : ℕ) (slice : List ℕ) (place : ℕ) (t : Ty) (p : Prefix) : Type 0 where
   pub type-at : TypeAt types at t
-  pub prefix-at : PrefixAt slice from p
+  pub prefix-at : PrefixAt slice place p
   pub is-prefix : IsPrefix t p
 
 -- What the prefix leaves of the type is to be written on `lent`, which has room for it.
-pub record DerivativeDue (types : List ℕ) (at : ℕ) (slice : List ℕ) (from : ℕ) (lent : List ℕ) : Type 0 where
+pub record DerivativeDue (types : List ℕ) (at : ℕ) (slice : List ℕ) (place : ℕ) (lent : List ℕ) : Type 0 where
   pub type : Ty
   pub prefix : Prefix
-  pub stands : Stands types at slice from type prefix
+  pub stands : Stands types at slice place type prefix
   pub room : size (derivative type prefix) ≤ length lent
+
+-- The same where the prefix is a leaf.
+pub record LeafLeftDue (types : List ℕ) (at : ℕ) (slice : List ℕ) (place : ℕ) (lent : List ℕ) : Type 0 where
+  pub due : DerivativeDue types at slice place lent
+  pub leaf : prefix-arity (getD slice place 0) ≡ 0
 
 -- Where both end, how many bytes were written, and which.
 pub record Moves (first-end second-end : ℕ) (bytes lent lent-after : List ℕ) (moved : Moved) : Type 0 where
@@ -53,9 +64,9 @@ pub record Moves (first-end second-end : ℕ) (bytes lent lent-after : List ℕ)
   pub written : moved .written ≡ length bytes
   pub buffer : lent-after ≡ at-front bytes lent
 
-pub record DerivativeWritten (types : List ℕ) (at : ℕ) (slice : List ℕ) (from : ℕ) (lent lent-after : List ℕ) (moved : Moved) : Type 0 where
-  pub each : (due : DerivativeDue types at slice from lent)
-      → Moves (at + size (due .type)) (from + prefix-width (due .prefix)) (type-bytes (derivative (due .type) (due .prefix)) []) lent lent-after moved
+pub record DerivativeWritten (types : List ℕ) (at : ℕ) (slice : List ℕ) (place : ℕ) (lent lent-after : List ℕ) (moved : Moved) : Type 0 where
+  pub each : (due : DerivativeDue types at slice place lent)
+      → Moves (at + size (due .type)) (place + prefix-width (due .prefix)) (type-bytes (derivative (due .type) (due .prefix)) []) lent lent-after moved
 
 -- The same for a slice file, whose tree stands behind the two bytes of its count, and with a count before what is written;
 -- `remains` is how many nodes the type left has.
@@ -70,28 +81,28 @@ pub record LeftFileWritten (types : List ℕ) (at : ℕ) (slice : List ℕ) (rem
   pub each : (due : LeftFileDue types at slice remains lent) → lent-after ≡ at-front (type-file-bytes (derivative (due .type) (due .prefix))) lent
 
 -- A prefix, and one of what it leaves, in their bytes.
-pub record Follows (first : List ℕ) (at : ℕ) (second : List ℕ) (from : ℕ) (t : Ty) (p q : Prefix) : Type 0 where
-  pub first-at : PrefixAt first at p
-  pub second-at : PrefixAt second from q
+pub record Follows (first : List ℕ) (first-place : ℕ) (second : List ℕ) (second-place : ℕ) (t : Ty) (p q : Prefix) : Type 0 where
+  pub first-at : PrefixAt first first-place p
+  pub second-at : PrefixAt second second-place q
   pub is-first : IsPrefix t p
   pub is-second : IsPrefix (derivative t p) q
 
 -- Their join is to be written on `lent`, which has room for it.
-pub record ConcatDue (first : List ℕ) (at : ℕ) (second : List ℕ) (from : ℕ) (lent : List ℕ) : Type 0 where
+pub record ConcatDue (first : List ℕ) (first-place : ℕ) (second : List ℕ) (second-place : ℕ) (lent : List ℕ) : Type 0 where
   pub type : Ty
   pub one : Prefix
   pub other : Prefix
-  pub follows : Follows first at second from type one other
+  pub follows : Follows first first-place second second-place type one other
   pub room : prefix-width (concat one other) ≤ length lent
 
 -- The same where the first prefix is a leaf.
-pub record LeafConcatDue (first : List ℕ) (at : ℕ) (second : List ℕ) (from : ℕ) (lent : List ℕ) : Type 0 where
-  pub due : ConcatDue first at second from lent
-  pub leaf : getD first at 0 < 5
+pub record LeafConcatDue (first : List ℕ) (first-place : ℕ) (second : List ℕ) (second-place : ℕ) (lent : List ℕ) : Type 0 where
+  pub due : ConcatDue first first-place second second-place lent
+  pub leaf : prefix-arity (getD first first-place 0) ≡ 0
 
-pub record ConcatWritten (first : List ℕ) (at : ℕ) (second : List ℕ) (from : ℕ) (lent lent-after : List ℕ) (moved : Moved) : Type 0 where
-  pub each : (due : ConcatDue first at second from lent)
-      → Moves (at + prefix-width (due .one)) (from + prefix-width (due .other)) (prefix-bytes (concat (due .one) (due .other)) []) lent lent-after moved
+pub record ConcatWritten (first : List ℕ) (first-place : ℕ) (second : List ℕ) (second-place : ℕ) (lent lent-after : List ℕ) (moved : Moved) : Type 0 where
+  pub each : (due : ConcatDue first first-place second second-place lent)
+      → Moves (first-place + prefix-width (due .one)) (second-place + prefix-width (due .other)) (prefix-bytes (concat (due .one) (due .other)) []) lent lent-after moved
 
 -- The same for two slice files, and with a count before what is written; `joined` is how many bytes the join has.
 pub record JoinedFileDue (first second : List ℕ) (joined : ℕ) (lent : List ℕ) : Type 0 where
@@ -106,9 +117,9 @@ pub record JoinedFileDue (first second : List ℕ) (joined : ℕ) (lent : List �
 pub record JoinedFileWritten (first second : List ℕ) (joined : ℕ) (lent lent-after : List ℕ) : Type 0 where
   pub each : (due : JoinedFileDue first second joined lent) → lent-after ≡ at-front (slice-file-bytes (concat (due .one) (due .other))) lent
 
--- The kind that the empty prefix of a type begins with, by the type's kind.
+-- The kind that the empty prefix of a type begins with, by the type's kind; of a byte that is no type's kind nobody asks.
 abbrev pub empty-kind : ℕ → ℕ
-empty-kind k = getD (0 ∷ 1 ∷ 3 ∷ 5 ∷ []) k 7
+empty-kind k = getD (0 ∷ 1 ∷ 3 ∷ 5 ∷ 7 ∷ []) k 7
 
 -- The empty prefix of the type at `at` is to be written on `lent`, which has room for it.
 pub record EmptyDue (types : List ℕ) (at : ℕ) (lent : List ℕ) : Type 0 where
@@ -120,15 +131,15 @@ pub record EmptyWritten (types : List ℕ) (at : ℕ) (lent lent-after : List �
   pub each : (due : EmptyDue types at lent)
       → (written ≡ prefix-width (empty-prefix (due .type))) × (lent-after ≡ at-front (prefix-bytes (empty-prefix (due .type)) []) lent)
 
--- What the complete prefix at `at` leaves of a type is to be written on `lent`, which has room for it.
-pub record SpentDue (slice : List ℕ) (at : ℕ) (lent : List ℕ) : Type 0 where
+-- What the complete prefix at `place` leaves of a type is to be written on `lent`, which has room for it.
+pub record SpentDue (slice : List ℕ) (place : ℕ) (lent : List ℕ) : Type 0 where
   pub type : Ty
   pub prefix : Prefix
-  pub stands : PrefixAt slice at prefix
+  pub stands : PrefixAt slice place prefix
   pub is-complete : Complete prefix
   pub room : size (derivative type prefix) ≤ length lent
 
-pub record SpentWritten (slice : List ℕ) (at : ℕ) (lent lent-after : List ℕ) (written : ℕ) : Type 0 where
-  pub each : (due : SpentDue slice at lent)
+pub record SpentWritten (slice : List ℕ) (place : ℕ) (lent lent-after : List ℕ) (written : ℕ) : Type 0 where
+  pub each : (due : SpentDue slice place lent)
       → (written ≡ size (derivative (due .type) (due .prefix)))
       × (lent-after ≡ at-front (type-bytes (derivative (due .type) (due .prefix)) []) lent)

@@ -12,7 +12,8 @@ ghost use mir.Val.{Fits};
 ghost use mir.Syntax.{w64};
 ghost use Rattle.stream.specs.Reading.{section-bytes};
 ghost use Rattle.stream.specs.Buffers.{at-front};
-ghost use Rattle.writing.specs.Writing.{leaf-left, PrefixDue, PrefixWritten, DerivativeDue, DerivativeWritten, LeftFileDue, LeftFileWritten, LeafConcatDue, ConcatDue, ConcatWritten, JoinedFileDue, JoinedFileWritten, empty-kind, EmptyDue, EmptyWritten, SpentDue, SpentWritten};
+ghost use Rattle.stream.specs.Prefixes.Kinds.{prefix-arity};
+ghost use Rattle.writing.specs.Writing.{PrefixDue, PrefixWritten, TypeDue, TypeWritten, LeafLeftDue, DerivativeDue, DerivativeWritten, LeftFileDue, LeftFileWritten, LeafConcatDue, ConcatDue, ConcatWritten, JoinedFileDue, JoinedFileWritten, empty-kind, EmptyDue, EmptyWritten, SpentDue, SpentWritten};
 
 pub mod appending;
 
@@ -64,59 +65,80 @@ pub fn copy(source: &[u8], out: &mut [u8])
     }
 }
 
-// Copies the prefix at `at`, and says how many bytes it has.
-pub fn copy_prefix(slice: &[u8], at: usize, out: &mut [u8]) -> usize
-    requires { ⌜ PrefixDue (now slice) at (now out) ⌝ }
-    ensures { λ r. ⌜ PrefixWritten (now (slice .entry)) at (now (out .entry)) (now (out .exit)) r ⌝ }
+// Copies the prefix at `place`, and says how many bytes it has.
+pub fn copy_prefix(slice: &[u8], place: usize, out: &mut [u8]) -> usize
+    requires { ⌜ PrefixDue (now slice) place (now out) ⌝ }
+    ensures { λ r. ⌜ PrefixWritten (now (slice .entry)) place (now (out .entry)) (now (out .exit)) r ⌝ }
 {
-    let end = skip_prefix(slice, at);
-    copy(&slice[at..end], out);
+    let end = skip_prefix(slice, place);
+    copy(&slice[place..end], out);
+    end - place
+}
+
+// Copies the type at `at`, and says how many bytes it has. Most have one, for which no loop is begun.
+fn copy_type(types: &[u8], at: usize, out: &mut [u8]) -> usize
+    requires { ⌜ TypeDue (now types) at (now out) ⌝ }
+    ensures { λ r. ⌜ TypeWritten (now (types .entry)) at (now (out .entry)) (now (out .exit)) r ⌝ }
+{
+    let end = skip_type(types, at);
+    if end - at == 1 {
+        out[0] = types[at];
+        return 1;
+    }
+    copy(&types[at..end], out);
     end - at
 }
 
-// What a leaf of a slice leaves of its type: 1 and 3 the type, 0, 2 and 4 the empty one.
-fn leaf_left(kind: u8) -> u8
-    ensures { λ r. ⌜ r ≡ leaf-left kind ⌝ }
+// What a leaf of a slice leaves: one still awaited the whole type under it, one that has come the empty type for the one node
+// under it.
+fn write_leaf_left(types: &[u8], at: usize, slice: &[u8], place: usize, out: &mut [u8]) -> Moved
+    requires { ⌜ LeafLeftDue (now types) at (now slice) place (now out) ⌝ }
+    ensures { λ r. ⌜ DerivativeWritten (now (types .entry)) at (now (slice .entry)) place (now (out .entry)) (now (out .exit)) r ⌝ }
 {
-    match kind {
-        1 => 1,
-        3 => 2,
-        _ => 0,
+    let kind = slice[place];
+    if is_unfinished(kind) {
+        let written = copy_type(types, at, out);
+        Moved::new(at + written, place + 1, written)
+    } else {
+        out[0] = 0;
+        Moved::new(at + 1, place + root_width(kind), 1)
     }
 }
 
-// Writes what the prefix at `from` leaves of the type at `at`.
-pub fn write_derivative(types: &[u8], at: usize, slice: &[u8], from: usize, out: &mut [u8]) -> Moved
-    requires { ⌜ DerivativeDue (now types) at (now slice) from (now out) ⌝ }
-    ensures { λ r. ⌜ DerivativeWritten (now (types .entry)) at (now (slice .entry)) from (now (out .entry)) (now (out .exit)) r ⌝ }
+// Writes what the prefix at `place` leaves of the type at `at`. No slice has a kind above 7.
+pub fn write_derivative(
+    types: &[u8],
+    at: usize,
+    slice: &[u8],
+    place: usize,
+    out: &mut [u8],
+) -> Moved
+    requires { ⌜ DerivativeDue (now types) at (now slice) place (now out) ⌝ }
+    ensures { λ r. ⌜ DerivativeWritten (now (types .entry)) at (now (slice .entry)) place (now (out .entry)) (now (out .exit)) r ⌝ }
 {
-    let kind = slice[from];
-    match kind {
+    match slice[place] {
+        0..=4 => write_leaf_left(types, at, slice, place, out),
         5 => {
             out[0] = 3;
-            let part = write_derivative(types, at + 1, slice, from + 1, &mut out[1..]);
+            let part = write_derivative(types, at + 1, slice, place + 1, &mut out[1..]);
             let second = part.first;
-            let end = skip_type(types, second);
             let written = 1 + part.written;
-            copy(&types[second..end], &mut out[written..]);
-            Moved::new(end, part.second, written + (end - second))
+            let copied = copy_type(types, second, &mut out[written..]);
+            Moved::new(second + copied, part.second, written + copied)
         }
         6 => {
             let second = skip_type(types, at + 1);
-            let rest = skip_prefix(slice, from + 1);
+            let rest = skip_prefix(slice, place + 1);
             write_derivative(types, second, slice, rest, out)
         }
         7 => {
             out[0] = 4;
-            let part = write_derivative(types, at + 1, slice, from + 1, &mut out[1..]);
+            let part = write_derivative(types, at + 1, slice, place + 1, &mut out[1..]);
             let written = 1 + part.written;
             let rest = write_derivative(types, part.first, slice, part.second, &mut out[written..]);
             onward(rest, written)
         }
-        _ => {
-            out[0] = leaf_left(kind);
-            Moved::new(at + 1, from + root_width(kind), 1)
-        }
+        8..=255 => Moved::new(at, place, 0),
     }
 }
 
@@ -131,29 +153,48 @@ pub fn write_left_file(types: &[u8], at: usize, slice: &[u8], remains: usize, ou
 }
 
 // The join where the first prefix is a leaf: a leaf still awaited gives way to the second prefix, one that has come stays.
-fn write_leaf_concat(first: &[u8], at: usize, second: &[u8], from: usize, out: &mut [u8]) -> Moved
-    requires { ⌜ LeafConcatDue (now first) at (now second) from (now out) ⌝ }
-    ensures { λ r. ⌜ ConcatWritten (now (first .entry)) at (now (second .entry)) from (now (out .entry)) (now (out .exit)) r ⌝ }
+fn write_leaf_concat(
+    first: &[u8],
+    first_place: usize,
+    second: &[u8],
+    second_place: usize,
+    out: &mut [u8],
+) -> Moved
+    requires { ⌜ LeafConcatDue (now first) «first_place» (now second) «second_place» (now out) ⌝ }
+    ensures { λ r. ⌜ ConcatWritten (now (first .entry)) «first_place» (now (second .entry)) «second_place» (now (out .entry)) (now (out .exit)) r ⌝ }
 {
-    if is_unfinished(first[at]) {
-        let written = copy_prefix(second, from, out);
-        Moved::new(at + 1, from + written, written)
+    if is_unfinished(first[first_place]) {
+        let written = copy_prefix(second, second_place, out);
+        Moved::new(first_place + 1, second_place + written, written)
     } else {
-        let written = copy_prefix(first, at, out);
-        Moved::new(at + written, from + 1, written)
+        let written = copy_prefix(first, first_place, out);
+        Moved::new(first_place + written, second_place + 1, written)
     }
 }
 
-// Writes the join of the prefix at `at` and the one at `from` of what the first leaves.
-pub fn write_concat(first: &[u8], at: usize, second: &[u8], from: usize, out: &mut [u8]) -> Moved
-    requires { ⌜ ConcatDue (now first) at (now second) from (now out) ⌝ }
-    ensures { λ r. ⌜ ConcatWritten (now (first .entry)) at (now (second .entry)) from (now (out .entry)) (now (out .exit)) r ⌝ }
+// Writes the join of the prefix at `first_place` and the one at `second_place` of what the first leaves. No slice has a kind above 7.
+pub fn write_concat(
+    first: &[u8],
+    first_place: usize,
+    second: &[u8],
+    second_place: usize,
+    out: &mut [u8],
+) -> Moved
+    requires { ⌜ ConcatDue (now first) «first_place» (now second) «second_place» (now out) ⌝ }
+    ensures { λ r. ⌜ ConcatWritten (now (first .entry)) «first_place» (now (second .entry)) «second_place» (now (out .entry)) (now (out .exit)) r ⌝ }
 {
-    match first[at] {
+    match first[first_place] {
+        0..=4 => write_leaf_concat(first, first_place, second, second_place, out),
         5 => {
-            let kind = second[from];
+            let kind = second[second_place];
             out[0] = kind;
-            let part = write_concat(first, at + 1, second, from + 1, &mut out[1..]);
+            let part = write_concat(
+                first,
+                first_place + 1,
+                second,
+                second_place + 1,
+                &mut out[1..],
+            );
             if kind == 5 {
                 return onward(part, 1);
             }
@@ -164,18 +205,30 @@ pub fn write_concat(first: &[u8], at: usize, second: &[u8], from: usize, out: &m
         }
         6 => {
             out[0] = 6;
-            let written = 1 + copy_prefix(first, at + 1, &mut out[1..]);
-            let rest = write_concat(first, at + written, second, from, &mut out[written..]);
+            let written = 1 + copy_prefix(first, first_place + 1, &mut out[1..]);
+            let rest = write_concat(
+                first,
+                first_place + written,
+                second,
+                second_place,
+                &mut out[written..],
+            );
             onward(rest, written)
         }
         7 => {
             out[0] = 7;
-            let part = write_concat(first, at + 1, second, from + 1, &mut out[1..]);
+            let part = write_concat(
+                first,
+                first_place + 1,
+                second,
+                second_place + 1,
+                &mut out[1..],
+            );
             let written = 1 + part.written;
             let rest = write_concat(first, part.first, second, part.second, &mut out[written..]);
             onward(rest, written)
         }
-        _ => write_leaf_concat(first, at, second, from, out),
+        8..=255 => Moved::new(first_place, second_place, 0),
     }
 }
 
@@ -197,7 +250,7 @@ pub fn write_section(body: &[u8], out: &mut [u8])
     copy(body, &mut out[2..]);
 }
 
-// The kind that the empty prefix of a type begins with, by the type's kind.
+// The kind that the empty prefix of a type begins with, by the type's kind. No type has a kind above 4.
 fn empty_kind(kind: u8) -> u8
     ensures { λ r. ⌜ r ≡ empty-kind kind ⌝ }
 {
@@ -206,63 +259,90 @@ fn empty_kind(kind: u8) -> u8
         1 => 1,
         2 => 3,
         3 => 5,
-        _ => 7,
+        4 => 7,
+        5..=255 => 7,
     }
 }
 
-// Writes the empty prefix of the type at `at`, and says how many bytes it has. `owed` has, last first, the kinds above the types
-// that are still to be gone through: the second part of a sequence, 3, is passed over, every other type is written. A stack of
-// bytes, since calls as deep as a type can be would need more stack than a patch has left at its deepest.
+// How many parts the empty prefix of a type has, by the type's kind: none if it is a leaf, of a sequence the first part alone.
+fn empty_parts(kind: u8) -> u8
+    ensures { λ r. ⌜ r ≡ prefix-arity (empty-kind kind) ⌝ }
+{
+    match kind {
+        0..=2 => 0,
+        3 => 1,
+        4 => 2,
+        5..=255 => 2,
+    }
+}
+
+// Writes the empty prefix of the type at `at`, and says how many bytes it has. `owed` has a mark for each type that is still to be
+// gone through, the last first: 1 if it is written, 0 if it is passed over. A stack of bytes, since calls as deep as a type can be
+// would need more stack than a patch has left at its deepest.
 pub fn write_empty(types: &[u8], at: usize, out: &mut [u8]) -> usize
     requires { ⌜ EmptyDue (now types) at (now out) ⌝ }
     ensures { λ r. ⌜ EmptyWritten (now (types .entry)) at (now (out .entry)) (now (out .exit)) r ⌝ }
 {
-    let mut owed = [4u8; 255];
+    let mut owed = [1u8; 255];
     let mut depth: usize = 1;
-    let mut from = at;
+    let mut next = at;
     let mut written: usize = 0;
     while 0 < depth {
         depth -= 1;
-        if owed[depth] == 3 {
-            from = skip_type(types, from);
+        if owed[depth] == 0 {
+            next = skip_type(types, next);
         } else {
-            let kind = types[from];
+            let kind = types[next];
             out[written] = empty_kind(kind);
             written += 1;
-            from += 1;
-            if 2 < kind {
-                owed[depth] = kind;
-                owed[depth + 1] = 4;
+            let parts = empty_parts(kind);
+            if 0 < parts {
+                // The first part is written, and the second if the empty prefix has it.
+                owed[depth] = parts - 1;
+                owed[depth + 1] = 1;
                 depth += 2;
+                next += 1;
+            } else {
+                next = skip_type(types, next);
             }
         }
     }
     written
 }
 
-// Writes the type that the complete prefix at `at` leaves, and says how many nodes it has. What a complete prefix leaves is
-// fixed by the prefix alone: the type is not asked for.
-pub fn write_spent(slice: &[u8], at: usize, out: &mut [u8]) -> usize
-    requires { ⌜ SpentDue (now slice) at (now out) ⌝ }
-    ensures { λ r. ⌜ SpentWritten (now (slice .entry)) at (now (out .entry)) (now (out .exit)) r ⌝ }
+// Writes the type that the complete prefix at `place` leaves, and says how many nodes it has. What a complete prefix leaves is
+// fixed by the prefix alone: the type is not asked for. A first part that is still coming does not stand in it, nor a kind above 7.
+pub fn write_spent(slice: &[u8], place: usize, out: &mut [u8]) -> usize
+    requires { ⌜ SpentDue (now slice) place (now out) ⌝ }
+    ensures { λ r. ⌜ SpentWritten (now (slice .entry)) place (now (out .entry)) (now (out .exit)) r ⌝ }
 {
     let mut owed: usize = 1;
-    let mut from = at;
+    let mut next = place;
     let mut written: usize = 0;
     while 0 < owed {
-        let kind = slice[from];
-        if kind == 6 {
-            from = skip_prefix(slice, from + 1);
-        } else if kind == 7 {
-            out[written] = 4;
-            written += 1;
-            owed += 1;
-            from += 1;
-        } else {
-            out[written] = 0;
-            written += 1;
-            owed -= 1;
-            from += root_width(kind);
+        let kind = slice[next];
+        match kind {
+            0..=4 => {
+                out[written] = 0;
+                written += 1;
+                owed -= 1;
+                next += root_width(kind);
+            }
+            5 => {
+                return written;
+            }
+            6 => {
+                next = skip_prefix(slice, next + 1);
+            }
+            7 => {
+                out[written] = 4;
+                written += 1;
+                owed += 1;
+                next += 1;
+            }
+            8..=255 => {
+                return written;
+            }
         }
     }
     written

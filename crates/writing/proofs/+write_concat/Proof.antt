@@ -5,13 +5,13 @@ use borrow.Fn.Kinds.{In}
 use borrow.Fn.PlainCycle.{Measures, is, falls, and}
 use native.Mathlib.Omega.{arith}
 use mathlib.Core.Path.{refl}
-use Prim.Native.Nat.{ℕ, _+_, _-_, _≤_, _<_}
+use Prim.Native.Nat.{ℕ, _-_, _<_}
 use lib.ListN.{length, length-set}
-use Rattle.writing.proofs.JoiningLeaf.{leaf-due}
+use Rattle.writing.proofs.JoiningLeaf.{leaf-due, unlisted}
 use Rattle.writing.proofs.JoiningParts.{inside, settled, joins-first, started, coming-written, crossing-due, crossing-written, aside-due, aside-written, copies-first, copied, behind-due, behind-written}
 use Rattle.writing.proofs.write_concat.Reads as write-concat
 use Rattle.writing.proofs.write_concat.Kinds as write-concat-kinds
-use Rattle.writing.proofs.+write_concat.Lts-write_concat as write-concat-lts
+use Rattle.writing.proofs.+write_concat.Lts-write_concat as lts
 use Rattle.writing.proofs.Moved.new.Reads as new-reads
 use Rattle.writing.proofs.copy_prefix.Reads as copy-prefix-reads
 use Rattle.writing.proofs.onward.Reads as onward-reads
@@ -23,358 +23,493 @@ use Rattle.writing.proofs.+write_concat.Tie.{close}
 abbrev μ-write-concat : Measures 3 write-concat-kinds.ps ℕ
 μ-write-concat κs a = length (a .0 .now) - a .1 .0
 
-abbrev write-concat-at : ℕ → In 3 write-concat-kinds.ps
-write-concat-at t =
-    and 3 write-concat-kinds.ps (is 3 write-concat-kinds.ps μ-write-concat t) write-concat.Pre
+module _ (t : ℕ) where
+  abbrev here : In 3 write-concat-kinds.ps
+  here = and 3 write-concat-kinds.ps (is 3 write-concat-kinds.ps μ-write-concat t) write-concat.Pre
 
-abbrev write-concat-below : ℕ → In 3 write-concat-kinds.ps
-write-concat-below t =
-    and 3 write-concat-kinds.ps (falls 3 write-concat-kinds.ps _<_ μ-write-concat t) write-concat.Pre
+  abbrev below : In 3 write-concat-kinds.ps
+  below = and 3 write-concat-kinds.ps (falls 3 write-concat-kinds.ps _<_ μ-write-concat t) write-concat.Pre
 
-abbrev calls : ℕ → write-concat-lts.Claims
-calls t = (
-  write-concat-below t,
-  write-concat.Post,
-  onward-reads.Asked,
-  onward-reads.Learnt,
-  copy-prefix-reads.Asked,
-  copy-prefix-reads.Learnt,
-  new-reads.Asked,
-  new-reads.Learnt,
-  write-leaf-concat-reads.Asked,
-  write-leaf-concat-reads.Learnt,
-)
+  abbrev calls : lts.Claims
+  calls = (
+    below,
+    write-concat.Post,
+    onward-reads.Asked,
+    onward-reads.Learnt,
+    copy-prefix-reads.Asked,
+    copy-prefix-reads.Learnt,
+    new-reads.Asked,
+    new-reads.Learnt,
+    write-leaf-concat-reads.Asked,
+    write-leaf-concat-reads.Learnt,
+  )
 
-write-concat-shared-slice-read-match : (t : ℕ) → write-concat-lts.Need-shared-slice-read-match (calls t) (write-concat-at t) write-concat.Post
-write-concat-shared-slice-read-match t c = omega (arith, inside _ _ _ _ _ (c .before .before .before .before .pre .1))
+  -- The places. Every arm begins where the first prefix's kind is read.
 
--- A first prefix whose first part is still coming.
+  abbrev Read : Type 0
+  Read = lts.After-shared-slice-known3 calls here write-concat.Post
 
-write-concat-shared-slice-read-kind : (t : ℕ) → write-concat-lts.Need-shared-slice-read-kind (calls t) (write-concat-at t) write-concat.Post
-write-concat-shared-slice-read-kind t c = omega (arith, inside _ _ _ _ _ (c .before .before .before .before .before .before .pre .1))
+  abbrev entry : Read → lts.Start calls here write-concat.Post
+  entry c = c .before .before .before .before
 
-write-concat-slice-write-out : (t : ℕ) → write-concat-lts.Need-slice-write-out (calls t) (write-concat-at t) write-concat.Post
-write-concat-slice-write-out t c = omega (arith, inside _ _ _ _ _ (c .before .before .before .before .before .before .pre .1))
+  -- A first part that is still coming: the call for it; where the second prefix brings the crossing, what it has of the second part
+  -- is to be copied, and has been.
 
-write-concat-add-write-concat : (t : ℕ) → write-concat-lts.Need-add-write-concat (calls t) (write-concat-at t) write-concat.Post
-write-concat-add-write-concat t c = omega (arith, inside _ _ _ _ _ (c .before .before .before .before .before .before .pre .1))
+  abbrev Coming : Type 0
+  Coming = lts.After-write-concat calls here write-concat.Post
 
-write-concat-add-write-concat-2 : (t : ℕ) → write-concat-lts.Need-add-write-concat-2 (calls t) (write-concat-at t) write-concat.Post
-write-concat-add-write-concat-2 t c = omega (arith, inside _ _ _ _ _ (c .before .before .before .before .before .before .pre .1))
+  abbrev coming-kind : Coming → lts.At-match-keys1 calls here write-concat.Post
+  coming-kind c = c .before .before .before
 
-write-concat-sub-write-concat : (t : ℕ) → write-concat-lts.Need-sub-write-concat (calls t) (write-concat-at t) write-concat.Post
-write-concat-sub-write-concat t c = simp length-set (omega (arith, inside _ _ _ _ _ (c .before .before .before .before .before .before .pre .1)))
+  abbrev coming-part : lts.After-slice-known2 calls here write-concat.Post → Coming
+  coming-part c = c .before .before
 
-write-concat-part-write-concat-start : (t : ℕ) → write-concat-lts.Need-part-write-concat-start (calls t) (write-concat-at t) write-concat.Post
-write-concat-part-write-concat-start t c = write-concat-sub-write-concat t c
+  abbrev crossing-part : lts.After-struct-known calls here write-concat.Post → Coming
+  crossing-part c = coming-part (c .before .before)
 
-write-concat-part-write-concat-end : (t : ℕ) → write-concat-lts.Need-part-write-concat-end (calls t) (write-concat-at t) write-concat.Post
-write-concat-part-write-concat-end t c = search needs
+  abbrev crossing-copied : lts.After-struct-known2 calls here write-concat.Post → lts.After-copy-prefix calls here write-concat.Post
+  crossing-copied c = c .before .before .before
 
-write-concat-write-concat-requires : (t : ℕ) → write-concat-lts.Need-write-concat-requires (calls t) (write-concat-at t) write-concat.Post
-write-concat-write-concat-requires t c κs =
-    let start = c .before .before .before .before .before .before .before in
-    let due = start .pre .1 in
-    let kind = c .before .before .match .keys1 in
-    (omega (arith, start .pre .0, inside _ _ _ _ _ due), joins-first _ _ _ _ _ _ due (omega arith) (omega arith))
+  abbrev crossing-begun : lts.After-copy-prefix calls here write-concat.Post → lts.After-struct-known calls here write-concat.Post
+  crossing-begun c = c .before .before
 
-write-concat-onward-requires : (t : ℕ) → write-concat-lts.Need-onward-requires (calls t) (write-concat-at t) write-concat.Post
-write-concat-onward-requires t c κs =
-    let due = c .before .before .before .before .before .before .before .before .before .before .before .pre .1 in
-    omega (
-      arith,
-      settled _ _ _ _ _ due
-          (coming-written _ _ _ _ _ _ (c .before .before .before .write-concat .ensures) refl (c .before .before .before .before .before .before .match .keys1) (c .if1 .taken)),
-    )
+  -- A first prefix that has crossed: its first part copied; the call for the second.
 
-write-concat-returns : (t : ℕ) → write-concat-lts.Need-returns (calls t) (write-concat-at t) write-concat.Post
-write-concat-returns t c =
-    let test = c .before .if1 .taken in
-    rw (c .onward .ensures)
-    (coming-written _ _ _ _ _ _ (c .before .before .before .before .write-concat .ensures) refl (c .before .before .before .before .before .before .before .match .keys1) test)
+  abbrev Copied : Type 0
+  Copied = lts.After-copy-prefix2 calls here write-concat.Post
 
-write-concat-same-length : (t : ℕ) → write-concat-lts.Need-same-length (calls t) (write-concat-at t) write-concat.Post
-write-concat-same-length t c =
-    let due = c .before .before .before .before .before .before .before .before .before .before .before .before .pre .1 in
-    settled _ _ _ _ _ due (write-concat-returns t c) .kept
+  abbrev copied-kind : Copied → lts.At-match-keys2 calls here write-concat.Post
+  copied-kind c = c .before .before
 
-write-concat-add-written : (t : ℕ) → write-concat-lts.Need-add-written (calls t) (write-concat-at t) write-concat.Post
-write-concat-add-written t c =
-    let due = c .before .before .before .before .before .before .before .before .before .before .before .before .pre .1 in
-    omega (arith, started _ _ _ _ _ _ (c .before .before .before .before .write-concat .ensures) due (omega arith) (omega arith))
+  abbrev behind-copied : lts.After-slice-known4 calls here write-concat.Post → Copied
+  behind-copied c = c .before .before
 
-write-concat-sub-copy-prefix : (t : ℕ) → write-concat-lts.Need-sub-copy-prefix (calls t) (write-concat-at t) write-concat.Post
-write-concat-sub-copy-prefix t c =
-    let due = c .before .before .before .before .before .before .before .before .before .before .before .before .pre .1 in
-    omega (arith, started _ _ _ _ _ _ (c .before .before .before .before .write-concat .ensures) due (omega arith) (omega arith))
+  abbrev behind-call : lts.After-slice-known5 calls here write-concat.Post → lts.After-write-concat2 calls here write-concat.Post
+  behind-call c = c .before .before
 
-write-concat-part-copy-prefix-start : (t : ℕ) → write-concat-lts.Need-part-copy-prefix-start (calls t) (write-concat-at t) write-concat.Post
-write-concat-part-copy-prefix-start t c = write-concat-sub-copy-prefix t c
+  abbrev behind-first : lts.After-write-concat2 calls here write-concat.Post → Copied
+  behind-first c = behind-copied (c .before .before)
 
-write-concat-part-copy-prefix-end : (t : ℕ) → write-concat-lts.Need-part-copy-prefix-end (calls t) (write-concat-at t) write-concat.Post
-write-concat-part-copy-prefix-end t c = search needs
+  -- Two sides: the call for the first; the call for the second.
 
-write-concat-copy-prefix-requires : (t : ℕ) → write-concat-lts.Need-copy-prefix-requires (calls t) (write-concat-at t) write-concat.Post
-write-concat-copy-prefix-requires t c κs =
-    let due = c .before .before .before .before .before .before .before .before .before .before .before .before .before .pre .1 in
-    let kind = c .before .before .before .before .before .before .before .before .match .keys1 in
-    crossing-due _ _ _ _ _ _ (c .before .before .before .before .before .write-concat .ensures) refl kind (c .before .before .if1 .left) due
+  abbrev Aside : Type 0
+  Aside = lts.After-write-concat3 calls here write-concat.Post
 
--- With the second part copied, both sums are within the bytes that there are.
-crossing-sums : (t : ℕ) (c : write-concat-lts.After-struct-known2 (calls t) (write-concat-at t) write-concat.Post)
-    → (let entry = c .before .before .before .before .before .before .before .before .before .before .before .before .before .before .before .before .before in
-    let part = c .before .before .before .before .before .before .before .before .before .write-concat .result in
-    let copied = c .before .before .before .copy-prefix .result in
-    (part .second + copied ≤ length (entry .args .second .now)) × (1 + part .written + copied ≤ length (entry .args .out .now)))
-crossing-sums t c =
-    let kind = c .before .before .before .before .before .before .before .before .before .before .before .before .match .keys1 in
-    let test = c .before .before .before .before .before .before .if1 .left in
-    let s =
-    settled _ _ _ _ _ (c .before .before .before .before .before .before .before .before .before .before .before .before .before .before .before .before .before .pre .1)
-    (crossing-written _ _ _ _ _ _ (c .before .before .before .before .before .before .before .before .before .write-concat .ensures) refl kind test (c .before .before .before .copy-prefix .ensures)) in
-    (s .second-inside, s .within)
+  abbrev aside-kind : Aside → lts.At-match-keys3 calls here write-concat.Post
+  aside-kind c = c .before .before
 
-write-concat-add-new : (t : ℕ) → write-concat-lts.Need-add-new (calls t) (write-concat-at t) write-concat.Post
-write-concat-add-new t c = omega (arith, crossing-sums t c .0)
+  abbrev aside-part : lts.After-struct-known3 calls here write-concat.Post → Aside
+  aside-part c = c .before .before .before
 
-write-concat-add-new-2 : (t : ℕ) → write-concat-lts.Need-add-new-2 (calls t) (write-concat-at t) write-concat.Post
-write-concat-add-new-2 t c = omega (arith, crossing-sums t c .1)
+  abbrev both-call : lts.After-slice-known7 calls here write-concat.Post → lts.After-write-concat4 calls here write-concat.Post
+  both-call c = c .before .before
 
-write-concat-new-requires : (t : ℕ) → write-concat-lts.Need-new-requires (calls t) (write-concat-at t) write-concat.Post
-write-concat-new-requires t c κs = search needs
+  abbrev both-part : lts.After-write-concat4 calls here write-concat.Post → Aside
+  both-part c = aside-part (c .before .before)
 
-write-concat-returns-2 : (t : ℕ) → write-concat-lts.Need-returns-2 (calls t) (write-concat-at t) write-concat.Post
-write-concat-returns-2 t c =
-    let kind = c .before .before .before .before .before .before .before .before .before .before .before .before .before .match .keys1 in
-    let test = c .before .before .before .before .before .before .before .if1 .left in
-    rw (c .new .ensures)
-    (crossing-written _ _ _ _ _ _ (c .before .before .before .before .before .before .before .before .before .before .write-concat .ensures) refl kind test
-    (c .before .before .before .before .copy-prefix .ensures))
+  -- A leaf: the call for it.
 
-write-concat-same-length-2 : (t : ℕ) → write-concat-lts.Need-same-length-2 (calls t) (write-concat-at t) write-concat.Post
-write-concat-same-length-2 t c =
-    let due = c .before .before .before .before .before .before .before .before .before .before .before .before .before .before .before .before .before .before .pre .1 in
-    settled _ _ _ _ _ due (write-concat-returns-2 t c) .kept
+  abbrev leaf-read : lts.Then2 calls here write-concat.Post → Read
+  leaf-read c = c .before .before
 
--- A first prefix that has crossed.
+  abbrev leaf-call : lts.After-slice-known8 calls here write-concat.Post → lts.After-write-leaf-concat calls here write-concat.Post
+  leaf-call c = c .before .before
 
-write-concat-slice-write-out-2 : (t : ℕ) → write-concat-lts.Need-slice-write-out-2 (calls t) (write-concat-at t) write-concat.Post
-write-concat-slice-write-out-2 t c = omega (arith, inside _ _ _ _ _ (c .before .before .before .before .before .pre .1))
+  shared-slice-read-match : lts.Need-shared-slice-read-match calls here write-concat.Post
+  shared-slice-read-match c = omega (arith, inside _ _ _ _ _ (entry c .pre .1))
 
-write-concat-add-copy-prefix : (t : ℕ) → write-concat-lts.Need-add-copy-prefix (calls t) (write-concat-at t) write-concat.Post
-write-concat-add-copy-prefix t c = omega (arith, inside _ _ _ _ _ (c .before .before .before .before .before .pre .1))
+  -- A first prefix whose first part is still coming.
 
-write-concat-sub-copy-prefix-2 : (t : ℕ) → write-concat-lts.Need-sub-copy-prefix-2 (calls t) (write-concat-at t) write-concat.Post
-write-concat-sub-copy-prefix-2 t c = simp length-set (omega (arith, inside _ _ _ _ _ (c .before .before .before .before .before .pre .1)))
+  shared-slice-read-kind : lts.Need-shared-slice-read-kind calls here write-concat.Post
+  shared-slice-read-kind c = omega (arith, inside _ _ _ _ _ (entry (c .before .before) .pre .1))
 
-write-concat-part-copy-prefix-start-2 : (t : ℕ) → write-concat-lts.Need-part-copy-prefix-start-2 (calls t) (write-concat-at t) write-concat.Post
-write-concat-part-copy-prefix-start-2 t c = write-concat-sub-copy-prefix-2 t c
+  slice-write-out : lts.Need-slice-write-out calls here write-concat.Post
+  slice-write-out c = omega (arith, inside _ _ _ _ _ (entry (c .before .before) .pre .1))
 
-write-concat-part-copy-prefix-end-2 : (t : ℕ) → write-concat-lts.Need-part-copy-prefix-end-2 (calls t) (write-concat-at t) write-concat.Post
-write-concat-part-copy-prefix-end-2 t c = search needs
+  add-write-concat : lts.Need-add-write-concat calls here write-concat.Post
+  add-write-concat c = omega (arith, inside _ _ _ _ _ (entry (c .before .before) .pre .1))
 
-write-concat-copy-prefix-requires-2 : (t : ℕ) → write-concat-lts.Need-copy-prefix-requires-2 (calls t) (write-concat-at t) write-concat.Post
-write-concat-copy-prefix-requires-2 t c κs = copies-first _ _ _ _ _ (c .before .match .keys2) (c .before .before .before .before .before .before .pre .1)
+  add-write-concat-2 : lts.Need-add-write-concat-2 calls here write-concat.Post
+  add-write-concat-2 c = omega (arith, inside _ _ _ _ _ (entry (c .before .before) .pre .1))
 
-write-concat-add-written-2 : (t : ℕ) → write-concat-lts.Need-add-written-2 (calls t) (write-concat-at t) write-concat.Post
-write-concat-add-written-2 t c =
-    let due = c .before .before .before .before .before .before .before .before .before .pre .1 in
-    omega (arith, copied _ _ _ _ _ (c .before .before .before .before .match .keys2) (c .before .before .copy-prefix2 .ensures) due)
+  sub-write-concat : lts.Need-sub-write-concat calls here write-concat.Post
+  sub-write-concat c = simp length-set (omega (arith, inside _ _ _ _ _ (entry (c .before .before) .pre .1)))
 
-write-concat-add-write-concat-3 : (t : ℕ) → write-concat-lts.Need-add-write-concat-3 (calls t) (write-concat-at t) write-concat.Post
-write-concat-add-write-concat-3 t c =
-    let due = c .before .before .before .before .before .before .before .before .before .pre .1 in
-    omega (arith, copied _ _ _ _ _ (c .before .before .before .before .match .keys2) (c .before .before .copy-prefix2 .ensures) due)
+  part-write-concat-start : lts.Need-part-write-concat-start calls here write-concat.Post
+  part-write-concat-start c = sub-write-concat c
 
-write-concat-sub-write-concat-2 : (t : ℕ) → write-concat-lts.Need-sub-write-concat-2 (calls t) (write-concat-at t) write-concat.Post
-write-concat-sub-write-concat-2 t c =
-    let due = c .before .before .before .before .before .before .before .before .before .pre .1 in
-    omega (arith, copied _ _ _ _ _ (c .before .before .before .before .match .keys2) (c .before .before .copy-prefix2 .ensures) due)
+  part-write-concat-end : lts.Need-part-write-concat-end calls here write-concat.Post
+  part-write-concat-end c = search needs
 
-write-concat-part-write-concat-start-2 : (t : ℕ) → write-concat-lts.Need-part-write-concat-start-2 (calls t) (write-concat-at t) write-concat.Post
-write-concat-part-write-concat-start-2 t c = write-concat-sub-write-concat-2 t c
+  write-concat-requires : lts.Need-write-concat-requires calls here write-concat.Post
+  write-concat-requires c κs =
+      let kind = c .before .before in
+      let start = entry (kind .before) in (
+        omega (arith, start .pre .0, inside _ _ _ _ _ (start .pre .1)),
+        joins-first _ _ _ _ _ _ (start .pre .1) (rw (kind .match .keys1) (omega arith)) (λ six. omega (arith, kind .match .keys1)),
+      )
 
-write-concat-part-write-concat-end-2 : (t : ℕ) → write-concat-lts.Need-part-write-concat-end-2 (calls t) (write-concat-at t) write-concat.Post
-write-concat-part-write-concat-end-2 t c = search needs
+  onward-requires : lts.Need-onward-requires calls here write-concat.Post
+  onward-requires c κs =
+      let first = coming-part (c .before) in
+      let kind = coming-kind first in
+      omega (
+        arith,
+        entry (kind .before) .good,
+        settled _ _ _ _ _ (entry (kind .before) .pre .1)
+            (coming-written _ _ _ _ _ _ (first .write-concat .ensures) refl (kind .match .keys1) (c .if1 .taken)),
+      )
 
-write-concat-write-concat-requires-2 : (t : ℕ) → write-concat-lts.Need-write-concat-requires-2 (calls t) (write-concat-at t) write-concat.Post
-write-concat-write-concat-requires-2 t c κs =
-    let start = c .before .before .before .before .before .before .before .before .before .before in
-    let due = start .pre .1 in
-    let kind = c .before .before .before .before .before .match .keys2 in
-    let first-part = c .before .before .before .copy-prefix2 .ensures in
-    (omega (arith, start .pre .0, inside _ _ _ _ _ due, copied _ _ _ _ _ kind first-part due), behind-due _ _ _ _ _ kind first-part due)
+  returns : lts.Need-returns calls here write-concat.Post
+  returns c =
+      let first = coming-part (c .before .before) in
+      rw (c .onward .ensures)
+      (coming-written _ _ _ _ _ _ (first .write-concat .ensures) refl (coming-kind first .match .keys1) (c .before .if1 .taken))
 
-write-concat-onward-requires-2 : (t : ℕ) → write-concat-lts.Need-onward-requires-2 (calls t) (write-concat-at t) write-concat.Post
-write-concat-onward-requires-2 t c κs =
-    let due = c .before .before .before .before .before .before .before .before .before .before .before .before .before .pre .1 in
-    let kind = c .before .before .before .before .before .before .before .before .match .keys2 in
-    omega (
-      arith,
-      settled _ _ _ _ _ due
-          (behind-written _ _ _ _ _ kind (c .before .before .before .before .before .before .copy-prefix2 .ensures) (c .before .before .write-concat2 .ensures)),
-    )
+  same-length : lts.Need-same-length calls here write-concat.Post
+  same-length c =
+      let start = entry (coming-kind (coming-part (c .before .before)) .before) in
+      settled _ _ _ _ _ (start .pre .1) (returns c) .kept
 
-write-concat-returns-3 : (t : ℕ) → write-concat-lts.Need-returns-3 (calls t) (write-concat-at t) write-concat.Post
-write-concat-returns-3 t c =
-    let kind = c .before .before .before .before .before .before .before .before .before .match .keys2 in
-    rw (c .onward2 .ensures)
-    (behind-written _ _ _ _ _ kind (c .before .before .before .before .before .before .before .copy-prefix2 .ensures) (c .before .before .before .write-concat2 .ensures))
+  -- The second prefix brings the crossing.
 
-write-concat-same-length-3 : (t : ℕ) → write-concat-lts.Need-same-length-3 (calls t) (write-concat-at t) write-concat.Post
-write-concat-same-length-3 t c =
-    let due = c .before .before .before .before .before .before .before .before .before .before .before .before .before .before .pre .1 in
-    settled _ _ _ _ _ due (write-concat-returns-3 t c) .kept
+  add-written : lts.Need-add-written calls here write-concat.Post
+  add-written c =
+      let first = crossing-part c in
+      let kind = coming-kind first in
+      omega (
+        arith,
+        entry (kind .before) .good,
+        started _ _ _ _ _ _ (first .write-concat .ensures) (entry (kind .before) .pre .1) (rw (kind .match .keys1) (omega arith))
+            (λ six. omega (arith, kind .match .keys1)),
+      )
 
--- Two prefixes side by side.
+  sub-copy-prefix : lts.Need-sub-copy-prefix calls here write-concat.Post
+  sub-copy-prefix c =
+      let first = crossing-part c in
+      let kind = coming-kind first in
+      omega (
+        arith,
+        entry (kind .before) .good,
+        started _ _ _ _ _ _ (first .write-concat .ensures) (entry (kind .before) .pre .1) (rw (kind .match .keys1) (omega arith))
+            (λ six. omega (arith, kind .match .keys1)),
+      )
 
-write-concat-slice-write-out-3 : (t : ℕ) → write-concat-lts.Need-slice-write-out-3 (calls t) (write-concat-at t) write-concat.Post
-write-concat-slice-write-out-3 t c = omega (arith, inside _ _ _ _ _ (c .before .before .before .before .before .pre .1))
+  part-copy-prefix-start : lts.Need-part-copy-prefix-start calls here write-concat.Post
+  part-copy-prefix-start c = sub-copy-prefix c
 
-write-concat-add-write-concat-4 : (t : ℕ) → write-concat-lts.Need-add-write-concat-4 (calls t) (write-concat-at t) write-concat.Post
-write-concat-add-write-concat-4 t c = omega (arith, inside _ _ _ _ _ (c .before .before .before .before .before .pre .1))
+  part-copy-prefix-end : lts.Need-part-copy-prefix-end calls here write-concat.Post
+  part-copy-prefix-end c = search needs
 
-write-concat-add-write-concat-5 : (t : ℕ) → write-concat-lts.Need-add-write-concat-5 (calls t) (write-concat-at t) write-concat.Post
-write-concat-add-write-concat-5 t c = omega (arith, inside _ _ _ _ _ (c .before .before .before .before .before .pre .1))
+  copy-prefix-requires : lts.Need-copy-prefix-requires calls here write-concat.Post
+  copy-prefix-requires c κs =
+      let first = crossing-part (c .before) in
+      let kind = coming-kind first in
+      crossing-due _ _ _ _ _ _ (first .write-concat .ensures) refl (kind .match .keys1) (c .before .before .if1 .left) (entry (kind .before) .pre .1)
 
-write-concat-sub-write-concat-3 : (t : ℕ) → write-concat-lts.Need-sub-write-concat-3 (calls t) (write-concat-at t) write-concat.Post
-write-concat-sub-write-concat-3 t c = simp length-set (omega (arith, inside _ _ _ _ _ (c .before .before .before .before .before .pre .1)))
+  add-new : lts.Need-add-new calls here write-concat.Post
+  add-new c =
+      let begun = crossing-begun (crossing-copied c) in
+      let first = crossing-part begun in
+      let kind = coming-kind first in
+      omega (
+        arith,
+        entry (kind .before) .good,
+        settled _ _ _ _ _ (entry (kind .before) .pre .1)
+            (crossing-written _ _ _ _ _ _ (first .write-concat .ensures) refl (kind .match .keys1) (begun .before .if1 .left)
+            (crossing-copied c .copy-prefix .ensures)),
+      )
 
-write-concat-part-write-concat-start-3 : (t : ℕ) → write-concat-lts.Need-part-write-concat-start-3 (calls t) (write-concat-at t) write-concat.Post
-write-concat-part-write-concat-start-3 t c = write-concat-sub-write-concat-3 t c
+  add-new-2 : lts.Need-add-new-2 calls here write-concat.Post
+  add-new-2 c =
+      let begun = crossing-begun (crossing-copied c) in
+      let first = crossing-part begun in
+      let kind = coming-kind first in
+      omega (
+        arith,
+        entry (kind .before) .good,
+        settled _ _ _ _ _ (entry (kind .before) .pre .1)
+            (crossing-written _ _ _ _ _ _ (first .write-concat .ensures) refl (kind .match .keys1) (begun .before .if1 .left)
+            (crossing-copied c .copy-prefix .ensures)),
+      )
 
-write-concat-part-write-concat-end-3 : (t : ℕ) → write-concat-lts.Need-part-write-concat-end-3 (calls t) (write-concat-at t) write-concat.Post
-write-concat-part-write-concat-end-3 t c = search needs
+  new-requires : lts.Need-new-requires calls here write-concat.Post
+  new-requires c κs = search needs
 
-write-concat-write-concat-requires-3 : (t : ℕ) → write-concat-lts.Need-write-concat-requires-3 (calls t) (write-concat-at t) write-concat.Post
-write-concat-write-concat-requires-3 t c κs =
-    let start = c .before .before .before .before .before .before in
-    let due = start .pre .1 in
-    let kind = c .before .match .keys3 in
-    (omega (arith, start .pre .0, inside _ _ _ _ _ due), joins-first _ _ _ _ _ _ due (omega arith) (omega arith))
+  returns-2 : lts.Need-returns-2 calls here write-concat.Post
+  returns-2 c =
+      let copy = crossing-copied (c .before) in
+      let begun = crossing-begun copy in
+      let first = crossing-part begun in
+      rw (c .new .ensures)
+      (crossing-written _ _ _ _ _ _ (first .write-concat .ensures) refl (coming-kind first .match .keys1) (begun .before .if1 .left)
+      (copy .copy-prefix .ensures))
 
-write-concat-add-written-3 : (t : ℕ) → write-concat-lts.Need-add-written-3 (calls t) (write-concat-at t) write-concat.Post
-write-concat-add-written-3 t c =
-    let due = c .before .before .before .before .before .before .before .before .before .before .pre .1 in
-    let kind = c .before .before .before .before .before .match .keys3 in
-    omega (arith, started _ _ _ _ _ _ (c .before .before .before .write-concat3 .ensures) due (omega arith) (omega arith))
+  same-length-2 : lts.Need-same-length-2 calls here write-concat.Post
+  same-length-2 c =
+      let first = crossing-part (crossing-begun (crossing-copied (c .before))) in
+      settled _ _ _ _ _ (entry (coming-kind first .before) .pre .1) (returns-2 c) .kept
 
-write-concat-sub-write-concat-4 : (t : ℕ) → write-concat-lts.Need-sub-write-concat-4 (calls t) (write-concat-at t) write-concat.Post
-write-concat-sub-write-concat-4 t c =
-    let due = c .before .before .before .before .before .before .before .before .before .before .pre .1 in
-    let kind = c .before .before .before .before .before .match .keys3 in
-    omega (arith, started _ _ _ _ _ _ (c .before .before .before .write-concat3 .ensures) due (omega arith) (omega arith))
+  -- A first prefix that has crossed.
 
-write-concat-part-write-concat-start-4 : (t : ℕ) → write-concat-lts.Need-part-write-concat-start-4 (calls t) (write-concat-at t) write-concat.Post
-write-concat-part-write-concat-start-4 t c = write-concat-sub-write-concat-4 t c
+  slice-write-out-2 : lts.Need-slice-write-out-2 calls here write-concat.Post
+  slice-write-out-2 c = omega (arith, inside _ _ _ _ _ (entry (c .before) .pre .1))
 
-write-concat-part-write-concat-end-4 : (t : ℕ) → write-concat-lts.Need-part-write-concat-end-4 (calls t) (write-concat-at t) write-concat.Post
-write-concat-part-write-concat-end-4 t c = search needs
+  add-copy-prefix : lts.Need-add-copy-prefix calls here write-concat.Post
+  add-copy-prefix c = omega (arith, inside _ _ _ _ _ (entry (c .before) .pre .1))
 
-write-concat-write-concat-requires-4 : (t : ℕ) → write-concat-lts.Need-write-concat-requires-4 (calls t) (write-concat-at t) write-concat.Post
-write-concat-write-concat-requires-4 t c κs =
-    let start = c .before .before .before .before .before .before .before .before .before .before .before in
-    let due = start .pre .1 in
-    let kind = c .before .before .before .before .before .before .match .keys3 in
-    let first-part = c .before .before .before .before .write-concat3 .ensures in (
-      omega (arith, start .pre .0, inside _ _ _ _ _ due, started _ _ _ _ _ _ first-part due (omega arith) (omega arith)),
-      aside-due _ _ _ _ _ _ first-part refl kind due,
-    )
+  sub-copy-prefix-2 : lts.Need-sub-copy-prefix-2 calls here write-concat.Post
+  sub-copy-prefix-2 c = simp length-set (omega (arith, inside _ _ _ _ _ (entry (c .before) .pre .1)))
 
-write-concat-onward-requires-3 : (t : ℕ) → write-concat-lts.Need-onward-requires-3 (calls t) (write-concat-at t) write-concat.Post
-write-concat-onward-requires-3 t c κs =
-    let due = c .before .before .before .before .before .before .before .before .before .before .before .before .before .before .pre .1 in
-    let kind = c .before .before .before .before .before .before .before .before .before .match .keys3 in
-    omega (
-      arith,
-      settled _ _ _ _ _ due
-          (aside-written _ _ _ _ _ _ (c .before .before .before .before .before .before .before .write-concat3 .ensures) refl kind (c .before .before .write-concat4 .ensures)),
-    )
+  part-copy-prefix-start-2 : lts.Need-part-copy-prefix-start-2 calls here write-concat.Post
+  part-copy-prefix-start-2 c = sub-copy-prefix-2 c
 
-write-concat-returns-4 : (t : ℕ) → write-concat-lts.Need-returns-4 (calls t) (write-concat-at t) write-concat.Post
-write-concat-returns-4 t c =
-    let kind = c .before .before .before .before .before .before .before .before .before .before .match .keys3 in
-    let first-part = c .before .before .before .before .before .before .before .before .write-concat3 .ensures in
-    rw (c .onward3 .ensures)
-    (aside-written _ _ _ _ _ _ first-part refl kind (c .before .before .before .write-concat4 .ensures))
+  part-copy-prefix-end-2 : lts.Need-part-copy-prefix-end-2 calls here write-concat.Post
+  part-copy-prefix-end-2 c = search needs
 
-write-concat-same-length-4 : (t : ℕ) → write-concat-lts.Need-same-length-4 (calls t) (write-concat-at t) write-concat.Post
-write-concat-same-length-4 t c =
-    let due = c .before .before .before .before .before .before .before .before .before .before .before .before .before .before .before .pre .1 in
-    settled _ _ _ _ _ due (write-concat-returns-4 t c) .kept
+  copy-prefix-requires-2 : lts.Need-copy-prefix-requires-2 calls here write-concat.Post
+  copy-prefix-requires-2 c κs = copies-first _ _ _ _ _ (c .before .match .keys2) (entry (c .before .before) .pre .1)
 
--- A leaf.
+  add-written-2 : lts.Need-add-written-2 calls here write-concat.Post
+  add-written-2 c =
+      let first = behind-copied c in
+      let kind = copied-kind first in
+      omega (arith, copied _ _ _ _ _ (kind .match .keys2) (first .copy-prefix2 .ensures) (entry (kind .before) .pre .1))
 
-write-concat-write-leaf-concat-requires : (t : ℕ) → write-concat-lts.Need-write-leaf-concat-requires (calls t) (write-concat-at t) write-concat.Post
-write-concat-write-leaf-concat-requires t c κs =
-    leaf-due (c .before .before .before .before .before .before .pre .1) (c .before .match .rest .0 .0 .1) (c .before .match .rest .0 .1) (c .before .match .rest .1)
+  add-write-concat-3 : lts.Need-add-write-concat-3 calls here write-concat.Post
+  add-write-concat-3 c =
+      let first = behind-copied c in
+      let kind = copied-kind first in
+      omega (arith, copied _ _ _ _ _ (kind .match .keys2) (first .copy-prefix2 .ensures) (entry (kind .before) .pre .1))
 
-write-concat-same-length-5 : (t : ℕ) → write-concat-lts.Need-same-length-5 (calls t) (write-concat-at t) write-concat.Post
-write-concat-same-length-5 t c = settled _ _ _ _ _ (c .before .before .before .before .before .before .before .before .before .pre .1) (c .before .before .write-leaf-concat .ensures) .kept
+  sub-write-concat-2 : lts.Need-sub-write-concat-2 calls here write-concat.Post
+  sub-write-concat-2 c =
+      let first = behind-copied c in
+      let kind = copied-kind first in
+      omega (arith, copied _ _ _ _ _ (kind .match .keys2) (first .copy-prefix2 .ensures) (entry (kind .before) .pre .1))
 
-write-concat-returns-5 : (t : ℕ) → write-concat-lts.Need-returns-5 (calls t) (write-concat-at t) write-concat.Post
-write-concat-returns-5 t c = c .before .before .write-leaf-concat .ensures
+  part-write-concat-start-2 : lts.Need-part-write-concat-start-2 calls here write-concat.Post
+  part-write-concat-start-2 c = sub-write-concat-2 c
+
+  part-write-concat-end-2 : lts.Need-part-write-concat-end-2 calls here write-concat.Post
+  part-write-concat-end-2 c = search needs
+
+  write-concat-requires-2 : lts.Need-write-concat-requires-2 calls here write-concat.Post
+  write-concat-requires-2 c κs =
+      let first = behind-copied (c .before) in
+      let kind = copied-kind first in
+      let start = entry (kind .before) in (
+        omega (
+          arith,
+          start .pre .0,
+          inside _ _ _ _ _ (start .pre .1),
+          copied _ _ _ _ _ (kind .match .keys2) (first .copy-prefix2 .ensures) (start .pre .1),
+        ),
+        behind-due _ _ _ _ _ (kind .match .keys2) (first .copy-prefix2 .ensures) (start .pre .1),
+      )
+
+  onward-requires-2 : lts.Need-onward-requires-2 calls here write-concat.Post
+  onward-requires-2 c κs =
+      let call = behind-call c in
+      let first = behind-first call in
+      let kind = copied-kind first in
+      omega (
+        arith,
+        entry (kind .before) .good,
+        settled _ _ _ _ _ (entry (kind .before) .pre .1)
+            (behind-written _ _ _ _ _ (kind .match .keys2) (first .copy-prefix2 .ensures) (call .write-concat2 .ensures)),
+      )
+
+  returns-3 : lts.Need-returns-3 calls here write-concat.Post
+  returns-3 c =
+      let call = behind-call (c .before) in
+      let first = behind-first call in
+      rw (c .onward2 .ensures)
+      (behind-written _ _ _ _ _ (copied-kind first .match .keys2) (first .copy-prefix2 .ensures) (call .write-concat2 .ensures))
+
+  same-length-3 : lts.Need-same-length-3 calls here write-concat.Post
+  same-length-3 c =
+      let first = behind-first (behind-call (c .before)) in
+      settled _ _ _ _ _ (entry (copied-kind first .before) .pre .1) (returns-3 c) .kept
+
+  -- Two prefixes side by side.
+
+  slice-write-out-3 : lts.Need-slice-write-out-3 calls here write-concat.Post
+  slice-write-out-3 c = omega (arith, inside _ _ _ _ _ (entry (c .before) .pre .1))
+
+  add-write-concat-4 : lts.Need-add-write-concat-4 calls here write-concat.Post
+  add-write-concat-4 c = omega (arith, inside _ _ _ _ _ (entry (c .before) .pre .1))
+
+  add-write-concat-5 : lts.Need-add-write-concat-5 calls here write-concat.Post
+  add-write-concat-5 c = omega (arith, inside _ _ _ _ _ (entry (c .before) .pre .1))
+
+  sub-write-concat-3 : lts.Need-sub-write-concat-3 calls here write-concat.Post
+  sub-write-concat-3 c = simp length-set (omega (arith, inside _ _ _ _ _ (entry (c .before) .pre .1)))
+
+  part-write-concat-start-3 : lts.Need-part-write-concat-start-3 calls here write-concat.Post
+  part-write-concat-start-3 c = sub-write-concat-3 c
+
+  part-write-concat-end-3 : lts.Need-part-write-concat-end-3 calls here write-concat.Post
+  part-write-concat-end-3 c = search needs
+
+  write-concat-requires-3 : lts.Need-write-concat-requires-3 calls here write-concat.Post
+  write-concat-requires-3 c κs =
+      let kind = c .before in
+      let start = entry (kind .before) in (
+        omega (arith, start .pre .0, inside _ _ _ _ _ (start .pre .1)),
+        joins-first _ _ _ _ _ _ (start .pre .1) (rw (kind .match .keys3) (omega arith)) (λ six. omega (arith, kind .match .keys3)),
+      )
+
+  add-written-3 : lts.Need-add-written-3 calls here write-concat.Post
+  add-written-3 c =
+      let first = aside-part c in
+      let kind = aside-kind first in
+      omega (
+        arith,
+        entry (kind .before) .good,
+        started _ _ _ _ _ _ (first .write-concat3 .ensures) (entry (kind .before) .pre .1) (rw (kind .match .keys3) (omega arith))
+            (λ six. omega (arith, kind .match .keys3)),
+      )
+
+  sub-write-concat-4 : lts.Need-sub-write-concat-4 calls here write-concat.Post
+  sub-write-concat-4 c =
+      let first = aside-part c in
+      let kind = aside-kind first in
+      omega (
+        arith,
+        entry (kind .before) .good,
+        started _ _ _ _ _ _ (first .write-concat3 .ensures) (entry (kind .before) .pre .1) (rw (kind .match .keys3) (omega arith))
+            (λ six. omega (arith, kind .match .keys3)),
+      )
+
+  part-write-concat-start-4 : lts.Need-part-write-concat-start-4 calls here write-concat.Post
+  part-write-concat-start-4 c = sub-write-concat-4 c
+
+  part-write-concat-end-4 : lts.Need-part-write-concat-end-4 calls here write-concat.Post
+  part-write-concat-end-4 c = search needs
+
+  write-concat-requires-4 : lts.Need-write-concat-requires-4 calls here write-concat.Post
+  write-concat-requires-4 c κs =
+      let first = aside-part (c .before) in
+      let kind = aside-kind first in
+      let start = entry (kind .before) in (
+        omega (
+          arith,
+          start .pre .0,
+          inside _ _ _ _ _ (start .pre .1),
+          started _ _ _ _ _ _ (first .write-concat3 .ensures) (start .pre .1) (rw (kind .match .keys3) (omega arith))
+              (λ six. omega (arith, kind .match .keys3)),
+        ),
+        aside-due _ _ _ _ _ _ (first .write-concat3 .ensures) refl (kind .match .keys3) (start .pre .1),
+      )
+
+  onward-requires-3 : lts.Need-onward-requires-3 calls here write-concat.Post
+  onward-requires-3 c κs =
+      let call = both-call c in
+      let first = both-part call in
+      let kind = aside-kind first in
+      omega (
+        arith,
+        entry (kind .before) .good,
+        settled _ _ _ _ _ (entry (kind .before) .pre .1)
+            (aside-written _ _ _ _ _ _ (first .write-concat3 .ensures) refl (kind .match .keys3) (call .write-concat4 .ensures)),
+      )
+
+  returns-4 : lts.Need-returns-4 calls here write-concat.Post
+  returns-4 c =
+      let call = both-call (c .before) in
+      let first = both-part call in
+      rw (c .onward3 .ensures)
+      (aside-written _ _ _ _ _ _ (first .write-concat3 .ensures) refl (aside-kind first .match .keys3) (call .write-concat4 .ensures))
+
+  same-length-4 : lts.Need-same-length-4 calls here write-concat.Post
+  same-length-4 c =
+      let first = both-part (both-call (c .before)) in
+      settled _ _ _ _ _ (entry (aside-kind first .before) .pre .1) (returns-4 c) .kept
+
+  -- A leaf.
+
+  write-leaf-concat-requires : lts.Need-write-leaf-concat-requires calls here write-concat.Post
+  write-leaf-concat-requires c κs = leaf-due (c .before .if2 .taken) (entry (leaf-read (c .before)) .pre .1)
+
+  returns-5 : lts.Need-returns-5 calls here write-concat.Post
+  returns-5 c = leaf-call c .write-leaf-concat .ensures
+
+  same-length-5 : lts.Need-same-length-5 calls here write-concat.Post
+  same-length-5 c =
+      let branch = leaf-call c .before .before in
+      settled _ _ _ _ _ (entry (leaf-read branch) .pre .1) (returns-5 c) .kept
+
+  -- A kind above 7 does not stand there.
+
+  new-requires-2 : lts.Need-new-requires-2 calls here write-concat.Post
+  new-requires-2 c κs = search needs
+
+  returns-6 : lts.Need-returns-6 calls here write-concat.Post
+  returns-6 c = record { each = λ due. absurd (unlisted (omega (arith, c .before .if2 .left, c .before .before .match .rest)) due) }
 
 pub +write-concat-spec : {M : Type 1} → statement M
 +write-concat-spec =
     close
     μ-write-concat
-    λ t. write-concat-lts.spec
+    λ t. lts.spec
     (calls t)
-    (write-concat-at t)
+    (here t)
     write-concat.Post
-    (write-concat-shared-slice-read-match t)
-    (write-concat-shared-slice-read-kind t)
-    (write-concat-slice-write-out t)
-    (write-concat-add-write-concat t)
-    (write-concat-add-write-concat-2 t)
-    (write-concat-sub-write-concat t)
-    (write-concat-part-write-concat-start t)
-    (write-concat-part-write-concat-end t)
-    (write-concat-write-concat-requires t)
-    (write-concat-onward-requires t)
-    (write-concat-same-length t)
-    (write-concat-returns t)
-    (write-concat-add-written t)
-    (write-concat-sub-copy-prefix t)
-    (write-concat-part-copy-prefix-start t)
-    (write-concat-part-copy-prefix-end t)
-    (write-concat-copy-prefix-requires t)
-    (write-concat-add-new t)
-    (write-concat-add-new-2 t)
-    (write-concat-new-requires t)
-    (write-concat-slice-write-out-2 t)
-    (write-concat-add-copy-prefix t)
-    (write-concat-sub-copy-prefix-2 t)
-    (write-concat-part-copy-prefix-start-2 t)
-    (write-concat-part-copy-prefix-end-2 t)
-    (write-concat-copy-prefix-requires-2 t)
-    (write-concat-add-written-2 t)
-    (write-concat-add-write-concat-3 t)
-    (write-concat-sub-write-concat-2 t)
-    (write-concat-part-write-concat-start-2 t)
-    (write-concat-part-write-concat-end-2 t)
-    (write-concat-write-concat-requires-2 t)
-    (write-concat-onward-requires-2 t)
-    (write-concat-slice-write-out-3 t)
-    (write-concat-add-write-concat-4 t)
-    (write-concat-add-write-concat-5 t)
-    (write-concat-sub-write-concat-3 t)
-    (write-concat-part-write-concat-start-3 t)
-    (write-concat-part-write-concat-end-3 t)
-    (write-concat-write-concat-requires-3 t)
-    (write-concat-add-written-3 t)
-    (write-concat-sub-write-concat-4 t)
-    (write-concat-part-write-concat-start-4 t)
-    (write-concat-part-write-concat-end-4 t)
-    (write-concat-write-concat-requires-4 t)
-    (write-concat-onward-requires-3 t)
-    (write-concat-write-leaf-concat-requires t)
-    (write-concat-same-length-2 t)
-    (write-concat-returns-2 t)
-    (write-concat-same-length-3 t)
-    (write-concat-returns-3 t)
-    (write-concat-same-length-4 t)
-    (write-concat-returns-4 t)
-    (write-concat-same-length-5 t)
-    (write-concat-returns-5 t)
+    (shared-slice-read-match t)
+    (shared-slice-read-kind t)
+    (slice-write-out t)
+    (add-write-concat t)
+    (add-write-concat-2 t)
+    (sub-write-concat t)
+    (part-write-concat-start t)
+    (part-write-concat-end t)
+    (write-concat-requires t)
+    (onward-requires t)
+    (same-length t)
+    (returns t)
+    (add-written t)
+    (sub-copy-prefix t)
+    (part-copy-prefix-start t)
+    (part-copy-prefix-end t)
+    (copy-prefix-requires t)
+    (add-new t)
+    (add-new-2 t)
+    (new-requires t)
+    (slice-write-out-2 t)
+    (add-copy-prefix t)
+    (sub-copy-prefix-2 t)
+    (part-copy-prefix-start-2 t)
+    (part-copy-prefix-end-2 t)
+    (copy-prefix-requires-2 t)
+    (add-written-2 t)
+    (add-write-concat-3 t)
+    (sub-write-concat-2 t)
+    (part-write-concat-start-2 t)
+    (part-write-concat-end-2 t)
+    (write-concat-requires-2 t)
+    (onward-requires-2 t)
+    (slice-write-out-3 t)
+    (add-write-concat-4 t)
+    (add-write-concat-5 t)
+    (sub-write-concat-3 t)
+    (part-write-concat-start-3 t)
+    (part-write-concat-end-3 t)
+    (write-concat-requires-3 t)
+    (add-written-3 t)
+    (sub-write-concat-4 t)
+    (part-write-concat-start-4 t)
+    (part-write-concat-end-4 t)
+    (write-concat-requires-4 t)
+    (onward-requires-3 t)
+    (write-leaf-concat-requires t)
+    (new-requires-2 t)
+    (same-length-2 t)
+    (returns-2 t)
+    (same-length-3 t)
+    (returns-3 t)
+    (same-length-4 t)
+    (returns-4 t)
+    (same-length-5 t)
+    (returns-5 t)
+    (returns-6 t)

@@ -20,14 +20,21 @@ returns-3 c = search needs
 returns-4 : tie.Need-returns-4
 returns-4 c = search needs
 
--- Every other kind is that of types side by side.
-other : (k : ℕ) → 4 ≤ k → 7 ≡ empty-kind k
-other =
-    every (λ k begins. 4 ≤ k → 7 ≡ begins) 7 _
-    ((λ h. absurd (omega arith)) & (λ h. absurd (omega arith)) & (λ h. absurd (omega arith)) & (λ h. absurd (omega arith)) & past (λ k i h. refl))
-
 returns-5 : tie.Need-returns-5
-returns-5 c = other (c .before .args .kind) (omega arith)
+returns-5 c = search needs
+
+other : (k : ℕ) → 5 ≤ k → 7 ≡ empty-kind k
+other =
+    every (λ k begins. 5 ≤ k → 7 ≡ begins) 7 _
+    ((λ h. absurd (omega arith))
+    & (λ h. absurd (omega arith))
+    & (λ h. absurd (omega arith))
+    & (λ h. absurd (omega arith))
+    & (λ h. absurd (omega arith))
+    & past (λ k i h. refl))
+
+returns-6 : tie.Need-returns-6
+returns-6 c = other (c .before .args .kind) (omega arith)
 
 pub empty-kind-spec : {M : Type 1} → statement M
-empty-kind-spec = tie.close (tie.spec returns returns-2 returns-3 returns-4 returns-5)
+empty-kind-spec = tie.close (tie.spec returns returns-2 returns-3 returns-4 returns-5 returns-6)

@@ -1,68 +1,108 @@
--- `write_spent` meets its contract: whatever complete prefix stands at `at`, what is written so far goes before what is left by
--- the `owed` complete prefixes from `from` on (`Spending`). A crossed one makes way for its second part, two side by side for
+-- `write_spent` meets its contract: whatever complete prefix stands at `place`, what is written so far goes before what is left by
+-- the `owed` complete prefixes from `next` on (`Spending`). A crossed one makes way for its second part, two side by side for
 -- both and a byte 4, and a leaf for a byte 0.
 use borrow.Author.Needs.{needs}
 use native.Mathlib.Omega.{arith}
 use Prim.Native.Nat.{_-_}
 use lib.ListN.{length}
 use Rattle.writing.specs.Writing.{SpentDue}
-use Rattle.writing.proofs.SpentWalk.{to-write, Spending, starts, spent, fits, length-stays, within, inside, first-part-at, crossed, forked, leaf}
+use Rattle.writing.proofs.SpentWalk.{to-write, Spending, starts, spent, fits, length-stays, within, inside, first-part-at, crossed, forked, leaf, no-other}
 use Rattle.writing.proofs.write_spent.Statement.{statement}
 use Rattle.writing.proofs.write_spent.Tie as tie
 
 abbrev Inv-loop : tie.InvT-loop
-Inv-loop slice at out₀ owed₀ from₀ written₀ out owed from written = (due : SpentDue slice at out₀) → Spending slice out₀ (to-write due) out owed from written
+Inv-loop slice place out₀ owed₀ next₀ written₀ out owed next written = (due : SpentDue slice place out₀) → Spending slice out₀ (to-write due) out owed next written
 
 abbrev μ-loop : tie.MeasureT-loop
-μ-loop slice at out₀ owed₀ from₀ written₀ out owed from written = length slice - from
+μ-loop slice place out₀ owed₀ next₀ written₀ out owed next written = length slice - next
+
+-- The places: the entry; a turn of the loop, in which the kind is read; the arms of the kinds 6 and 0 to 4, up to their calls.
+
+abbrev entry : tie.At-loop Inv-loop μ-loop → tie.Start Inv-loop μ-loop
+entry c = c .before .before .before
+
+abbrev turn : tie.After-shared-slice-known2 Inv-loop μ-loop → tie.At-loop Inv-loop μ-loop
+turn c = c .before .before
+
+abbrev skipped : tie.After-skip-prefix Inv-loop μ-loop → tie.After-shared-slice-known2 Inv-loop μ-loop
+skipped c = c .before .before
+
+abbrev leaf-read : tie.Then1 Inv-loop μ-loop → tie.After-shared-slice-known2 Inv-loop μ-loop
+leaf-read c = c .before .before
+
+abbrev other-read : tie.Else1 Inv-loop μ-loop → tie.After-shared-slice-known2 Inv-loop μ-loop
+other-read c = c .before .before
+
+-- How far the loop has come, where one prefix more is owed.
+
+abbrev spending : (c : tie.After-shared-slice-known2 Inv-loop μ-loop) →
+    Spending (entry (turn c) .args .slice .now) (entry (turn c) .args .out .now) (to-write (entry (turn c) .pre)) (turn c .loop .out)
+    (turn c .loop .owed) (turn c .loop .next) (turn c .loop .written)
+spending c = turn c .loop .inv (entry (turn c) .pre)
 
 loop-holds : tie.Need-loop-holds Inv-loop μ-loop
 loop-holds c = λ due. starts due
 
 shared-slice-read-kind : tie.Need-shared-slice-read-kind Inv-loop μ-loop
-shared-slice-read-kind c = inside (c .before .before .loop .inv (c .before .before .before .before .before .pre)) (omega arith)
+shared-slice-read-kind c = inside (spending c) (omega arith)
+
+-- A first part that is still coming does not stand there, nor a kind above 7.
+
+returns : tie.Need-returns Inv-loop μ-loop
+returns c = absurd (no-other (spending (c .before)) (omega arith) .0 (c .match .keys1))
+
+same-length : tie.Need-same-length Inv-loop μ-loop
+same-length c = absurd (no-other (spending (c .before)) (omega arith) .0 (c .match .keys1))
+
+returns-2 : tie.Need-returns-2 Inv-loop μ-loop
+returns-2 c = absurd (omega (arith, no-other (spending (other-read c)) (omega arith) .1))
+
+same-length-2 : tie.Need-same-length-2 Inv-loop μ-loop
+same-length-2 c = absurd (omega (arith, no-other (spending (other-read c)) (omega arith) .1))
+
+-- A crossed prefix.
 
 add-skip-prefix : tie.Need-add-skip-prefix Inv-loop μ-loop
-add-skip-prefix c = omega (arith, inside (c .before .before .before .loop .inv (c .before .before .before .before .before .before .pre)) (omega arith))
+add-skip-prefix c = omega (arith, inside (spending (c .before)) (omega arith))
 
 skip-prefix-requires : tie.Need-skip-prefix-requires Inv-loop μ-loop
-skip-prefix-requires c κs = first-part-at (c .before .before .before .loop .inv (c .before .before .before .before .before .before .pre)) (omega arith) (omega arith)
+skip-prefix-requires c κs = first-part-at (spending (c .before)) (omega arith) (c .match .keys2)
 
 loop-less : tie.Need-loop-less Inv-loop μ-loop
 loop-less c =
-    let spending = c .before .before .before .before .loop .inv (c .before .before .before .before .before .before .before .pre) in
-    omega (arith, inside spending (omega arith), crossed spending (omega arith) (omega arith) (c .skip-prefix .ensures) .0)
+    let so-far = spending (skipped c) in
+    omega (arith, inside so-far (omega arith), crossed so-far (omega arith) (c .before .match .keys2) (c .skip-prefix .ensures) .0)
 
 loop-again : tie.Need-loop-again Inv-loop μ-loop
-loop-again c = λ due. crossed (c .before .before .before .before .loop .inv due) (omega arith) (omega arith) (c .skip-prefix .ensures) .1
+loop-again c = λ due. crossed (turn (skipped c) .loop .inv due) (omega arith) (c .before .match .keys2) (c .skip-prefix .ensures) .1
+
+-- Two prefixes side by side.
 
 slice-write-out : tie.Need-slice-write-out Inv-loop μ-loop
-slice-write-out c =
-    let spending = c .before .before .before .before .loop .inv (c .before .before .before .before .before .before .before .pre) in
-    omega (arith, fits spending, length-stays spending)
+slice-write-out c = omega (arith, fits (spending (c .before)), length-stays (spending (c .before)))
 
 add-written : tie.Need-add-written Inv-loop μ-loop
-add-written c = omega (arith, fits (c .before .before .before .before .loop .inv (c .before .before .before .before .before .before .before .pre)))
+add-written c = omega (arith, fits (spending (c .before)))
 
 add-owed : tie.Need-add-owed Inv-loop μ-loop
-add-owed c = omega (arith, fits (c .before .before .before .before .loop .inv (c .before .before .before .before .before .before .before .pre)))
+add-owed c = omega (arith, fits (spending (c .before)))
 
-add-from : tie.Need-add-from Inv-loop μ-loop
-add-from c = omega (arith, inside (c .before .before .before .before .loop .inv (c .before .before .before .before .before .before .before .pre)) (omega arith))
+add-next : tie.Need-add-next Inv-loop μ-loop
+add-next c = omega (arith, inside (spending (c .before)) (omega arith))
 
 loop-less-2 : tie.Need-loop-less-2 Inv-loop μ-loop
-loop-less-2 c = omega (arith, inside (c .before .before .before .before .loop .inv (c .before .before .before .before .before .before .before .pre)) (omega arith))
+loop-less-2 c = omega (arith, inside (spending (c .before)) (omega arith))
 
 loop-again-2 : tie.Need-loop-again-2 Inv-loop μ-loop
-loop-again-2 c = λ due. forked (c .before .before .before .before .loop .inv due) (omega arith) (omega arith)
+loop-again-2 c = λ due. forked (turn (c .before) .loop .inv due) (omega arith) (c .match .keys3)
+
+-- A leaf.
 
 slice-write-out-2 : tie.Need-slice-write-out-2 Inv-loop μ-loop
-slice-write-out-2 c =
-    let spending = c .before .before .before .before .loop .inv (c .before .before .before .before .before .before .before .pre) in
-    omega (arith, fits spending, length-stays spending)
+slice-write-out-2 c = omega (arith, fits (spending (leaf-read c)), length-stays (spending (leaf-read c)))
 
 add-written-2 : tie.Need-add-written-2 Inv-loop μ-loop
-add-written-2 c = omega (arith, fits (c .before .before .before .before .loop .inv (c .before .before .before .before .before .before .before .pre)))
+add-written-2 c = omega (arith, fits (spending (leaf-read c)))
 
 sub-owed : tie.Need-sub-owed Inv-loop μ-loop
 sub-owed c = omega arith
@@ -72,20 +112,20 @@ root-width-requires c κs = search needs
 
 loop-less-3 : tie.Need-loop-less-3 Inv-loop μ-loop
 loop-less-3 c =
-    let spending = c .before .before .before .before .before .loop .inv (c .before .before .before .before .before .before .before .before .pre) in
-    omega (arith, inside spending (omega arith), leaf spending (omega arith) (λ six. omega arith) (λ seven. omega arith) (c .root-width .ensures) .0)
+    let so-far = spending (leaf-read (c .before)) in
+    omega (arith, inside so-far (omega arith), leaf so-far (omega arith) (c .before .if1 .taken) (c .root-width .ensures) .0)
 
 loop-again-3 : tie.Need-loop-again-3 Inv-loop μ-loop
-loop-again-3 c = λ due. leaf (c .before .before .before .before .before .loop .inv due) (omega arith) (λ six. omega arith) (λ seven. omega arith) (c .root-width .ensures) .1
+loop-again-3 c = λ due. leaf (turn (leaf-read (c .before)) .loop .inv due) (omega arith) (c .before .if1 .taken) (c .root-width .ensures) .1
 
-add-from-2 : tie.Need-add-from-2 Inv-loop μ-loop
-add-from-2 c = omega (arith, within (loop-again-3 c (c .before .before .before .before .before .before .before .before .pre)))
+add-next-2 : tie.Need-add-next-2 Inv-loop μ-loop
+add-next-2 c = omega (arith, within (loop-again-3 c (entry (turn (leaf-read (c .before))) .pre)))
 
-same-length : tie.Need-same-length Inv-loop μ-loop
-same-length c = length-stays (c .before .loop .inv (c .before .before .before .before .pre))
+same-length-3 : tie.Need-same-length-3 Inv-loop μ-loop
+same-length-3 c = length-stays (c .before .loop .inv (entry (c .before) .pre))
 
-returns : tie.Need-returns Inv-loop μ-loop
-returns c = spent (c .before .loop .inv) (omega arith)
+returns-3 : tie.Need-returns-3 Inv-loop μ-loop
+returns-3 c = spent (c .before .loop .inv) (omega arith)
 
 pub write-spent-spec : {M : Type 1} → statement M
 write-spent-spec =
@@ -95,6 +135,8 @@ write-spent-spec =
     μ-loop
     loop-holds
     shared-slice-read-kind
+    same-length
+    returns
     add-skip-prefix
     skip-prefix-requires
     loop-less
@@ -102,15 +144,17 @@ write-spent-spec =
     slice-write-out
     add-written
     add-owed
-    add-from
+    add-next
     loop-less-2
     loop-again-2
     slice-write-out-2
     add-written-2
     sub-owed
     root-width-requires
-    add-from-2
+    add-next-2
     loop-less-3
     loop-again-3
-    same-length
-    returns)
+    same-length-2
+    returns-2
+    same-length-3
+    returns-3)
