@@ -1,6 +1,7 @@
 -- `type_leaf` meets its contract: each kind without parts gives what the function for it writes (`TypingLeaf`).
 use borrow.Author.Needs.{needs}
 use mathlib.Core.Path.{_≡_, refl, ap}
+use mathlib.Core.List.{[]}
 use Prim.Native.Nat.{ℕ, suc}
 use native.Mathlib.Omega.{arith}
 use lib.ListN.{getD}
