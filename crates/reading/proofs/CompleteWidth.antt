@@ -63,21 +63,21 @@ type-levels (seq s t) n r =
 type-levels (par s t) n r =
     rw (suc-add, add-assoc (size s) (size t) n, type-levels s (size t + n) (type-bytes t r), type-levels t n r) (omega arith)
 
--- From `at` to `from`, `count` levels have come; the others stand between `from` and `end`.
-pub record Counting (types : List ℕ) (at end count from : ℕ) : Type 0 where
-  pub whole : count + level-bytes (end - from) (drop from types) ≡ level-bytes (end - at) (drop at types)
+-- From `at` to `next`, `count` levels have come; the others stand between `next` and `end`.
+pub record Counting (types : List ℕ) (at end count next : ℕ) : Type 0 where
+  pub whole : count + level-bytes (end - next) (drop next types) ≡ level-bytes (end - at) (drop at types)
 
 -- At the start nothing has been counted.
 pub none-counted : {types : List ℕ} {at end : ℕ} → Counting types at end 0 at
 none-counted = record { whole = omega arith }
 
 -- The byte come to is counted if it is a level's kind.
-pub counted : {types : List ℕ} {at end count from : ℕ} → Counting types at end count from → from < end → from < length types
-    → Counting types at end (count + level-byte (getD types from 0)) (from + 1)
-counted {types} {at} {end} {count} {from} counting more inside =
-    let left : end - from ≡ suc (end - (from + 1)) = omega arith in
-    let ahead : level-bytes (end - from) (drop from types) ≡ level-byte (getD types from 0) + level-bytes (end - (from + 1)) (drop (from + 1) types)
-    = rw (left, drop-cons types from 0 inside, add-one) in
+pub counted : {types : List ℕ} {at end count next : ℕ} → Counting types at end count next → next < end → next < length types
+    → Counting types at end (count + level-byte (getD types next 0)) (next + 1)
+counted {types} {at} {end} {count} {next} counting more inside =
+    let left : end - next ≡ suc (end - (next + 1)) = omega arith in
+    let ahead : level-bytes (end - next) (drop next types) ≡ level-byte (getD types next 0) + level-bytes (end - (next + 1)) (drop (next + 1) types)
+    = rw (left, drop-cons types next 0 inside, add-one) in
     record { whole = omega (arith, ahead, counting .whole) }
 
 -- From `at` to `end` stand the levels of the type.
@@ -86,14 +86,14 @@ span-levels {types} {at} {end} span =
     let wide : end - at ≡ size (span .type) + 0 = omega (arith, span .ends) in
     rw (wide, span .stands .here, type-levels (span .type) 0 (span .stands .rest)) (omega arith)
 
-module _ {types : List ℕ} {at end count from : ℕ} (counting : Counting types at end count from) where
+module _ {types : List ℕ} {at end count next : ℕ} (counting : Counting types at end count next) where
   -- No more levels are counted than a type may have nodes.
   pub count-small : TypeSpans types at end → count ≤ type-limit
   count-small span = omega (arith, counting .whole, span-levels span, levels-few (span .type), span .stands .small)
 
   -- When all bytes have been counted, the width is known.
-  pub all-counted : end ≤ from → CompleteWide types at end (end - at + value-width * count)
+  pub all-counted : end ≤ next → CompleteWide types at end (end - at + value-width * count)
   all-counted past =
-      let none : end - from ≡ 0 = omega arith in
-      let all : count + level-bytes (end - from) (drop from types) ≡ count = rw none (omega arith) in
+      let none : end - next ≡ 0 = omega arith in
+      let all : count + level-bytes (end - next) (drop next types) ≡ count = rw none (omega arith) in
       record { each = λ span p h d. omega (arith, all, counting .whole, span-levels span, complete-width h d, span .ends) }

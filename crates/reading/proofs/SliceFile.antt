@@ -10,7 +10,7 @@ use Rattle.stream.specs.declared.Fault.the-variants.{SliceCutShort, SliceLeftOv
 use Rattle.reading.specs.declared.prefixes.Known.{Known}
 use Rattle.reading.specs.declared.prefixes.Walk.the-variants.{Past, Failed}
 use Rattle.reading.specs.declared.prefixes.SliceRead.the-variants.{Whole, Refused}
-use Rattle.stream.specs.Types.{Ty}
+use Rattle.stream.specs.Types.{Ty, type-limit}
 use Rattle.stream.specs.Reading.{Bytes, refused}
 use Rattle.stream.specs.Reading.Laws.{bytes-drop, bytes-take}
 use Rattle.stream.specs.Reading.Walking.{count, body}
@@ -38,7 +38,7 @@ module _ {types : List ℕ} {at : ℕ} (s : List ℕ) where
     pub walk-failed : (e : Fault) → Walks types at (body s) 0 false (Failed e) → ReadsSlice types at s (Refused e)
     unfolding slice-file read-prefix read-owed
     walk-failed e w =
-        refuses e (λ t stands. section.tree-failed SliceCutShort SliceLeftOver (read-prefix t) s two fits e (failed stands (body s) 0 false e w))
+        refuses e (λ t stands. section.tree-failed SliceCutShort SliceLeftOver (read-prefix t) s two fits e (failed stands (body s) 0 false type-limit (stands .small) e w))
 
     module _ (bytes : Bytes s) {type-end k : ℕ} {knowledge : Known} (walked : Walks types at (body s) 0 false (Past type-end k knowledge)) where
       held : (t : Ty) → TypeAt types at t
@@ -46,7 +46,7 @@ module _ {types : List ℕ} {at : ℕ} (s : List ℕ) where
       unfolding read-prefix read-owed
       held t stands =
           let b = bytes-take (count s) (drop 2 s) (bytes-drop 2 s bytes) in
-          let c = came stands (body s) 0 false b (omega arith) walked in
+          let c = came stands (body s) 0 false type-limit (stands .small) b (omega arith) walked in
           let n = simp length-drop at (ap length (c .behind)) in
           (record { tree = c .prefix; rest = c .rest; reads = c .reads; place = omega (arith, n, c .inside, body-length s two fits) }, c .knows)
 

@@ -2,7 +2,7 @@
 use mathlib.Core.Path.{_≡_}
 use mathlib.Core.Bool.{Bool, true, false, _&&_, not, cond}
 use mathlib.Core.List.{List, [], _∷_}
-use Prim.Native.Nat.{ℕ, suc, _+_, _-_, _<_}
+use Prim.Native.Nat.{ℕ, suc, _+_, _-_, _≤_, _<_}
 use lib.Dec.{eqb, leb}
 use lib.ListN.{length, getD, drop}
 use Rattle.stream.specs.declared.Fault.the-variants.{SliceCutShort}
@@ -70,7 +70,8 @@ pub record SomePrefixAt (bytes : List ℕ) (at : ℕ) : Type 0 where
 pub record PrefixEnds (bytes : List ℕ) (at end : ℕ) : Type 0 where
   pub each : (p : Prefix) → PrefixAt bytes at p → end ≡ at + prefix-width p
 
--- A type stands from `at` to `end`; `wide` is how many bytes each of its complete prefixes has.
+-- A type stands from `at` to `end`; `wide` is how many bytes each of its complete prefixes has. A complete prefix of it stands
+-- at `place`; `behind` is where that ends.
 pub record TypeSpans (types : List ℕ) (at end : ℕ) : Type 0 where
   pub type : Ty
   pub stands : TypeAt types at type
@@ -79,33 +80,62 @@ pub record TypeSpans (types : List ℕ) (at end : ℕ) : Type 0 where
 pub record CompleteWide (types : List ℕ) (at end wide : ℕ) : Type 0 where
   pub each : (span : TypeSpans types at end) (p : Prefix) → IsPrefix (span .type) p → Complete p → wide ≡ prefix-width p
 
+pub record CompleteAt (types : List ℕ) (at end : ℕ) (slice : List ℕ) (place : ℕ) : Type 0 where
+  pub span : TypeSpans types at end
+  pub prefix : Prefix
+  pub is-prefix : IsPrefix (span .type) prefix
+  pub is-complete : Complete prefix
+  pub stands : PrefixAt slice place prefix
+
+pub record CompleteEnds (types : List ℕ) (at end : ℕ) (slice : List ℕ) (place behind : ℕ) : Type 0 where
+  pub each : (due : CompleteAt types at end slice place) → behind ≡ place + prefix-width (due .prefix)
+
 -- The kind of type that each kind of slice belongs to, by its number; the kinds that keep a slice from being complete.
+abbrev pub types-by-kind : List ℕ
+types-by-kind = 0 ∷ 1 ∷ 1 ∷ 2 ∷ 2 ∷ 3 ∷ 3 ∷ 4 ∷ []
+
 abbrev pub type-kind-of : ℕ → ℕ
-type-kind-of k = getD (0 ∷ 1 ∷ 1 ∷ 2 ∷ 2 ∷ 3 ∷ 3 ∷ []) k 4
+type-kind-of k = getD types-by-kind k 4
+
+abbrev pub unfinished-by-kind : List Bool
+unfinished-by-kind = false ∷ true ∷ false ∷ true ∷ false ∷ true ∷ false ∷ false ∷ []
 
 abbrev pub is-unfinished : ℕ → Bool
-is-unfinished k = getD (false ∷ true ∷ false ∷ true ∷ false ∷ true ∷ []) k false
+is-unfinished k = getD unfinished-by-kind k false
 
 abbrev pub belongs-at : ℕ → ℕ → Bool → Bool
 belongs-at type-kind k must-complete = eqb type-kind (type-kind-of k) && not (must-complete && is-unfinished k)
 
 -- Whether the first part under a kind has to be complete; the kinds 0 to 4 have no parts.
-abbrev pub first-complete : ℕ → Bool → Bool
-first-complete k c = getD (c ∷ c ∷ c ∷ c ∷ c ∷ false ∷ true ∷ []) k c
+abbrev pub first-complete-by-kind : Bool → List Bool
+first-complete-by-kind c = c ∷ c ∷ c ∷ c ∷ c ∷ false ∷ true ∷ c ∷ []
 
--- A leaf of kind k at `from` of n bytes, walked through; its type ends at `type-end`.
-unfoldable pub leaf-walked : (type-end n from k : ℕ) → Walk
-leaf-walked type-end n from k =
-    cond (leb (root-width k) (n - from))
-    (Past type-end (from + root-width k) (record { complete = not (is-unfinished k); remains = 1; overlap = 1 }))
+abbrev pub first-complete : ℕ → Bool → Bool
+first-complete k c = getD (first-complete-by-kind c) k c
+
+-- How many nodes of its type a leaf of kind k stands on: all of them while it is awaited, one when it has come.
+abbrev pub stood-on : ℕ → Ty → ℕ
+stood-on k t = cond (is-unfinished k) (size t) 1
+
+-- A leaf of kind k at `place` of n bytes, walked through; it stands on `nodes` nodes of the type at `at`.
+unfoldable pub leaf-walked : (at nodes n place k : ℕ) → Walk
+leaf-walked at nodes n place k =
+    cond (leb (root-width k) (n - place))
+    (Past (at + nodes) (place + root-width k) (record { complete = not (is-unfinished k); remains = nodes; overlap = 1 }))
     (Failed SliceCutShort)
 
--- What is known of a sequence's prefix from its first part's.
+pub record WalksLeaf (types : List ℕ) (at : ℕ) (slice : List ℕ) (place : ℕ) (answer : Walk) : Type 0 where
+  pub each : (t : Ty) → TypeAt types at t
+      → answer ≡ leaf-walked at (stood-on (getD slice place 0) t) (length slice) place (getD slice place 0)
+
+-- What is known of a prefix by its parts: of a sequence, whose first part is still coming or was crossed, and of two side by side.
 abbrev pub first-known : Known → (second-size : ℕ) → Known
 first-known first second-size =
     record { complete = false; remains = 1 + first .remains + second-size; overlap = 1 + first .overlap }
 
--- Of two prefixes side by side; how the walk through both ends, from how it ends through the second.
+abbrev pub crossed-known : Known → Known → Known
+crossed-known first second = second
+
 abbrev pub both-known : Known → Known → Known
 both-known first second =
     record {
@@ -114,26 +144,28 @@ both-known first second =
       overlap = 1 + first .overlap + second .overlap;
     }
 
-abbrev pub beside-walked : Known → Walk → Walk
-beside-walked first (Past type-end prefix-end second) = Past type-end prefix-end (both-known first second)
-beside-walked first (Failed e) = Failed e
+-- How the walk through both parts ends, from how it ends through the second.
+abbrev pub combined : (Known → Known → Known) → Known → Walk → Walk
+combined both first (Past type-end prefix-end second) = Past type-end prefix-end (both first second)
+combined both first (Failed e) = Failed e
 
 abbrev pub SumsFit : Known → Walk → Type 0
 SumsFit first (Past type-end prefix-end second) = (first .remains + second .remains < type-limit) × (first .overlap + second .overlap < type-limit)
 SumsFit first (Failed e) = Unit
 
--- A prefix of what is owed, at the front of some bytes.
-unfoldable pub read-owed : Owed → List ℕ → Reading Prefix
-read-owed o s = tree SliceCutShort prefix-root type-limit o s
+-- A prefix of what is owed, of at most `budget` nodes, at the front of some bytes.
+unfoldable pub read-owed : (budget : ℕ) → Owed → List ℕ → Reading Prefix
+read-owed budget o s = tree SliceCutShort prefix-root budget o s
 
--- The walk's answer, whichever type stands at `at`: where type and prefix end, and what is known of the prefix.
+-- The walk's answer, whichever type stands at `at`, under any budget that is enough for that type: where type and prefix end, and
+-- what is known of the prefix.
 unfoldable pub walked : Ty → (type-end length-of-slice : ℕ) → Reading Prefix → Walk
 walked t type-end n (read p r) = Past type-end (n - length r) (known t p)
 walked t type-end n (fault e) = Failed e
 
-pub record Walks (types : List ℕ) (at : ℕ) (slice : List ℕ) (from : ℕ) (must-complete : Bool) (answer : Walk) : Type 0 where
-  pub each : (t : Ty) → TypeAt types at t
-      → answer ≡ walked t (at + size t) (length slice) (read-owed (owed t must-complete) (drop from slice))
+pub record Walks (types : List ℕ) (at : ℕ) (slice : List ℕ) (place : ℕ) (must-complete : Bool) (answer : Walk) : Type 0 where
+  pub each : (t : Ty) → TypeAt types at t → (budget : ℕ) → size t ≤ budget
+      → answer ≡ walked t (at + size t) (length slice) (read-owed budget (owed t must-complete) (drop place slice))
 
 -- A slice file that its reader accepts.
 pub record AcceptedSlice (t : Ty) (file : List ℕ) (about : Known) : Type 0 where

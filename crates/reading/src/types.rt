@@ -37,7 +37,9 @@ fn type_arity(kind: u8) -> usize
 {
     match kind {
         0..=2 => 0,
-        _ => 2,
+        3..=4 => 2,
+        // No type's kind.
+        5..=255 => 2,
     }
 }
 

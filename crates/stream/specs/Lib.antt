@@ -7,4 +7,5 @@ pub mod Buffers
 pub mod Bounds
 pub mod TypeFiles
 pub mod SliceFiles
+pub mod Tables
 pub mod Computing

@@ -12,7 +12,7 @@ use Rattle.stream.specs.Prefixes.{Prefix, nothing, cue-awaited, cue-come, level
 use Rattle.stream.specs.Prefixes.Functions.{concat}
 use Rattle.stream.specs.Reading.Laws.{_&_, past, every}
 use Rattle.stream.specs.SliceFiles.{prefix-bytes}
-use Rattle.stream.specs.Prefixes.Kinds.{prefix-kind, root-width}
+use Rattle.stream.specs.Prefixes.Kinds.{prefix-kind, root-width, tally}
 use Rattle.reading.specs.SliceReads.{prefix-width, overlap, PrefixAt}
 
 -- Widths
@@ -38,6 +38,18 @@ width-positive (level-come v) = omega arith
 width-positive (in-first p) = omega arith
 width-positive (crossed b q) = omega arith
 width-positive (beside p q) = omega arith
+
+-- The width of a prefix is the tally of the widths of its roots.
+pub width-tally : (p : Prefix) → prefix-width p ≡ tally root-width p
+unfolding prefix-width tally
+width-tally nothing = refl
+width-tally cue-awaited = refl
+width-tally cue-come = refl
+width-tally level-awaited = refl
+width-tally (level-come v) = refl
+width-tally (in-first p) = omega (arith, width-tally p)
+width-tally (crossed b q) = omega (arith, width-tally b, width-tally q)
+width-tally (beside p q) = omega (arith, width-tally p, width-tally q)
 
 pub overlap-within : (p : Prefix) → overlap p ≤ prefix-width p
 unfolding prefix-width overlap

@@ -14,7 +14,7 @@ use Rattle.stream.specs.Reading.{Bytes, read, fault}
 use Rattle.stream.specs.Reading.Laws.{bytes-drop, bytes-take, _&_, past, every}
 use Rattle.stream.specs.TypeFiles.{type-bytes, type-kinds, type-root, read-type, type-section}
 use Rattle.stream.specs.TypeFiles.Laws.{type-length, read-type-reads, read-type-sound}
-use Rattle.stream.specs.Types.Kinds.{type-arity}
+use Rattle.stream.specs.Types.Kinds.{type-arities, type-arity}
 use Rattle.reading.specs.Sections.{end-of}
 use Rattle.reading.specs.Sections.Laws.{inside, section-ended, Within, tree-within}
 use Rattle.reading.specs.TypeReads.{TypeAt, TypeEnds}
@@ -25,6 +25,12 @@ arity-small = every (λ k n. n ≤ 2) 2 _ (omega arith & omega arith & omega ari
 
 pub arity-paired : (k : ℕ) → type-arity k ≡ 2 * (type-arity k / 2)
 arity-paired = every (λ k n. n ≡ 2 * (n / 2)) 2 _ (omega arith & omega arith & omega arith & omega arith & omega arith & past (λ k h. omega arith))
+
+-- The kinds with two parts are 3 and 4.
+pub parts-fork : (k : ℕ) → type-arity k ≡ 2 → 3 ≤ k
+parts-fork =
+    every (λ k n. n ≡ 2 → 3 ≤ k) 2 type-arities
+    ((λ h. absurd (omega arith)) & (λ h. absurd (omega arith)) & (λ h. absurd (omega arith)) & (λ h. omega arith) & (λ h. omega arith) & past (λ k l h. omega arith))
 
 -- Behind a type stands what was put there.
 pub type-drop : (t : Ty) (r : List ℕ) → drop (size t) (type-bytes t r) ≡ r

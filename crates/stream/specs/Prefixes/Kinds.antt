@@ -1,7 +1,7 @@
 -- Prefixes by their kind bytes: how many parts a kind has, which they are, and sums over the nodes of a prefix by their kinds.
 -- What goes through the bytes of a slice goes by these tables.
 use mathlib.Core.Path.{_≡_, refl}
-use mathlib.Core.List.{List, [], _∷_}
+use mathlib.Core.List.{List, [], _∷_, _++_}
 use Prim.Native.Nat.{ℕ, suc, _+_}
 use native.Mathlib.Omega.{arith}
 use lib.ListN.{length, getD}
@@ -18,13 +18,19 @@ prefix-kind (in-first p) = 5
 prefix-kind (crossed b q) = 6
 prefix-kind (beside p q) = 7
 
--- How many parts each kind has; of a byte that is no slice's kind nobody asks.
+-- How many parts each kind has, by its number; of a byte that is no slice's kind nobody asks.
+abbrev pub prefix-arities : List ℕ
+prefix-arities = 0 ∷ 0 ∷ 0 ∷ 0 ∷ 0 ∷ 1 ∷ 2 ∷ 2 ∷ []
+
 abbrev pub prefix-arity : ℕ → ℕ
-prefix-arity k = getD (0 ∷ 0 ∷ 0 ∷ 0 ∷ 0 ∷ 1 ∷ 2 ∷ 2 ∷ []) k 2
+prefix-arity k = getD prefix-arities k 2
 
 -- How many bytes a node takes without its parts: its kind, and behind a level that has come the value.
+abbrev pub root-widths : List ℕ
+root-widths = 1 ∷ 1 ∷ 1 ∷ 1 ∷ suc value-width ∷ 1 ∷ 1 ∷ 1 ∷ []
+
 abbrev pub root-width : ℕ → ℕ
-root-width k = getD (1 ∷ 1 ∷ 1 ∷ 1 ∷ suc value-width ∷ 1 ∷ 1 ∷ 1 ∷ []) k 1
+root-width k = getD root-widths k 1
 
 -- The parts, left to right.
 abbrev pub prefix-parts : Prefix → List Prefix
@@ -47,8 +53,8 @@ prefix-parts-many (in-first p) = refl
 prefix-parts-many (crossed b q) = refl
 prefix-parts-many (beside p q) = refl
 
--- The sum over the nodes of a prefix of a number for each kind; and over several prefixes. How many bytes a prefix has, how many
--- nodes, and how many cues and levels have come in it are such sums.
+-- The sum over the nodes of a prefix of a number for each kind; over several prefixes; and over nodes of which the kinds are
+-- listed. How many bytes a prefix has, how many nodes, and how many cues and levels have come in it are such sums.
 unfoldable pub tally : (ℕ → ℕ) → Prefix → ℕ
 tally weight nothing = weight 0
 tally weight cue-awaited = weight 1
@@ -62,6 +68,14 @@ tally weight (beside p q) = weight 7 + (tally weight p + tally weight q)
 abbrev pub tallies : (ℕ → ℕ) → List Prefix → ℕ
 tallies weight [] = 0
 tallies weight (p ∷ ps) = tally weight p + tallies weight ps
+
+abbrev pub totals : (ℕ → ℕ) → List ℕ → ℕ
+totals weight [] = 0
+totals weight (k ∷ ks) = weight k + totals weight ks
+
+pub tallies-append : (weight : ℕ → ℕ) (ps qs : List Prefix) → tallies weight (ps ++ qs) ≡ tallies weight ps + tallies weight qs
+tallies-append weight [] qs = omega arith
+tallies-append weight (p ∷ ps) qs = omega (arith, tallies-append weight ps qs)
 
 -- A node counts for its kind, and its parts for themselves.
 pub tally-by-parts : (weight : ℕ → ℕ) (p : Prefix) → tally weight p ≡ weight (prefix-kind p) + tallies weight (prefix-parts p)

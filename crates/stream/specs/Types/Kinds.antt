@@ -7,9 +7,12 @@ use native.Mathlib.Omega.{arith}
 use lib.ListN.{length, getD}
 use Rattle.stream.specs.Types.{Ty, empty, cue, level, seq, par, size, kind}
 
--- How many parts each kind has; of a byte that is no type's kind nobody asks.
+-- How many parts each kind has, by its number; of a byte that is no type's kind nobody asks.
+abbrev pub type-arities : List ℕ
+type-arities = 0 ∷ 0 ∷ 0 ∷ 2 ∷ 2 ∷ []
+
 abbrev pub type-arity : ℕ → ℕ
-type-arity k = getD (0 ∷ 0 ∷ 0 ∷ 2 ∷ 2 ∷ []) k 2
+type-arity k = getD type-arities k 2
 
 -- The parts, left to right.
 abbrev pub type-parts : Ty → List Ty
@@ -38,3 +41,11 @@ size-by-parts cue = refl
 size-by-parts level = refl
 size-by-parts (seq s t) = omega arith
 size-by-parts (par s t) = omega arith
+
+-- A type without parts is one node.
+pub leaf-alone : (t : Ty) → type-arity (kind t) ≡ 0 → size t ≡ 1
+leaf-alone t none = go (type-parts t) (type-parts-many t) (size-by-parts t)
+  where
+    go : (ts : List Ty) → length ts ≡ type-arity (kind t) → size t ≡ suc (sizes ts) → size t ≡ 1
+    go [] many is = is
+    go (s ∷ ts) many is = absurd (omega arith)

@@ -1,4 +1,4 @@
--- `complete_width` meets its contract: `levels` is how many bytes from `at` to `from` are a level's kind (`Counting`), and a
+-- `complete_width` meets its contract: `levels` is how many bytes from `at` to `next` are a level's kind (`Counting`), and a
 -- complete prefix has a byte for each node of the type and a value for each level.
 use Prim.Native.Nat.{_-_}
 use native.Mathlib.Omega.{arith}
@@ -9,10 +9,10 @@ use Rattle.reading.proofs.prefixes.complete_width.Statement.{statement}
 use Rattle.reading.proofs.prefixes.complete_width.Tie as tie
 
 abbrev Inv-loop : tie.InvT-loop
-Inv-loop types at end levels₀ from₀ levels from = Counting types at end levels from
+Inv-loop types at end levels₀ next₀ levels next = Counting types at end levels next
 
 abbrev μ-loop : tie.MeasureT-loop
-μ-loop types at end levels₀ from₀ levels from = end - from
+μ-loop types at end levels₀ next₀ levels next = end - next
 
 loop-holds : tie.Need-loop-holds Inv-loop μ-loop
 loop-holds c = none-counted
@@ -29,8 +29,8 @@ loop-again c = counted (c .before .before .loop .inv) (omega arith) (shared-slic
 add-levels : tie.Need-add-levels Inv-loop μ-loop
 add-levels c = omega (arith, limit-is, count-small (loop-again c) (c .before .before .before .pre))
 
-add-from : tie.Need-add-from Inv-loop μ-loop
-add-from c = omega arith
+add-next : tie.Need-add-next Inv-loop μ-loop
+add-next c = omega arith
 
 loop-less : tie.Need-loop-less Inv-loop μ-loop
 loop-less c = omega arith
@@ -60,7 +60,7 @@ complete-width-spec =
     shared-slice-read-levels
     cast-levels
     add-levels
-    add-from
+    add-next
     loop-less
     loop-again
     sub-result

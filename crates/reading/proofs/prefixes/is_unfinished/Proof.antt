@@ -1,10 +1,10 @@
--- `is_unfinished` meets its contract: of all kinds only 1, 3 and 5 keep a slice from being complete.
+-- `is_unfinished` meets its contract: each arm has entries of the table that are alike, the last what stands past its end.
 use borrow.Author.Needs.{needs}
-use mathlib.Core.Path.{_≡_, refl}
+use native.Mathlib.Omega.{arith}
+use mathlib.Core.Path.{refl}
+use Rattle.stream.specs.Tables.{shared, beyond}
 use mathlib.Core.Bool.{false}
-use Prim.Native.Nat.{ℕ}
-use Rattle.stream.specs.Reading.Laws.{_&_, past, every}
-use Rattle.reading.specs.SliceReads.{is-unfinished}
+use Rattle.reading.specs.SliceReads.{unfinished-by-kind}
 use Rattle.reading.proofs.prefixes.is_unfinished.Statement.{statement}
 use Rattle.reading.proofs.prefixes.is_unfinished.Tie as tie
 
@@ -17,14 +17,20 @@ returns-2 c = search needs
 returns-3 : tie.Need-returns-3
 returns-3 c = search needs
 
-other : (k : ℕ) → (k ≡ 1 → ⊥) → (k ≡ 3 → ⊥) → (k ≡ 5 → ⊥) → false ≡ is-unfinished k
-other =
-    every (λ k b. (k ≡ 1 → ⊥) → (k ≡ 3 → ⊥) → (k ≡ 5 → ⊥) → false ≡ b) false _
-    ((λ i j l. refl) & (λ i j l. absurd (i refl)) & (λ i j l. refl) & (λ i j l. absurd (j refl)) & (λ i j l. refl) & (λ i j l. absurd (l refl))
-    & past (λ k h i j l. refl))
-
 returns-4 : tie.Need-returns-4
-returns-4 c = other _ (c .match .rest .0 .0 .1) (c .match .rest .0 .1) (c .match .rest .1)
+returns-4 c = search needs
+
+returns-5 : tie.Need-returns-5
+returns-5 c = search needs
+
+returns-6 : tie.Need-returns-6
+returns-6 c = search needs
+
+returns-7 : tie.Need-returns-7
+returns-7 c = shared unfinished-by-kind false 6 2 refl (c .before .before .args .kind) (omega arith) (omega arith)
+
+returns-8 : tie.Need-returns-8
+returns-8 c = beyond unfinished-by-kind false (c .before .before .args .kind) (omega arith)
 
 pub is-unfinished-spec : {M : Type 1} → statement M
-is-unfinished-spec = tie.close (tie.spec returns returns-2 returns-3 returns-4)
+is-unfinished-spec = tie.close (tie.spec returns returns-2 returns-3 returns-4 returns-5 returns-6 returns-7 returns-8)

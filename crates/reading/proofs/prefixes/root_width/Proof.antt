@@ -1,9 +1,9 @@
--- `root_width` meets its contract: only a level that has come, kind 4, has bytes behind its kind.
+-- `root_width` meets its contract: each arm has entries of the table that are alike, the last what stands past its end.
 use borrow.Author.Needs.{needs}
-use mathlib.Core.Path.{_≡_, refl}
-use Prim.Native.Nat.{ℕ}
-use Rattle.stream.specs.Reading.Laws.{_&_, past, every}
-use Rattle.stream.specs.Prefixes.Kinds.{root-width}
+use native.Mathlib.Omega.{arith}
+use mathlib.Core.Path.{refl}
+use Rattle.stream.specs.Tables.{shared, beyond}
+use Rattle.stream.specs.Prefixes.Kinds.{root-widths}
 use Rattle.reading.proofs.prefixes.root_width.Statement.{statement}
 use Rattle.reading.proofs.prefixes.root_width.Tie as tie
 
@@ -13,14 +13,14 @@ add-result c = search needs
 returns : tie.Need-returns
 returns c = search needs
 
--- Every other kind takes one byte.
-alone : (k : ℕ) → (k ≡ 4 → ⊥) → 1 ≡ root-width k
-alone =
-    every (λ k w. (k ≡ 4 → ⊥) → 1 ≡ w) 1 _
-    ((λ n. refl) & (λ n. refl) & (λ n. refl) & (λ n. refl) & (λ n. absurd (n refl)) & (λ n. refl) & (λ n. refl) & (λ n. refl) & past (λ k h n. refl))
-
 returns-2 : tie.Need-returns-2
-returns-2 c = alone _ (c .match .rest .1)
+returns-2 c = shared root-widths 1 0 4 refl (c .before .before .args .kind) (omega arith) (omega arith)
+
+returns-3 : tie.Need-returns-3
+returns-3 c = shared root-widths 1 5 3 refl (c .before .before .before .args .kind) (omega arith) (omega arith)
+
+returns-4 : tie.Need-returns-4
+returns-4 c = beyond root-widths 1 (c .before .before .before .args .kind) (omega arith)
 
 pub root-width-spec : {M : Type 1} → statement M
-root-width-spec = tie.close (tie.spec add-result returns returns-2)
+root-width-spec = tie.close (tie.spec add-result returns returns-2 returns-3 returns-4)

@@ -1,79 +1,96 @@
--- `skip_prefix` meets its contract: whichever prefix stands at `at`, a run of `owed` prefixes leads from `end` up to its end
--- (`Run`), and the byte there says how many parts take the place of the first of them.
-use Prim.Native.Nat.{_+_, _-_}
+-- `skip_prefix` meets its contract: whichever prefix stands at `place`, `owed` prefixes of it are ahead at `end` (`Run`), and the
+-- byte there says how many parts take the place of the first of them.
+use borrow.Author.Needs.{needs}
+use mathlib.Core.Path.{_∙_}
+use mathlib.Core.List.{List}
+use Prim.Native.Nat.{ℕ, _+_, _-_, _≤_}
 use native.Mathlib.Omega.{arith}
 use lib.ListN.{length, getD}
 use Rattle.stream.specs.Prefixes.{Prefix}
-use Rattle.reading.specs.SliceReads.{prefix-width, PrefixAt}
-use Rattle.reading.specs.SliceReads.Laws.{prefix-inside}
-use Rattle.reading.proofs.PrefixWalk.{Run, starts, level-wide, other-wide, room, finished, turned}
+use Rattle.reading.specs.SliceReads.{PrefixAt}
+use Rattle.reading.specs.SliceReads.Laws.{root-positive}
+use Rattle.reading.proofs.PrefixWalk.{Run, starts, room, finished, turned, parts-alone}
 use Rattle.reading.proofs.prefixes.skip_prefix.Statement.{statement}
 use Rattle.reading.proofs.prefixes.skip_prefix.Tie as tie
 
 abbrev Inv-loop : tie.InvT-loop
-Inv-loop slice at owed₀ end₀ owed end = (p : Prefix) → PrefixAt slice at p → Run slice (at + prefix-width p) owed end
+Inv-loop slice place owed₀ end₀ owed end = (p : Prefix) → PrefixAt slice place p → (passed : List ℕ) × Run slice place p passed owed end
 
 abbrev μ-loop : tie.MeasureT-loop
-μ-loop slice at owed₀ end₀ owed end = length slice - end
+μ-loop slice place owed₀ end₀ owed end = length slice - end
+
+-- Where the turn began, once the kind's parts are known; the function's entry; the kind.
+abbrev turn : tie.After-prefix-arity Inv-loop μ-loop → tie.At-loop Inv-loop μ-loop
+turn c = c .before .before .before
+
+abbrev entry : tie.At-loop Inv-loop μ-loop → tie.Start Inv-loop μ-loop
+entry c = c .before .before
+
+abbrev kind : tie.At-loop Inv-loop μ-loop → ℕ
+kind c = getD (entry c .args .slice .now) (c .loop .end) 0
+
+inside : (c : tie.At-loop Inv-loop μ-loop) → c .loop .end + c .loop .owed ≤ length (entry c .args .slice .now)
+inside c = let some = entry c .pre in room (c .loop .inv (some .prefix) (some .stands) .1) (some .stands)
 
 loop-holds : tie.Need-loop-holds Inv-loop μ-loop
-loop-holds c = λ p s. starts p s
+loop-holds c = λ p s. (_, starts p s)
 
 shared-slice-read-kind : tie.Need-shared-slice-read-kind Inv-loop μ-loop
-shared-slice-read-kind c =
-    let some = c .before .before .before .pre in
-    omega (arith, room (c .before .before .loop .inv (some .prefix) (some .stands)), prefix-inside (some .stands))
+shared-slice-read-kind c = omega (arith, inside (c .before .before))
 
 add-end : tie.Need-add-end Inv-loop μ-loop
-add-end c = omega (arith, shared-slice-read-kind c)
+add-end c = omega (arith, inside (c .before .before))
+
+prefix-arity-requires : tie.Need-prefix-arity-requires Inv-loop μ-loop
+prefix-arity-requires c κs = search needs
 
 sub-owed : tie.Need-sub-owed Inv-loop μ-loop
 sub-owed c = omega arith
 
+root-width-requires : tie.Need-root-width-requires Inv-loop μ-loop
+root-width-requires c κs = search needs
+
+sub-end : tie.Need-sub-end Inv-loop μ-loop
+sub-end c = omega arith
+
 loop-again : tie.Need-loop-again Inv-loop μ-loop
-loop-again c = λ p s.
-    turned _ _ (c .before .before .before .before .before .loop .inv p s) (omega arith) (omega arith) (omega arith) (omega arith)
-    (omega (arith, level-wide (getD (c .before .before .before .before .before .before .args .slice .now) (c .before .before .before .before .before .loop .end) 0) (omega arith)))
+loop-again c = λ p s. (_, turned (turn (c .before .before .before) .loop .inv p s .1) (omega arith) _ _ (omega arith) (omega arith))
 
 add-end-2 : tie.Need-add-end-2 Inv-loop μ-loop
 add-end-2 c =
-    let some = c .before .before .before .before .before .before .pre in
-    omega (arith, room (loop-again c (some .prefix) (some .stands)), prefix-inside (some .stands))
+    let some = entry (turn (c .before .before .before)) .pre in
+    omega (arith, room (loop-again c (some .prefix) (some .stands) .1) (some .stands))
 
 loop-less : tie.Need-loop-less Inv-loop μ-loop
-loop-less c = omega (arith, shared-slice-read-kind (c .before .before .before))
+loop-less c = omega (arith, inside (turn (c .before .before .before)))
 
 loop-less-2 : tie.Need-loop-less-2 Inv-loop μ-loop
-loop-less-2 c = omega (arith, shared-slice-read-kind (c .before .before .before))
+loop-less-2 c = omega (arith, inside (turn (c .before .before .before)))
 
 loop-again-2 : tie.Need-loop-again-2 Inv-loop μ-loop
 loop-again-2 c = λ p s.
-    turned _ _ (c .before .before .before .before .before .loop .inv p s) (omega arith) (omega arith) (omega arith) (omega arith)
-    (omega (arith, other-wide (getD (c .before .before .before .before .before .before .args .slice .now) (c .before .before .before .before .before .loop .end) 0) (omega arith)))
+    let at = turn (c .before .before .before) in
+    (_, turned (at .loop .inv p s .1) (omega arith) _ _ (omega arith) (omega (arith, root-positive (kind at))))
+
+sub-owed-2 : tie.Need-sub-owed-2 Inv-loop μ-loop
+sub-owed-2 c = omega arith
 
 loop-less-3 : tie.Need-loop-less-3 Inv-loop μ-loop
-loop-less-3 c = omega (arith, shared-slice-read-kind (c .before .before))
+loop-less-3 c = omega (arith, inside (turn (c .before)))
 
 loop-again-3 : tie.Need-loop-again-3 Inv-loop μ-loop
 loop-again-3 c = λ p s.
-    turned _ _ (c .before .before .before .before .loop .inv p s) (omega arith) (omega arith) (omega arith) (omega arith)
-    (omega (arith, other-wide (getD (c .before .before .before .before .before .args .slice .now) (c .before .before .before .before .loop .end) 0) (omega arith)))
+    let at = turn (c .before) in
+    let alone = parts-alone (kind at) (λ none. c .if1 .left (c .before .prefix-arity .ensures ∙ none)) in
+    (_, turned (at .loop .inv p s .1) (omega arith) _ _ (omega arith) (omega (arith, alone)))
 
 add-owed : tie.Need-add-owed Inv-loop μ-loop
 add-owed c =
-    let some = c .before .before .before .before .pre in
-    omega (arith, room (c .before .before .before .loop .inv (some .prefix) (some .stands)), prefix-inside (some .stands))
-
-loop-less-4 : tie.Need-loop-less-4 Inv-loop μ-loop
-loop-less-4 c = omega (arith, shared-slice-read-kind (c .before))
-
-loop-again-4 : tie.Need-loop-again-4 Inv-loop μ-loop
-loop-again-4 c = λ p s.
-    turned _ _ (c .before .before .before .loop .inv p s) (omega arith) (omega arith) (omega arith) (omega arith)
-    (omega (arith, other-wide (getD (c .before .before .before .before .args .slice .now) (c .before .before .before .loop .end) 0) (omega arith)))
+    let some = entry (turn (c .before)) .pre in
+    omega (arith, room (loop-again-3 c (some .prefix) (some .stands) .1) (some .stands))
 
 returns : tie.Need-returns Inv-loop μ-loop
-returns c = record { each = λ p s. finished (c .before .loop .inv p s) (omega arith) }
+returns c = record { each = λ p s. finished (c .before .loop .inv p s .1) (omega arith) }
 
 pub skip-prefix-spec : {M : Type 1} → statement M
 skip-prefix-spec =
@@ -84,15 +101,17 @@ skip-prefix-spec =
     loop-holds
     shared-slice-read-kind
     add-end
+    prefix-arity-requires
     sub-owed
+    root-width-requires
+    sub-end
     add-end-2
     loop-less
     loop-again
     loop-less-2
     loop-again-2
+    sub-owed-2
+    add-owed
     loop-less-3
     loop-again-3
-    add-owed
-    loop-less-4
-    loop-again-4
     returns)
