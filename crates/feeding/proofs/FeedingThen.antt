@@ -15,7 +15,7 @@ use Rattle.stream.specs.TypeFiles.{type-bytes}
 use Rattle.stream.specs.SliceFiles.{prefix-bytes}
 use Rattle.reading.specs.TypeReads.{SomeTypeAt, TypeEnds}
 use Rattle.reading.specs.TypeReads.Laws.{first-at, second-behind, type-before, type-width}
-use Rattle.reading.specs.SliceReads.{PrefixAt, TypeSpans, CompleteWide, prefix-width}
+use Rattle.reading.specs.SliceReads.{PrefixAt, TypeSpans, CompleteAt, CompleteEnds, prefix-width}
 use Rattle.reading.specs.SliceReads.Laws.{prefix-bytes-length, width-positive, prefix-inside, kind-at, in-first-at, crossed-first-at, crossed-second-at}
 use Rattle.writing.specs.Writing.Laws.{part, back}
 use Rattle.node.specs.Nodes.{Node, then, Takes, takes-then, count}
@@ -144,7 +144,7 @@ module _ {types : List ℕ} {at : ℕ} {nodes : List ℕ} {from : ℕ} {slice : 
   pub first-type-at : SomeTypeAt types (at + 1)
   first-type-at = record { type = first-type; stands = first-at (due .stand .type-at) fork }
 
-  abbrev pub first-spans : {second : ℕ} → TypeEnds types (at + 1) second → TypeSpans types (at + 1) second
+  abbrev first-spans : {second : ℕ} → TypeEnds types (at + 1) second → TypeSpans types (at + 1) second
   first-spans ends =
       record {
         type = first-type;
@@ -198,9 +198,16 @@ module _ {types : List ℕ} {at : ℕ} {nodes : List ℕ} {from : ℕ} {slice : 
     crossed-at : PrefixAt slice place (crossed (crossing .first) (crossing .second))
     crossed-at = rw (crossing .made) at (due .stand .prefix-at)
 
-    -- The first part is complete, so it is as long as every complete prefix of its type.
-    first-wide : {second wide : ℕ} → TypeEnds types (at + 1) second → CompleteWide types (at + 1) second wide → wide ≡ prefix-width (crossing .first)
-    first-wide ends is-wide = is-wide .each (first-spans ends) (crossing .first) (crossing .is-first) (crossing .is-complete)
+    -- The first part is complete, so what stands behind it can be found.
+    pub first-due : {second : ℕ} → TypeEnds types (at + 1) second → CompleteAt types (at + 1) second slice (place + 1)
+    first-due ends =
+        record {
+          span = first-spans ends;
+          prefix = crossing .first;
+          is-prefix = crossing .is-first;
+          is-complete = crossing .is-complete;
+          stands = crossed-first-at crossed-at;
+        }
 
     -- Both nodes send, and the second's remainder is left alone.
 
@@ -229,14 +236,12 @@ module _ {types : List ℕ} {at : ℕ} {nodes : List ℕ} {from : ℕ} {slice : 
           for-type = omega (arith, due .room .for-type, ap size gives-sequence);
         }
 
-    module _ {second wide : ℕ} (type-ends : TypeEnds types (at + 1) second) (is-wide : CompleteWide types (at + 1) second wide) where
-      behind : PrefixAt slice (place + 1 + wide) (crossing .second)
-      behind = crossed-second-at crossed-at (ap (λ w. place + 1 + w) (first-wide type-ends is-wide))
+    module _ {second rest : ℕ} (type-ends : TypeEnds types (at + 1) second) (ends : CompleteEnds types (at + 1) second slice (place + 1) rest) where
+      behind : PrefixAt slice rest (crossing .second)
+      unfolding first-due
+      behind = crossed-second-at crossed-at (ends .each (first-due type-ends))
 
-      pub rest-inside : place + 1 + wide ≤ length slice
-      rest-inside = omega (arith, prefix-inside behind)
-
-      pub both-due : FeedPartsDue 6 types (at + 1) second nodes (from + 1) slice (place + 1) (place + 1 + wide) out remainder given
+      pub both-due : FeedPartsDue 6 types (at + 1) second nodes (from + 1) slice (place + 1) rest out remainder given
       both-due =
           record {
             kinds = inl refl;
@@ -264,14 +269,14 @@ module _ {types : List ℕ} {at : ℕ} {nodes : List ℕ} {from : ℕ} {slice : 
           }
 
       pub both-fed : {out-after remainder-after given-after : List ℕ} {step : Step}
-          → FeedsParts 6 types (at + 1) second nodes (from + 1) slice (place + 1) (place + 1 + wide) out remainder given out-after remainder-after
+          → FeedsParts 6 types (at + 1) second nodes (from + 1) slice (place + 1) rest out remainder given out-after remainder-after
           given-after step
           → Steps (from + node-width (due .node)) (sends (due .type) (due .node) (due .prefix)) (leaves (due .type) (due .node) (due .prefix))
           (output-type (due .type) (due .node)) out remainder given out-after remainder-after given-after step
       unfolding both-due
       both-fed feeds =
-          let ends : from + node-width (due .node) ≡ from + 1 + node-width (parts .first) + node-width (parts .second) = omega (arith, parts .wide) in
-          rw (ends, both-sent, second-left, gives-sequence) (feeds .each both-due)
+          let wide : from + node-width (due .node) ≡ from + 1 + node-width (parts .first) + node-width (parts .second) = omega (arith, parts .wide) in
+          rw (wide, both-sent, second-left, gives-sequence) (feeds .each both-due)
 
   -- While the first part is coming.
   module _ (not-six : getD slice place 0 ≡ 6 → ⊥) where

@@ -14,7 +14,7 @@ use leaf_feeding::feed_second;
 use leaf_feeding::feed_silent;
 use leaf_feeding::feed_spread;
 use reading::prefixes::MAX_SLICE_FILE;
-use reading::prefixes::complete_width;
+use reading::prefixes::skip_complete;
 use reading::prefixes::type_kind_of;
 use reading::types::skip_type;
 use typing::Typed;
@@ -223,7 +223,7 @@ fn feed_then(
         let first = at + 1;
         let second = skip_type(types, first);
         let part = place + 1;
-        let rest = part + complete_width(types, first, second);
+        let rest = skip_complete(types, first, second, slice, part);
         return feed_parts(
             6,
             types,

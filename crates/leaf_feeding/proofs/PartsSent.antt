@@ -1,5 +1,5 @@
 -- What left, right, first and second send is a part of the prefix: where it stands, and which node is left.
-use mathlib.Core.Path.{_≡_, refl, ap}
+use mathlib.Core.Path.{_≡_, refl}
 use mathlib.Core.List.{List, [], _∷_}
 use Prim.Native.Nat.{ℕ, _+_, _≤_}
 use native.Mathlib.Omega.{arith}
@@ -69,10 +69,16 @@ module _ {slice : List ℕ} {place : ℕ} where
   second-coming takes-second (of-first h) stands five = record { sent = refl; node = refl }
   second-coming takes-second (of-crossed h c k) stands five = absurd (omega (arith, kind-at stands))
 
-  pub second-part-at : {type output : Ty} {p : Prefix} (wide : ℕ) → Takes type second output → IsPrefix type p → PrefixAt slice place p
-      → (getD slice place 0 ≡ 5 → ⊥) → ((b : Prefix) → IsPrefix (first-part type) b → Complete b → wide ≡ prefix-width b)
-      → PrefixAt slice (place + 1 + wide) (sends type second p) × (node-bytes (leaves type second p) [] ≡ 0 ∷ [])
+  pub crossed-first : {type output : Ty} {p : Prefix} → Takes type second output → IsPrefix type p → PrefixAt slice place p
+      → (getD slice place 0 ≡ 5 → ⊥) → (b : Prefix) × IsPrefix (first-part type) b × Complete b × PrefixAt slice (place + 1) b
+  crossed-first takes-second (of-first h) stands other = absurd (other (kind-at stands))
+  crossed-first takes-second (of-crossed {b = b} h c k) stands other = (b, h, c, crossed-first-at stands)
+
+  pub second-part-at : {type output : Ty} {p : Prefix} (rest : ℕ) → Takes type second output → IsPrefix type p → PrefixAt slice place p
+      → (getD slice place 0 ≡ 5 → ⊥)
+      → ((b : Prefix) → IsPrefix (first-part type) b → Complete b → PrefixAt slice (place + 1) b → rest ≡ place + 1 + prefix-width b)
+      → PrefixAt slice rest (sends type second p) × (node-bytes (leaves type second p) [] ≡ 0 ∷ [])
   unfolding sends leaves node-bytes
-  second-part-at wide takes-second (of-first h) stands other is-wide = absurd (other (kind-at stands))
-  second-part-at wide takes-second (of-crossed {b = b} h c k) stands other is-wide =
-      (crossed-second-at stands (ap (λ w. place + 1 + w) (is-wide b h c)), refl)
+  second-part-at rest takes-second (of-first h) stands other ends = absurd (other (kind-at stands))
+  second-part-at rest takes-second (of-crossed {b = b} h c k) stands other ends =
+      (crossed-second-at stands (ends b h c (crossed-first-at stands)), refl)

@@ -1,6 +1,6 @@
 // One feed of a node without parts: what it sends, written on `out`, and the node left, written on `remainder`. Both are work
 // bytes with room for it.
-use reading::prefixes::complete_width;
+use reading::prefixes::skip_complete;
 use reading::prefixes::skip_prefix;
 use writing::appending::append;
 use writing::appending::append_kind;
@@ -151,7 +151,7 @@ pub fn feed_second(
         let sent = write_empty(types, second, out);
         return leave(8, sent, remainder);
     }
-    let rest = place + 1 + complete_width(types, first, second);
+    let rest = skip_complete(types, first, second, slice, place + 1);
     let sent = copy_prefix(slice, rest, out);
     leave(0, sent, remainder)
 }

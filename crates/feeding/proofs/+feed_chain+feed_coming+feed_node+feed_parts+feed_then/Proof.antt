@@ -25,7 +25,7 @@ use Rattle.feeding.proofs.+feed_chain+feed_coming+feed_node+feed_parts+
 use Rattle.feeding.proofs.feed_then.Reads as feed-then
 use Rattle.feeding.proofs.feed_then.Kinds as feed-then-kinds
 use Rattle.feeding.proofs.+feed_chain+feed_coming+feed_node+feed_parts+feed_then.Lts-feed_then as feed-then-lts
-use Rattle.reading.proofs.prefixes.complete_width.Reads as complete-width-reads
+use Rattle.reading.proofs.prefixes.skip_complete.Reads as skip-complete-reads
 use Rattle.reading.proofs.prefixes.type_kind_of.Reads as type-kind-of-reads
 use Rattle.reading.proofs.types.skip_type.Reads as skip-type-reads
 use Rattle.leaf_feeding.proofs.feed_cue.Reads as feed-cue-reads
@@ -177,8 +177,8 @@ module _ (t : ℕ) where
   calls-then = (
     skip-type-reads.Asked,
     skip-type-reads.Learnt,
-    complete-width-reads.Asked,
-    complete-width-reads.Learnt,
+    skip-complete-reads.Asked,
+    skip-complete-reads.Learnt,
     parts-below,
     feed-parts.Post,
     coming-below,
@@ -573,7 +573,7 @@ module _ (t : ℕ) where
   -- What is known at the crossing.
 
   abbrev ThenCrossed : Type 0
-  ThenCrossed = feed-then-lts.After-complete-width calls-then then-here feed-then.Post
+  ThenCrossed = feed-then-lts.After-skip-complete calls-then then-here feed-then.Post
 
   abbrev then-skipped : ThenCrossed → feed-then-lts.After-skip-type calls-then then-here feed-then.Post
   then-skipped c = c .before
@@ -599,19 +599,10 @@ module _ (t : ℕ) where
       let entry = c .before .before .before .before .before .before .before .before .before in
       omega (arith, feeding-then.prefix-starts (entry .pre .1 .1) (entry .pre .1 .0))
 
-  feed-then-complete-width-requires : feed-then-lts.Need-complete-width-requires calls-then then-here feed-then.Post
-  feed-then-complete-width-requires c κs =
+  feed-then-skip-complete-requires : feed-then-lts.Need-skip-complete-requires calls-then then-here feed-then.Post
+  feed-then-skip-complete-requires c κs =
       let entry = c .before .before .before .before .before .before .before .before .before in
-      feeding-then.first-spans (entry .pre .1 .1) (entry .pre .1 .0) (c .skip-type .ensures)
-
-  feed-then-add-rest : feed-then-lts.Need-add-rest calls-then then-here feed-then.Post
-  feed-then-add-rest c =
-      let entry = then-entry c in
-      omega (
-        arith,
-        feeding-then.rest-inside (entry .pre .1 .1) (entry .pre .1 .0) (then-skipped c .before .if1 .taken) (then-skipped c .skip-type .ensures)
-            (c .complete-width .ensures),
-      )
+      feeding-then.first-due (entry .pre .1 .1) (entry .pre .1 .0) (c .before .if1 .taken) (c .skip-type .ensures)
 
   feed-then-add-feed-parts : feed-then-lts.Need-add-feed-parts calls-then then-here feed-then.Post
   feed-then-add-feed-parts c = omega (arith, starts-inside (then-entry c .pre .1 .0 .stand .node-at))
@@ -622,7 +613,7 @@ module _ (t : ℕ) where
       let entry = then-entry crossed in (
         omega (arith, entry .pre .0, feeding-then.both-below (entry .pre .1 .1) (entry .pre .1 .0)),
         feeding-then.both-due (entry .pre .1 .1) (entry .pre .1 .0) (then-skipped crossed .before .if1 .taken) (then-skipped crossed .skip-type .ensures)
-            (crossed .complete-width .ensures),
+            (crossed .skip-complete .ensures),
       )
 
   feed-then-same-length : feed-then-lts.Need-same-length calls-then then-here feed-then.Post
@@ -642,7 +633,7 @@ module _ (t : ℕ) where
         each =
             λ due.
             feeding-then.both-fed (then-entry crossed .pre .1 .1) due (then-skipped crossed .before .if1 .taken) (then-skipped crossed .skip-type .ensures)
-            (crossed .complete-width .ensures) (fed .feed-parts .ensures);
+            (crossed .skip-complete .ensures) (fed .feed-parts .ensures);
       }
 
   feed-then-feed-coming-requires : feed-then-lts.Need-feed-coming-requires calls-then then-here feed-then.Post
@@ -1221,8 +1212,7 @@ pub +feed-chain+feed-coming+feed-node+feed-parts+feed-then-spec : {M : Type 1} �
     (feed-then-add-first t)
     (feed-then-skip-type-requires t)
     (feed-then-add-part t)
-    (feed-then-complete-width-requires t)
-    (feed-then-add-rest t)
+    (feed-then-skip-complete-requires t)
     (feed-then-add-feed-parts t)
     (feed-then-feed-parts-requires t)
     (feed-then-same-length t)

@@ -1,10 +1,9 @@
 -- `feed_second` meets its contract: before the crossing it sends the empty prefix of the second part (`SecondWaits`), and after it
--- what stands behind the first part, which is as long as every complete prefix of its type.
+-- what stands behind the first part, which is complete.
 use borrow.Author.Needs.{needs}
 use native.Mathlib.Omega.{arith}
-use Rattle.reading.specs.SliceReads.Laws.{prefix-inside}
 use Rattle.leaf_feeding.specs.Sending.Laws.{leaf-inside, copy-due, copied}
-use Rattle.leaf_feeding.proofs.SecondWaits.{first-spans, crossed-part, waiting-due, waiting}
+use Rattle.leaf_feeding.proofs.SecondWaits.{crossed-due, crossed-part, waiting-due, waiting}
 use Rattle.leaf_feeding.proofs.feed_second.Statement.{statement}
 use Rattle.leaf_feeding.proofs.feed_second.Tie as tie
 
@@ -33,23 +32,18 @@ returns c =
     let tested = sent .before .before in
     record { each = λ asked. waiting asked (tested .if1 .taken) (sent .write-empty .ensures) (left .leave .ensures) }
 
-add-rest : tie.Need-add-rest
-add-rest c = omega (arith, leaf-inside (entry (c .before) .pre .due))
+add-skip-complete : tie.Need-add-skip-complete
+add-skip-complete c = omega (arith, leaf-inside (entry (c .before) .pre .due))
 
-complete-width-requires : tie.Need-complete-width-requires
-complete-width-requires c κs = first-spans (entry (c .before) .pre)
-
-add-rest-2 : tie.Need-add-rest-2
-add-rest-2 c =
-    let tested = c .before in
-    omega (arith, prefix-inside (crossed-part (entry (tested .before) .pre) (c .complete-width .ensures) (tested .if1 .left) .0))
+skip-complete-requires : tie.Need-skip-complete-requires
+skip-complete-requires c κs = crossed-due (entry (c .before) .pre) (c .if1 .left)
 
 copy-prefix-requires : tie.Need-copy-prefix-requires
 copy-prefix-requires c κs =
-    let wide = c .before in
-    let tested = wide .before in
+    let ended = c .before in
+    let tested = ended .before in
     let asked = entry (tested .before) .pre in
-    copy-due (asked .due) (crossed-part asked (wide .complete-width .ensures) (tested .if1 .left) .0)
+    copy-due (asked .due) (crossed-part asked (ended .skip-complete .ensures) (tested .if1 .left) .0)
 
 leave-requires-2 : tie.Need-leave-requires-2
 leave-requires-2 c κs = search needs
@@ -64,10 +58,10 @@ returns-2 : tie.Need-returns-2
 returns-2 c =
     let left = c .before .before in
     let sent = left .before .before .before .before in
-    let wide = sent .before .before in
+    let ended = sent .before .before in
     record {
       each = λ asked.
-          let crossed = crossed-part asked (wide .complete-width .ensures) (wide .before .if1 .left) in
+          let crossed = crossed-part asked (ended .skip-complete .ensures) (ended .before .if1 .left) in
           copied (asked .due) (crossed .0) (sent .copy-prefix .ensures) (left .leave2 .ensures) (crossed .1);
     }
 
@@ -81,9 +75,8 @@ feed-second-spec =
     same-length
     same-length-2
     returns
-    add-rest
-    complete-width-requires
-    add-rest-2
+    add-skip-complete
+    skip-complete-requires
     copy-prefix-requires
     leave-requires-2
     same-length-3
