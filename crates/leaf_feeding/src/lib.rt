@@ -1,11 +1,18 @@
 // One feed of a node without parts: what it sends, written on `out`, and the node left, written on `remainder`. Both are work
 // bytes with room for it.
+use reading::nested::Shaped;
+use reading::nested::crossed_in_first;
+use reading::nested::crossed_in_second;
 use reading::prefixes::skip_complete;
 use reading::prefixes::skip_prefix;
 use writing::appending::append;
 use writing::appending::append_kind;
+use writing::appending::append_part;
 use writing::copy;
 use writing::copy_prefix;
+use writing::reordering::write_left;
+use writing::reordering::write_right;
+use writing::reordering::write_spread;
 use writing::write_empty;
 use writing::write_spent;
 ghost use Prim.Native.Nat.{_≤_};
@@ -161,17 +168,16 @@ pub fn feed_regroup_right(slice: &[u8], place: usize, out: &mut [u8], remainder:
     requires { ⌜ LeafDue regroup-right (now slice) place (now out) (now remainder) ⌝ }
     ensures { λ r. ⌜ LeafFed regroup-right (now (slice .entry)) place (now (out .entry)) (now (remainder .entry)) (now (out .exit)) (now (remainder .exit)) r ⌝ }
 {
-    let inner = place + 1;
-    if slice[inner] == 5 {
-        let sent = copy_prefix(slice, inner, out);
-        return leave(11, sent, remainder);
+    match crossed_in_first(slice, place) {
+        Shaped::Other => {
+            let sent = copy_prefix(slice, place + 1, out);
+            leave(11, sent, remainder)
+        }
+        Shaped::Nested(places) => {
+            let sent = write_right(6, places.kind, slice, places, out);
+            leave(0, sent, remainder)
+        }
     }
-    let second = skip_prefix(slice, inner + 1);
-    let stop = skip_prefix(slice, place);
-    let mut sent = append(&slice[inner..second], 0, out);
-    sent = append_kind(slice[place], sent, out);
-    sent = append(&slice[second..stop], sent, out);
-    leave(0, sent, remainder)
 }
 
 // Regroup left: 5 p gives 5 5 p. 6 b 5 q gives 5 6 b q and 6 b 6 c q gives 6 6 b c q: the kind behind b comes to the front.
@@ -179,18 +185,18 @@ pub fn feed_regroup_left(slice: &[u8], place: usize, out: &mut [u8], remainder: 
     requires { ⌜ LeafDue regroup-left (now slice) place (now out) (now remainder) ⌝ }
     ensures { λ r. ⌜ LeafFed regroup-left (now (slice .entry)) place (now (out .entry)) (now (remainder .entry)) (now (out .exit)) (now (remainder .exit)) r ⌝ }
 {
-    if slice[place] == 5 {
-        let stop = skip_prefix(slice, place);
-        let before = append_kind(5, 0, out);
-        let sent = append(&slice[place..stop], before, out);
-        return leave(12, sent, remainder);
+    match crossed_in_second(slice, place) {
+        Shaped::Other => {
+            let stop = skip_prefix(slice, place);
+            let before = append_kind(5, 0, out);
+            let sent = append_part(slice, place, stop, before, out);
+            leave(12, sent, remainder)
+        }
+        Shaped::Nested(places) => {
+            let sent = write_left(places.kind, 6, slice, places, out);
+            leave(0, sent, remainder)
+        }
     }
-    let second = skip_prefix(slice, place + 1);
-    let stop = skip_prefix(slice, second);
-    let mut sent = append_kind(slice[second], 0, out);
-    sent = append(&slice[place..second], sent, out);
-    sent = append(&slice[second + 1..stop], sent, out);
-    leave(0, sent, remainder)
 }
 
 // Spread: 5 p gives 7 5 p 5 p. 6 b 7 q r gives 7 6 b q 6 b r.
@@ -198,22 +204,19 @@ pub fn feed_spread(slice: &[u8], place: usize, out: &mut [u8], remainder: &mut [
     requires { ⌜ LeafDue spread (now slice) place (now out) (now remainder) ⌝ }
     ensures { λ r. ⌜ LeafFed spread (now (slice .entry)) place (now (out .entry)) (now (remainder .entry)) (now (out .exit)) (now (remainder .exit)) r ⌝ }
 {
-    let before = append_kind(7, 0, out);
-    if slice[place] == 5 {
-        let stop = skip_prefix(slice, place);
-        let half = append(&slice[place..stop], before, out);
-        let sent = append(&slice[place..stop], half, out);
-        return leave(13, sent, remainder);
+    match crossed_in_second(slice, place) {
+        Shaped::Other => {
+            let stop = skip_prefix(slice, place);
+            let before = append_kind(7, 0, out);
+            let half = append_part(slice, place, stop, before, out);
+            let sent = append_part(slice, place, stop, half, out);
+            leave(13, sent, remainder)
+        }
+        Shaped::Nested(places) => {
+            let sent = write_spread(7, 6, slice, places, out);
+            leave(0, sent, remainder)
+        }
     }
-    let rest = skip_prefix(slice, place + 1);
-    let second = rest + 1;
-    let third = skip_prefix(slice, second);
-    let stop = skip_prefix(slice, third);
-    let mut sent = append(&slice[place..rest], before, out);
-    sent = append(&slice[second..third], sent, out);
-    sent = append(&slice[place..rest], sent, out);
-    sent = append(&slice[third..stop], sent, out);
-    leave(0, sent, remainder)
 }
 
 // Front: p gives 6 0 p.

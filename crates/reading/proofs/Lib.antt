@@ -5,3 +5,5 @@ pub mod PrefixWalk
 pub mod SliceWalk
 pub mod SliceFile
 pub mod CompleteWidth
+pub mod NestedTypes
+pub mod NestedSlices

@@ -1,3 +1,4 @@
 pub mod Sections
 pub mod TypeReads
 pub mod SliceReads
+pub mod Nesting

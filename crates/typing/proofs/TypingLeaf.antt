@@ -66,7 +66,7 @@ module _ {types : List ℕ} {at : ℕ} {nodes : List ℕ} {from : ℕ} where
       let wide = by-byte (λ n. node-width n ≡ 3) (due .node-at) e (λ v. ap suc (value-length v [])) in
       omega (arith, ends-inside (due .node-at))
 
--- The kinds that are left when all others but those with parts have been tried: front alone.
+-- No kind is left when all others but those with parts have been tried.
 
 abbrev Outside : List ℕ → ℕ → Type 0
 Outside [] k = Unit
@@ -75,15 +75,13 @@ Outside (j ∷ js) k = Outside js k × (k ≡ j → ⊥)
 above : {j k : ℕ} → j ≤ k → (k ≡ j → ⊥) → j + 1 ≤ k
 above h other = omega arith
 
-last : (k : ℕ) → 14 ≤ k → k < 15 → k ≡ 14
-last k h listed = omega arith
-
-pub front-left : (k : ℕ) → k < 15 → node-arity k ≡ 0 → Outside (13 ∷ 12 ∷ 11 ∷ 8 ∷ 7 ∷ 6 ∷ 5 ∷ 3 ∷ 2 ∷ 1 ∷ 0 ∷ []) k → k ≡ 14
-front-left k listed leaf (((((((((((none, pass), silent), cue), level), left), right), first), second), regroup-right), regroup-left), spread) =
+pub none-left : (k : ℕ) → k < 15 → node-arity k ≡ 0 → Outside (14 ∷ 13 ∷ 12 ∷ 11 ∷ 8 ∷ 7 ∷ 6 ∷ 5 ∷ 3 ∷ 2 ∷ 1 ∷ 0 ∷ []) k → ⊥
+none-left k listed leaf ((((((((((((none, pass), silent), cue), level), left), right), first), second), regroup-right), regroup-left), spread), front) =
     let low : 4 ≤ k = above (above (above (above (omega arith) pass) silent) cue) level in
     let middle : 9 ≤ k = above (above (above (above (parted 4 refl low) left) right) first) second in
     let high : 11 ≤ k = parted 10 refl (parted 9 refl middle) in
-    last k (above (above (above high regroup-right) regroup-left) spread) listed
+    let last : 15 ≤ k = above (above (above (above high regroup-right) regroup-left) spread) front in
+    omega arith
   where
     parted : (j : ℕ) → node-arity j ≡ 2 → j ≤ k → j + 1 ≤ k
     parted j two h = above h (λ e. omega (arith, ap node-arity e))

@@ -12,6 +12,7 @@ use Rattle.stream.specs.Reading.{Result, accepted, refused, go-on}
 use Rattle.stream.specs.TypeFiles.{type-bytes}
 use Rattle.reading.specs.TypeReads.{TypeAt, SomeTypeAt, TypeEnds}
 use Rattle.reading.specs.TypeReads.Laws.{type-before, type-width, first-at, second-behind}
+use Rattle.reading.specs.Nesting.Laws.{other-shape, same-shape, is-fork}
 use Rattle.writing.specs.Writing.Laws.{part, back}
 use Rattle.writing.specs.Writing.Standing.{written-stands}
 use Rattle.node.specs.Nodes.{Node, both, then, chain}
@@ -25,7 +26,7 @@ use Rattle.patch_reading.specs.PatchReads.Laws.{ends-inside, width-positive, Fo
 use Rattle.writing.specs.Appending.{Appends, Within}
 use Rattle.typing.specs.Typing.{limited, Answers, TypingDue, TypesNode, TypePartsDue, fork, parts-typing, TypesParts}
 use Rattle.writing.specs.Appending.Laws.{back-length, WrittenSoFar, nothing-written, written-on, written-part}
-use Rattle.typing.specs.Typing.Laws.{other-shape, same-shape, is-fork, typing-small, is-given, is-refused, answers-refused, answers-written, requires-fails}
+use Rattle.typing.specs.Typing.Laws.{typing-small, is-given, is-refused, answers-refused, answers-written, requires-fails}
 
 fork-bytes : {k : ℕ} (t r : Ty) → (k ≡ 3) ⊎ (k ≡ 4) → (k ∷ type-bytes t []) ++ type-bytes r [] ≡ type-bytes (fork k t r) []
 unfolding type-bytes
@@ -179,7 +180,7 @@ both-splits =
 
 module _ {types : List ℕ} {at : ℕ} (sequence : getD types at 0 ≡ 3) where
   forked : {t : Ty} → TypeAt types at t → 3 ≤ kind t
-  forked h = is-fork h sequence (omega arith)
+  forked h = is-fork h sequence refl
 
   pub sequence-first : {nodes : List ℕ} {from : ℕ} → TypingDue types at nodes from → SomeTypeAt types (at + 1)
   sequence-first due = record { type = first-part (due .type); stands = first-at (due .type-at) (forked (due .type-at)) }

@@ -3,6 +3,9 @@
 // A type is written on work bytes that may be too short for it: at a node with two parts a fault of the second part comes
 // before the size of the type that both give. So every writer here says how long its answer is, and writes it only if there
 // is room.
+use reading::nested::Shaped;
+use reading::nested::nested_in_first;
+use reading::nested::nested_in_second;
 use reading::types::TypePlace;
 use reading::types::is_nullable;
 use reading::types::skip_type;
@@ -10,10 +13,12 @@ use stream::Fault;
 use writing::appending::append;
 use writing::appending::append_kind;
 use writing::appending::within;
+use writing::reordering::write_left;
+use writing::reordering::write_right;
+use writing::reordering::write_spread;
 ghost use mathlib.Core.Path.{_≡_};
-ghost use Prim.Native.Nat.{_≤_};
 ghost use lib.ListN.{getD};
-ghost use Rattle.reading.specs.TypeReads.{SomeTypeAt};
+ghost use Rattle.reading.specs.TypeReads.{type-arity, SomeTypeAt};
 ghost use Rattle.node.specs.Nodes.{regroup-right, regroup-left, spread, front};
 ghost use Rattle.node.specs.Checking.{gives, typing};
 ghost use Rattle.patch_reading.specs.PatchReads.{node-arity};
@@ -46,7 +51,7 @@ pub fn give_type(types: &[u8], at: usize, end: usize, out: &mut [u8]) -> Typed
 
 // Gives the first part of the type at `at`, which has to be of the kind `shape`: nodes 5 and 7.
 fn give_first(shape: u8, types: &[u8], at: usize, end: usize, out: &mut [u8]) -> Typed
-    requires { ⌜ SomeTypeAt (now types) at × (3 ≤ shape) ⌝ }
+    requires { ⌜ SomeTypeAt (now types) at × (type-arity shape ≡ 2) ⌝ }
     ensures { λ r. ⌜ Given (first-of shape) (now (types .entry)) at end (now (out .entry)) (now (out .exit)) r ⌝ }
 {
     if types[at] != shape {
@@ -57,7 +62,7 @@ fn give_first(shape: u8, types: &[u8], at: usize, end: usize, out: &mut [u8]) ->
 
 // Gives its second part: nodes 6 and 8.
 fn give_second(shape: u8, types: &[u8], at: usize, end: usize, out: &mut [u8]) -> Typed
-    requires { ⌜ SomeTypeAt (now types) at × (3 ≤ shape) ⌝ }
+    requires { ⌜ SomeTypeAt (now types) at × (type-arity shape ≡ 2) ⌝ }
     ensures { λ r. ⌜ Given (second-of shape) (now (types .entry)) at end (now (out .entry)) (now (out .exit)) r ⌝ }
 {
     if types[at] != shape {
@@ -85,20 +90,10 @@ fn give_regrouped_right(types: &[u8], at: usize, end: usize, out: &mut [u8]) -> 
     requires { ⌜ SomeTypeAt (now types) at ⌝ }
     ensures { λ r. ⌜ Given (λ t. typing t regroup-right) (now (types .entry)) at end (now (out .entry)) (now (out .exit)) r ⌝ }
 {
-    if types[at] != 3 {
-        return Typed::Failed(Fault::WrongShape);
+    match nested_in_first(types, at) {
+        Shaped::Other => Typed::Failed(Fault::WrongShape),
+        Shaped::Nested(places) => Typed::Gives(end, write_right(3, 3, types, places, out)),
     }
-    if types[at + 1] != 3 {
-        return Typed::Failed(Fault::WrongShape);
-    }
-    let first = at + 2;
-    let second = skip_type(types, first);
-    let third = skip_type(types, second);
-    let stop = skip_type(types, third);
-    let mut written = append_kind(3, 0, out);
-    written = append(&types[first..second], written, out);
-    written = append_kind(3, written, out);
-    Typed::Gives(end, append(&types[second..stop], written, out))
 }
 
 // Gives (s, t), r for the type s, (t, r) at `at`: 3 s 3 t r becomes 3 3 s t r.
@@ -106,20 +101,10 @@ fn give_regrouped_left(types: &[u8], at: usize, end: usize, out: &mut [u8]) -> T
     requires { ⌜ SomeTypeAt (now types) at ⌝ }
     ensures { λ r. ⌜ Given (λ t. typing t regroup-left) (now (types .entry)) at end (now (out .entry)) (now (out .exit)) r ⌝ }
 {
-    if types[at] != 3 {
-        return Typed::Failed(Fault::WrongShape);
+    match nested_in_second(3, types, at) {
+        Shaped::Other => Typed::Failed(Fault::WrongShape),
+        Shaped::Nested(places) => Typed::Gives(end, write_left(3, 3, types, places, out)),
     }
-    let first = at + 1;
-    let rest = skip_type(types, first);
-    if types[rest] != 3 {
-        return Typed::Failed(Fault::WrongShape);
-    }
-    let second = rest + 1;
-    let stop = skip_type(types, rest);
-    let mut written = append_kind(3, 0, out);
-    written = append_kind(3, written, out);
-    written = append(&types[first..rest], written, out);
-    Typed::Gives(end, append(&types[second..stop], written, out))
 }
 
 // Gives (s, t) beside (s, r) for the type s, (t beside r) at `at`: 3 s 4 t r becomes 4 3 s t 3 s r.
@@ -127,25 +112,10 @@ fn give_spread(types: &[u8], at: usize, end: usize, out: &mut [u8]) -> Typed
     requires { ⌜ SomeTypeAt (now types) at ⌝ }
     ensures { λ r. ⌜ Given (λ t. typing t spread) (now (types .entry)) at end (now (out .entry)) (now (out .exit)) r ⌝ }
 {
-    if types[at] != 3 {
-        return Typed::Failed(Fault::WrongShape);
+    match nested_in_second(4, types, at) {
+        Shaped::Other => Typed::Failed(Fault::WrongShape),
+        Shaped::Nested(places) => limit(end, write_spread(4, 3, types, places, out)),
     }
-    let first = at + 1;
-    let rest = skip_type(types, first);
-    if types[rest] != 4 {
-        return Typed::Failed(Fault::WrongShape);
-    }
-    let second = rest + 1;
-    let third = skip_type(types, second);
-    let stop = skip_type(types, third);
-    let mut written = append_kind(4, 0, out);
-    written = append_kind(3, written, out);
-    written = append(&types[first..rest], written, out);
-    written = append(&types[second..third], written, out);
-    written = append_kind(3, written, out);
-    written = append(&types[first..rest], written, out);
-    written = append(&types[third..stop], written, out);
-    limit(end, written)
 }
 
 // Gives empty, s for the type s at `at`.
@@ -179,7 +149,9 @@ pub fn type_leaf(types: &[u8], at: usize, nodes: &[u8], from: usize, out: &mut [
         11 => give_regrouped_right(types, at, next, out),
         12 => give_regrouped_left(types, at, next, out),
         13 => give_spread(types, at, next, out),
-        _ => give_front(types, at, next, out),
+        14 => give_front(types, at, next, out),
+        // Kinds with parts, and those that are not listed: no such node stands here.
+        _ => Typed::Failed(Fault::Unlisted),
     }
 }
 

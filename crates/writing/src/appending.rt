@@ -1,11 +1,11 @@
 // Writers that may have no room: each says how many bytes there are with its own, and writes these only if they fit.
 use crate::copy;
 ghost use mathlib.Core.List.{_∷_, []};
-ghost use Prim.Native.Nat.{_+_};
-ghost use lib.ListN.{length};
+ghost use Prim.Native.Nat.{_+_, _-_};
+ghost use lib.ListN.{length, take, drop};
 ghost use mir.Val.{Fits};
 ghost use mir.Syntax.{w64};
-ghost use Rattle.writing.specs.Appending.{Appends, Within};
+ghost use Rattle.writing.specs.Appending.{Appends, PartDue, Within};
 
 // Writes all of `source` behind the first `written` bytes, if there is room, and says how many bytes there are with it.
 pub fn append(source: &[u8], written: usize, out: &mut [u8]) -> usize
@@ -17,6 +17,14 @@ pub fn append(source: &[u8], written: usize, out: &mut [u8]) -> usize
         copy(source, &mut out[written..]);
     }
     end
+}
+
+// The same for the bytes of `source` from `from` up to `to`.
+pub fn append_part(source: &[u8], from: usize, to: usize, written: usize, out: &mut [u8]) -> usize
+    requires { ⌜ PartDue (now source) from to written ⌝ }
+    ensures { λ r. ⌜ Appends (take (to - from) (drop from (now (source .entry)))) written (now (out .entry)) (now (out .exit)) r ⌝ }
+{
+    append(&source[from..to], written, out)
 }
 
 // The same for one kind byte.

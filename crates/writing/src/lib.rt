@@ -16,6 +16,7 @@ ghost use Rattle.stream.specs.Prefixes.Kinds.{prefix-arity};
 ghost use Rattle.writing.specs.Writing.{PrefixDue, PrefixWritten, TypeDue, TypeWritten, LeafLeftDue, DerivativeDue, DerivativeWritten, LeftFileDue, LeftFileWritten, LeafConcatDue, ConcatDue, ConcatWritten, JoinedFileDue, JoinedFileWritten, empty-kind, EmptyDue, EmptyWritten, SpentDue, SpentWritten};
 
 pub mod appending;
+pub mod reordering;
 
 // How far a writer has come: where the two trees that it goes through end, and how many bytes it has written.
 pub struct Moved {

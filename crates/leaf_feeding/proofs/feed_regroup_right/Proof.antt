@@ -1,27 +1,87 @@
--- `feed_regroup_right` meets its contract: 5 5 p is copied from its second byte on, and after a crossing b stands behind two
--- kind bytes and ends where `skip_prefix` says; the first of these goes behind b, and the rest follows.
+-- `feed_regroup_right` meets its contract: 5 5 p is copied from its second byte on, and otherwise the pieces of the slice make what is
+-- sent (`Regrouped`).
 use borrow.Author.Needs.{needs}
+use mathlib.Core.Path.{subst}
 use native.Mathlib.Omega.{arith}
-use mathlib.Core.Path.{refl}
-use Rattle.writing.specs.Appending.Laws.{nothing-written, written-on}
+use Rattle.reading.specs.declared.nested.Shaped.the-variants.{Nested, Other}
+use Rattle.reading.specs.Nesting.{FirstCut, SliceAt, Told, Shapes}
+use Rattle.writing.specs.Reordering.{regrouped-right}
+use Rattle.node.specs.Nodes.{regroup-right}
+use Rattle.leaf_feeding.specs.Sending.{LeafDue}
 use Rattle.leaf_feeding.specs.Sending.Laws.{leaf-inside, copy-due, copied}
-use Rattle.leaf_feeding.proofs.Regrouped.{starts-inside, delivered, right-first, right-coming, right-second, RightEnds, right-head, right-tail, right-sends}
+use Rattle.leaf_feeding.proofs.Regrouped.{right-cut, first-wide, cut-at, some-slice, reorder-due, is-uncut, pieces-delivered, right-turned, right-coming}
 use Rattle.leaf_feeding.proofs.feed_regroup_right.Statement.{statement}
 use Rattle.leaf_feeding.proofs.feed_regroup_right.Tie as tie
 
-add-inner : tie.Need-add-inner
-add-inner c = omega (arith, starts-inside (right-first (c .before .before .before .pre)))
+-- What is read where
 
-shared-slice-read-if1 : tie.Need-shared-slice-read-if1
-shared-slice-read-if1 c = starts-inside (right-first (c .before .before .before .before .pre))
+abbrev asked : tie.After-slice-known2 → tie.Start
+asked c = c .before .before .before
+
+abbrev entry : tie.After-crossed-in-first → tie.Start
+entry c = asked (c .before)
+
+abbrev waits : tie.After-enum-told → tie.After-crossed-in-first
+waits c = c .before .before
+
+abbrev told : tie.After-places → tie.After-crossed-in-first
+told c = c .before .before
+
+abbrev found : tie.After-write-right-arg → tie.After-places
+found c = c .before .before
+
+abbrev written : tie.After-leave2 → tie.After-write-right
+written c = c .before .before .before .before
+
+abbrev sent : tie.After-leave → tie.After-copy-prefix
+sent c = c .before .before .before .before
+
+abbrev coming : tie.After-copy-prefix → tie.After-enum-told
+coming c = c .before .before
+
+-- What is told of a slice that is fed: that s is still coming, or where the pieces are.
+
+other-told : (c : tie.After-enum-told) (due : LeafDue regroup-right (entry (waits c) .args .slice .now) (entry (waits c) .args .place) (entry (waits c) .args .out .now) (entry (waits c) .args .remainder .now))
+    → Told FirstCut (entry (waits c) .args .slice .now) (due .prefix) Other
+other-told c due =
+    subst (Shapes (SliceAt FirstCut) FirstCut _ _) (c .enum-told .given .1) (waits c .crossed-in-first .ensures)
+    .each (due .prefix) (cut-at due (right-cut (due .types) (due .is-prefix)))
+
+pieces-told : (c : tie.After-places) (due : LeafDue regroup-right (entry (told c) .args .slice .now) (entry (told c) .args .place) (entry (told c) .args .out .now) (entry (told c) .args .remainder .now))
+    → Told FirstCut (entry (told c) .args .slice .now) (due .prefix) (Nested (c .places .given .0 .0))
+pieces-told c due =
+    subst (Shapes (SliceAt FirstCut) FirstCut _ _) (c .places .given .1) (told c .crossed-in-first .ensures)
+    .each (due .prefix) (cut-at due (right-cut (due .types) (due .is-prefix)))
+
+-- What is due
+
+crossed-in-first-requires : tie.Need-crossed-in-first-requires
+crossed-in-first-requires c κs = let due = asked c .pre in some-slice due (right-cut (due .types) (due .is-prefix))
+
+enum-told : tie.Need-enum-told
+enum-told c = search needs
+
+add-copy-prefix : tie.Need-add-copy-prefix
+add-copy-prefix c = omega (arith, leaf-inside (entry (waits c) .pre))
 
 copy-prefix-requires : tie.Need-copy-prefix-requires
 copy-prefix-requires c κs =
-    let due = c .before .before .before .before .before .before .pre in
-    copy-due due (right-coming due (c .before .if1 .taken) .stands)
+    let due = entry (waits (c .before)) .pre in
+    copy-due due (right-coming (due .prefix-at) (is-uncut (other-told (c .before) due)) .stands)
 
 leave-requires : tie.Need-leave-requires
 leave-requires c κs = search needs
+
+enum-known-places : tie.Need-enum-known-places
+enum-known-places c = search needs
+
+write-right-requires : tie.Need-write-right-requires
+write-right-requires c κs =
+    let due = entry (told (found c)) .pre in
+    reorder-due due first-wide (pieces-told (found c) due)
+
+leave-requires-2 : tie.Need-leave-requires-2
+leave-requires-2 c κs = search needs
 
 same-length : tie.Need-same-length
 same-length c = search needs
@@ -32,79 +92,11 @@ same-length-2 c = search needs
 returns : tie.Need-returns
 returns c =
     let left = c .before .before in
-    let done = left .before .before .before .before in
     record {
       each = λ due.
-          let inner = right-coming due (done .before .before .if1 .taken) in
-          copied due (inner .stands) (done .copy-prefix .ensures) (left .leave .ensures) (inner .kept);
+          let inner = right-coming (due .prefix-at) (is-uncut (other-told (coming (sent left)) due)) in
+          copied due (inner .stands) (sent left .copy-prefix .ensures) (left .leave .ensures) (inner .kept);
     }
-
-abbrev start : tie.Else1 → tie.Start
-start c = c .before .before .before .before .before
-
-add-skip-prefix : tie.Need-add-skip-prefix
-add-skip-prefix c = omega (arith, starts-inside (right-second (start c .pre) (c .if1 .left)))
-
-skip-prefix-requires : tie.Need-skip-prefix-requires
-skip-prefix-requires c κs = right-second (start c .pre) (c .if1 .left)
-
-skip-prefix-requires-2 : tie.Need-skip-prefix-requires-2
-skip-prefix-requires-2 c κs = search needs
-
-abbrev begun : tie.After-skip-prefix2 → tie.Start
-begun c = start (c .before .before)
-
--- What is known after the crossing.
-ends : (c : tie.After-skip-prefix2)
-    → RightEnds (begun c .args .slice .now) (begun c .args .place) (c .before .skip-prefix .result) (c .skip-prefix2 .result)
-ends c = record { other = c .before .before .if1 .left; skipped = c .before .skip-prefix .ensures; ended = c .skip-prefix2 .ensures }
-
-sub-append : tie.Need-sub-append
-sub-append c = right-head (begun c .pre) (ends c) .forward
-
-part-append-start : tie.Need-part-append-start
-part-append-start c = sub-append c
-
-part-append-end : tie.Need-part-append-end
-part-append-end c = right-head (begun c .pre) (ends c) .inside
-
-append-requires : tie.Need-append-requires
-append-requires c κs = search needs
-
-shared-slice-read-append-kind : tie.Need-shared-slice-read-append-kind
-shared-slice-read-append-kind c = leaf-inside (begun (c .before .before .before .before .before .before) .pre)
-
-append-kind-requires : tie.Need-append-kind-requires
-append-kind-requires c κs = search needs
-
--- The places found, before the second part is copied.
-abbrev found : tie.After-slice-known6 → tie.After-skip-prefix2
-found c = c .before .before .before .before .before .before .before .before .before .before
-
-sub-append-2 : tie.Need-sub-append-2
-sub-append-2 c = right-tail (begun (found c) .pre) (ends (found c)) .forward
-
-part-append-start-2 : tie.Need-part-append-start-2
-part-append-start-2 c = sub-append-2 c
-
-part-append-end-2 : tie.Need-part-append-end-2
-part-append-end-2 c = right-tail (begun (found c) .pre) (ends (found c)) .inside
-
-append-requires-2 : tie.Need-append-requires-2
-append-requires-2 c κs =
-    let again = c .before .before .before .before in
-    let copied = again .before .before .before .before .before in
-    let places = copied .before .before .before in
-    omega (
-      arith,
-      right-head (begun places .pre) (ends places) .short,
-      right-tail (begun places .pre) (ends places) .short,
-      again .append-kind .ensures .ends,
-      copied .append .ensures .ends,
-    )
-
-leave-requires-2 : tie.Need-leave-requires-2
-leave-requires-2 c κs = search needs
 
 same-length-3 : tie.Need-same-length-3
 same-length-3 c = search needs
@@ -115,41 +107,27 @@ same-length-4 c = search needs
 returns-2 : tie.Need-returns-2
 returns-2 c =
     let left = c .before .before in
-    let done = left .before .before .before .before in
-    let again = done .before .before .before .before .before in
-    let copied = again .before .before .before .before .before in
-    let places = copied .before .before .before in
     record {
       each = λ due.
-          let first = written-on (written-on (nothing-written _) (copied .append .ensures)) (again .append-kind .ensures) in
-          delivered due (right-sends due (ends places)) (written-on first (done .append2 .ensures)) refl (left .leave2 .ensures);
+          pieces-delivered (regrouped-right 6) right-turned due (pieces-told (found (written left .before)) due) (written left .write-right .ensures)
+          (left .leave2 .ensures);
     }
 
 pub feed-regroup-right-spec : {M : Type 1} → statement M
 feed-regroup-right-spec =
     tie.close
     (tie.spec
-    add-inner
-    shared-slice-read-if1
+    crossed-in-first-requires
+    enum-told
+    add-copy-prefix
     copy-prefix-requires
     leave-requires
+    enum-known-places
+    write-right-requires
+    leave-requires-2
     same-length
     same-length-2
     returns
-    add-skip-prefix
-    skip-prefix-requires
-    skip-prefix-requires-2
-    sub-append
-    part-append-start
-    part-append-end
-    append-requires
-    shared-slice-read-append-kind
-    append-kind-requires
-    sub-append-2
-    part-append-start-2
-    part-append-end-2
-    append-requires-2
-    leave-requires-2
     same-length-3
     same-length-4
     returns-2)

@@ -1,181 +1,71 @@
--- `give_regrouped_left` meets its contract: s stands behind the kind byte of the sequence, t and r behind that of its second
--- part, where `skip_type` says that s ends, and t and r are copied together.
+-- `give_regrouped_left` meets its contract: the pieces of s, (t, r) make (s, t), r behind both kinds.
 use borrow.Author.Needs.{needs}
+use mathlib.Core.Path.{subst}
 use native.Mathlib.Omega.{arith}
-use mathlib.Core.Path.{refl}
-use Prim.Native.Nat.{_+_}
-use Rattle.stream.specs.Types.{Ty, seq, size, first-part, second-part}
+use Rattle.stream.specs.Types.{Ty, seq, size}
+use Rattle.reading.specs.declared.nested.Shaped.the-variants.{Nested}
 use Rattle.reading.specs.TypeReads.{TypeAt}
-use Rattle.reading.specs.TypeReads.Laws.{starts-inside}
+use Rattle.reading.specs.Nesting.{second-nested, TypeCut, Shapes}
+use Rattle.writing.specs.Reordering.{regrouped-left}
 use Rattle.node.specs.Checking.{typing}
-use Rattle.writing.specs.Appending.Laws.{nothing-written, written-on}
-use Rattle.typing.specs.Typing.Laws.{answers-small}
-use Rattle.typing.proofs.Regrouping.{some, root-first, root-second, fork-second, fork-ends, Found, first-piece, last-piece, left-bytes, no-sequence, no-fork, is-shaped}
+use Rattle.typing.proofs.Regrouping.{second-sized, reorder-due, refuses, gives-as-many, left-bytes}
 use Rattle.typing.proofs.give_regrouped_left.Statement.{statement}
 use Rattle.typing.proofs.give_regrouped_left.Tie as tie
 
-abbrev regrouped : Ty → Ty
-regrouped type = seq (seq (first-part type) (first-part (second-part type))) (second-part (second-part type))
+-- What is read where
 
-shared-slice-read-if1 : tie.Need-shared-slice-read-if1
-shared-slice-read-if1 c = starts-inside (c .before .before .before .pre .stands)
+abbrev entry : tie.After-nested-in-second → tie.Start
+entry c = c .before .before .before
+
+abbrev told : tie.After-places → tie.After-nested-in-second
+told c = c .before .before
+
+abbrev found : tie.After-write-left-arg → tie.After-places
+found c = c .before .before
+
+abbrev written : tie.After-slice-known2 → tie.After-write-left
+written c = c .before .before
+
+-- The type that is given, and where the pieces are.
+
+abbrev regrouped : Ty → Ty → Ty → Ty
+regrouped s t r = seq (seq s t) r
+
+shapes : (c : tie.After-places)
+    → Shapes TypeAt (TypeCut second-nested 3) (entry (told c) .args .types .now) (entry (told c) .args .at) (Nested (c .places .given .0 .0))
+shapes c = subst (Shapes TypeAt (TypeCut second-nested 3) _ _) (c .places .given .1) (told c .nested-in-second .ensures)
+
+-- What is due
+
+nested-in-second-requires : tie.Need-nested-in-second-requires
+nested-in-second-requires c κs = search needs
+
+enum-told : tie.Need-enum-told
+enum-told c = search needs
+
+enum-known-places : tie.Need-enum-known-places
+enum-known-places c = search needs
+
+write-left-requires : tie.Need-write-left-requires
+write-left-requires c κs =
+    let stands = entry (told (found c)) .pre .stands in
+    reorder-due second-nested 3 (second-sized 3 (omega arith)) stands (shapes (found c) .each _ stands)
 
 returns : tie.Need-returns
 unfolding typing
-returns c = no-sequence 3 second-part regrouped (c .if1 .taken)
-
-add-first : tie.Need-add-first
-add-first c = omega (arith, starts-inside (c .before .before .before .before .pre .stands))
-
-skip-type-requires : tie.Need-skip-type-requires
-skip-type-requires c κs = some (root-first (c .before .before .before .before .pre .stands) (c .if1 .left))
-
-abbrev start : tie.After-skip-type → tie.Start
-start c = c .before .before .before .before .before
-
--- The second part.
-second-part-at : (c : tie.After-skip-type) {type : Ty} → TypeAt (start c .args .types .now) (start c .args .at) type
-    → TypeAt (start c .args .types .now) (c .skip-type .result) (second-part type)
-second-part-at c stands = root-second stands (c .before .if1 .left) (c .skip-type .ensures)
-
-shared-slice-read-if2 : tie.Need-shared-slice-read-if2
-shared-slice-read-if2 c = starts-inside (second-part-at (c .before) (start (c .before) .pre .stands))
-
-returns-2 : tie.Need-returns-2
-unfolding typing
-returns-2 c = no-fork 3 second-part regrouped (λ t stands. second-part-at (c .before .before) stands) (c .if2 .taken)
-
-add-second : tie.Need-add-second
-add-second c =
-    let skipped = c .before .before in
-    omega (arith, starts-inside (second-part-at skipped (start skipped .pre .stands)))
-
-skip-type-requires-2 : tie.Need-skip-type-requires-2
-skip-type-requires-2 c κs = let skipped = c .before .before in some (second-part-at skipped (start skipped .pre .stands))
-
-abbrev begun : tie.After-skip-type2 → tie.Start
-begun c = start (c .before .before .before)
-
--- Where the three parts stand and end; of t this is not asked.
-found : (c : tie.After-skip-type2) {type : Ty} → TypeAt (begun c .args .types .now) (begun c .args .at) type
-    → Found (begun c .args .types .now) (begun c .args .at + 1) (c .before .before .before .skip-type .result)
-    (c .before .before .before .skip-type .result + 1)
-    (c .before .before .before .skip-type .result + 1 + size (first-part (second-part type))) (c .skip-type2 .result)
-    (first-part type) (first-part (second-part type)) (second-part (second-part type))
-found c {type} stands =
-    let skipped = c .before .before .before in
-    let sequence = skipped .before .if1 .left in
-    record {
-      parts = fork-second stands sequence (skipped .skip-type .ensures) (c .before .if2 .left) (omega arith);
-      first-ends = skipped .skip-type .ensures .each (first-part type) (root-first stands sequence);
-      second-ends = refl;
-      third-ends = fork-ends stands sequence (skipped .skip-type .ensures) (c .before .if2 .left) (omega arith) (c .skip-type2 .ensures);
-    }
-
-append-kind-requires : tie.Need-append-kind-requires
-append-kind-requires c κs = search needs
-
-append-kind-requires-2 : tie.Need-append-kind-requires-2
-append-kind-requires-2 c κs = search needs
-
-sub-append : tie.Need-sub-append
-sub-append c =
-    let skipped = c .before .before .before .before .before .before .before .before in
-    first-piece (found skipped (begun skipped .pre .stands)) .forward
-
-part-append-start : tie.Need-part-append-start
-part-append-start c = sub-append c
-
-part-append-end : tie.Need-part-append-end
-part-append-end c =
-    let skipped = c .before .before .before .before .before .before .before .before in
-    first-piece (found skipped (begun skipped .pre .stands)) .inside
-
-append-requires : tie.Need-append-requires
-append-requires c κs =
-    let again = c .before .before .before .before in
-    let began = again .before .before .before .before in
-    let skipped = began .before .before in
-    omega (
-      arith,
-      first-piece (found skipped (begun skipped .pre .stands)) .short,
-      again .append-kind2 .ensures .ends,
-      began .append-kind .ensures .ends,
-    )
-
-sub-append-2 : tie.Need-sub-append-2
-sub-append-2 c =
-    let skipped = c .before .before .before .before .before .before .before .before .before .before .before .before .before in
-    last-piece (found skipped (begun skipped .pre .stands)) .forward
-
-part-append-start-2 : tie.Need-part-append-start-2
-part-append-start-2 c = sub-append-2 c
-
-part-append-end-2 : tie.Need-part-append-end-2
-part-append-end-2 c =
-    let skipped = c .before .before .before .before .before .before .before .before .before .before .before .before .before in
-    last-piece (found skipped (begun skipped .pre .stands)) .inside
-
-append-requires-2 : tie.Need-append-requires-2
-append-requires-2 c κs =
-    let copied = c .before .before .before .before in
-    let again = copied .before .before .before .before .before in
-    let began = again .before .before .before .before in
-    let skipped = began .before .before in
-    let places = found skipped (begun skipped .pre .stands) in
-    omega (
-      arith,
-      first-piece places .short,
-      last-piece places .short,
-      copied .append .ensures .ends,
-      again .append-kind2 .ensures .ends,
-      began .append-kind .ensures .ends,
-    )
+returns c = refuses second-nested 3 (second-sized 3 (omega arith)) regrouped (rw (c .enum-told .given .1) at (c .before .before .nested-in-second .ensures))
 
 same-length : tie.Need-same-length
 same-length c = search needs
 
-returns-3 : tie.Need-returns-3
+returns-2 : tie.Need-returns-2
 unfolding typing size
-returns-3 c =
-    let done = c .before .before in
-    let copied = done .before .before .before .before .before in
-    let again = copied .before .before .before .before .before in
-    let began = again .before .before .before .before in
-    let skipped = began .before .before in
-    let forks = skipped .before in
-    let tested = forks .before .before in
-    record {
-      each = λ t stands.
-          let places = found skipped stands in
-          let kinds = written-on (written-on (nothing-written _) (began .append-kind .ensures)) (again .append-kind2 .ensures) in
-          is-shaped 3 second-part regrouped stands (second-part-at tested stands) (tested .before .if1 .left) (forks .if2 .left)
-          (answers-small (regrouped t) (omega (arith, places .parts .small))
-          (written-on (written-on kinds (copied .append .ensures)) (done .append2 .ensures))
-          (left-bytes _ _ _ (first-piece places .taken) (last-piece places .taken)));
-    }
+returns-2 c =
+    let pieces = written c in
+    gives-as-many second-nested 3 (second-sized 3 (omega arith)) regrouped (regrouped-left 3 3) left-bytes (shapes (found (pieces .before))) (pieces .write-left .ensures)
+    (λ s t r. omega arith)
 
 pub give-regrouped-left-spec : {M : Type 1} → statement M
 give-regrouped-left-spec =
     tie.close
-    (tie.spec
-    shared-slice-read-if1
-    returns
-    add-first
-    skip-type-requires
-    shared-slice-read-if2
-    returns-2
-    add-second
-    skip-type-requires-2
-    append-kind-requires
-    append-kind-requires-2
-    sub-append
-    part-append-start
-    part-append-end
-    append-requires
-    sub-append-2
-    part-append-start-2
-    part-append-end-2
-    append-requires-2
-    same-length
-    returns-3)
+    (tie.spec nested-in-second-requires enum-told enum-known-places write-left-requires returns same-length returns-2)

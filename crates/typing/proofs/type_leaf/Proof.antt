@@ -1,17 +1,15 @@
 -- `type_leaf` meets its contract: each kind without parts gives what the function for it writes (`TypingLeaf`).
 use borrow.Author.Needs.{needs}
-use mathlib.Core.Path.{_≡_, refl, ap}
+use mathlib.Core.Path.{refl}
 use mathlib.Core.List.{[]}
-use Prim.Native.Nat.{ℕ, suc}
 use native.Mathlib.Omega.{arith}
-use lib.ListN.{getD}
 use Rattle.stream.specs.Types.{cue, level, size, type-limit}
 use Rattle.stream.specs.Levels.Laws.{value-length}
 use Rattle.stream.specs.TypeFiles.{type-bytes}
 use Rattle.node.specs.Checking.{typing}
 use Rattle.node.specs.PatchFiles.{node-bytes}
 use Rattle.patch_reading.specs.PatchReads.Laws.{starts-inside, kind-listed}
-use Rattle.typing.proofs.TypingLeaf.{leaf-typed, emitter-typed, carried-type, silent-typed, level-inside, front-left}
+use Rattle.typing.proofs.TypingLeaf.{leaf-typed, emitter-typed, carried-type, silent-typed, level-inside, none-left}
 use Rattle.typing.proofs.type_leaf.Statement.{statement}
 use Rattle.typing.proofs.type_leaf.Tie as tie
 
@@ -59,15 +57,6 @@ give-spread-requires c κs = search needs
 
 give-front-requires : tie.Need-give-front-requires
 give-front-requires c κs = search needs
-
--- What is left is front.
-abbrev kind : tie.Start → ℕ
-kind c = getD (c .args .nodes .now) (c .args .from) 0
-
-front-kind : (c : tie.At-match-rest) → kind (c .before .before .before .before .before) ≡ 14
-front-kind c =
-    let start = c .before .before .before .before .before in
-    front-left (kind start) (kind-listed (start .pre .0 .node-at)) (start .pre .1) (c .match .rest)
 
 same-length : tie.Need-same-length
 same-length c = search needs
@@ -150,7 +139,13 @@ same-length-12 c = search needs
 
 returns-12 : tie.Need-returns-12
 unfolding typing node-bytes
-returns-12 c = leaf-typed 1 (front-kind (c .before .before .before .before)) (refl, λ t. refl) (c .before .before .give-front .ensures .each)
+returns-12 c = leaf-typed 1 (c .before .before .before .before .match .keys12) (refl, λ t. refl) (c .before .before .give-front .ensures .each)
+
+-- No other kind stands here.
+returns-13 : tie.Need-returns-13
+returns-13 c =
+    let due = c .before .before .before .before .before .pre in
+    absurd (none-left _ (kind-listed (due .0 .node-at)) (due .1) (c .match .rest))
 
 pub type-leaf-spec : {M : Type 1} → statement M
 type-leaf-spec =
@@ -194,4 +189,5 @@ type-leaf-spec =
     same-length-11
     returns-11
     same-length-12
-    returns-12)
+    returns-12
+    returns-13)

@@ -5,15 +5,15 @@ use mathlib.Core.List.{List, []}
 use Prim.Native.Nat.{ℕ, _-_, _≤_, _<_}
 use native.Mathlib.Omega.{arith}
 use lib.Dec.{leb}
-use lib.ListN.{length, getD, take, drop}
-use borrow.Author.Tests.{le-leb, lt-leb, eq-eqb, ne-eqb}
+use lib.ListN.{length, take, drop}
+use borrow.Author.Tests.{le-leb, lt-leb}
 use Rattle.stream.specs.declared.Fault.{Fault}
 use Rattle.stream.specs.declared.Fault.the-variants.{TypeTooLarge}
-use Rattle.stream.specs.Types.{Ty, size, type-limit, kind, has-kind, Small}
+use Rattle.stream.specs.Types.{Ty, size, type-limit, Small}
 use Rattle.stream.specs.Reading.{Result, accepted, refused, require}
 use Rattle.stream.specs.TypeFiles.{type-bytes}
 use Rattle.reading.specs.TypeReads.{TypeAt, TypeEnds}
-use Rattle.reading.specs.TypeReads.Laws.{type-width, bytes-at, kind-at}
+use Rattle.reading.specs.TypeReads.Laws.{type-width, bytes-at}
 use Rattle.writing.specs.Appending.Laws.{WrittenSoFar}
 use Rattle.node.specs.Nodes.{Node}
 use Rattle.node.specs.Nodes.Laws.{output-small}
@@ -30,17 +30,6 @@ pub type-taken : {types : List ℕ} {at stop : ℕ} {t : Ty} → TypeAt types at
 type-taken {types} {at} {stop} {t} stands ends =
     let long : stop - at ≡ size t = omega (arith, ends .each t stands) in
     rw long (bytes-at stands)
-
--- The kind byte tells whether a type has the shape that is asked.
-module _ {types : List ℕ} {at : ℕ} {t : Ty} (stands : TypeAt types at t) {shape : ℕ} where
-  pub other-shape : (getD types at 0 ≡ shape → ⊥) → has-kind shape t ≡ false
-  other-shape h = ne-eqb (kind t) shape (λ e. h (kind-at stands ∙ e))
-
-  pub same-shape : getD types at 0 ≡ shape → has-kind shape t ≡ true
-  same-shape h = eq-eqb (kind t) shape (sym (kind-at stands) ∙ h)
-
-  pub is-fork : getD types at 0 ≡ shape → 3 ≤ shape → 3 ≤ kind t
-  is-fork h fork = omega (arith, kind-at stands)
 
 -- What is told of a type given
 

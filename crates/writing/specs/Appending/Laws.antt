@@ -6,7 +6,9 @@ use native.Mathlib.Omega.{arith}
 use lib.ListN.{length, take, drop, length-append, length-drop}
 use lib.Seq.{length-take-le}
 use Rattle.stream.specs.Buffers.{at-front}
-use Rattle.writing.specs.Appending.{Holds, Appends, Within}
+use Rattle.reading.specs.Nesting.{Piece}
+use Rattle.reading.specs.Nesting.Laws.{piece-length}
+use Rattle.writing.specs.Appending.{Holds, Appends, PartDue, Within}
 use Rattle.writing.specs.Writing.Laws.{part, back, part-is, onward}
 
 -- A part that is lent on, and comes back as long as it was.
@@ -66,3 +68,20 @@ written-part {bytes} {more} so-far within rest long =
       long = omega (arith, length-append bytes more, so-far .long);
       holds = holds-part (so-far .holds) (rw (so-far .long) within) rest;
     }
+
+-- A piece of some bytes is written: that it can be, where it ends, and what has been written with it.
+module _ {source copied : List ℕ} {from to : ℕ} (piece : Piece source from to copied) where
+  pub part-due : {written : ℕ} → written + length copied ≤ 65535 → PartDue source from to written
+  part-due few = record { forward = piece .forward; inside = piece .inside; few = omega (arith, piece-length piece) }
+
+  module _ {now after : List ℕ} {written end : ℕ} (appended : Appends (take (to - from) (drop from source)) written now after end) where
+    pub part-ends : end ≡ written + length copied
+    part-ends = omega (arith, appended .ends, ap length (piece .taken))
+
+    pub part-on : {bytes lent : List ℕ} → WrittenSoFar bytes lent now written → WrittenSoFar (bytes ++ copied) lent after end
+    part-on so-far = written-on so-far (rw (piece .taken) at appended)
+
+-- The same bytes in other words.
+pub written-as : {bytes other lent now : List ℕ} {written : ℕ} → WrittenSoFar bytes lent now written → bytes ≡ other
+    → WrittenSoFar other lent now written
+written-as so-far same = rw same at so-far
