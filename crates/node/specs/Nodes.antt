@@ -4,6 +4,7 @@ use Prim.Native.Nat.{ℕ, suc, _+_, _<_, _≤_}
 use Rattle.stream.specs.Types.{Ty, empty, cue, level, seq, par, Nullable, Small}
 use Rattle.stream.specs.Levels.{level-limit}
 pub mod Functions
+pub mod Kinds
 pub mod Laws
 
 pub data Node : Type 0 where

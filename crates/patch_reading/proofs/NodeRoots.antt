@@ -25,8 +25,7 @@ use Rattle.reading.specs.Sections.Laws.{failed, Within, tree-within}
 use Rattle.reading.specs.TypeReads.Laws.{type-drop, read-type-within}
 use Rattle.node.specs.Nodes.{Node, pass, silent, emit-cue, emit-level, both, left-side, right-side, first, second, then, chain, regroup-right, regroup-left, spread, front, node-limit}
 use Rattle.node.specs.PatchFiles.{node-kinds, node-root, read-node}
-use Rattle.patch_reading.specs.PatchReads.{node-arity}
-use Rattle.patch_reading.specs.PatchReads.Laws.{leaf-arity}
+use Rattle.node.specs.Nodes.Kinds.{node-arity, unlisted-arity}
 
 -- A tree ends within the bytes that it was read from.
 pub ends-within : {A : Type 0} (n : ℕ) (g : Reading A) (k : ℕ) → end-of n g ≡ At k → k ≤ n
@@ -63,7 +62,7 @@ shape =
     & past none)
   where
     none : (k : ℕ) → 15 ≤ k → Shape k (node-arity k) (λ r. fault Unlisted)
-    none k h = rw (leaf-arity k (λ e. omega arith) (λ e. omega arith) (λ e. omega arith)) (unlisted h)
+    none k h = rw (unlisted-arity k h) (unlisted h)
 
 arity-of : {k parts : ℕ} {f : ReadsRoot} → Shape k parts f → parts ≤ 2
 arity-of (plain n) = omega arith

@@ -1,8 +1,8 @@
 -- What the reader of patch files tells its caller: where a patch stands, or the first fault.
 use mathlib.Core.Path.{_≡_}
-use mathlib.Core.List.{List, [], _∷_}
+use mathlib.Core.List.{List, []}
 use Prim.Native.Nat.{ℕ, _+_, _≤_}
-use lib.ListN.{length, getD, drop}
+use lib.ListN.{length, drop}
 use Rattle.reading.specs.TypeReads.{in-file, TypeAt}
 use Rattle.stream.specs.Types.{size}
 use Rattle.stream.specs.Reading.{Result, accepted, refused}
@@ -12,12 +12,9 @@ use Rattle.node.specs.PatchFiles.{node-bytes, first-pass}
 use Rattle.patch_reading.specs.declared.PatchPlace.{PatchPlace}
 use Rattle.patch_reading.specs.declared.PatchRead.{PatchRead}
 use Rattle.patch_reading.specs.declared.PatchRead.the-variants.{Whole, Refused}
+pub use Rattle.node.specs.Nodes.Kinds.{node-arity}
 pub mod Laws
 pub mod Standing
-
--- How many parts a node's kind has.
-abbrev pub node-arity : ℕ → ℕ
-node-arity k = getD (0 ∷ 0 ∷ 0 ∷ 0 ∷ 2 ∷ 0 ∷ 0 ∷ 0 ∷ 0 ∷ 2 ∷ 2 ∷ []) k 0
 
 -- The input type of a patch file stands behind the two bytes of its section's count, and the nodes behind those of theirs.
 abbrev pub in-patch-file : Patch → PatchPlace

@@ -1,4 +1,5 @@
 // Check's first pass: whether a file is a patch file, and where its parts stand.
+use reading::prefixes::VALUE_WIDTH;
 use reading::sections::TreeEnd;
 use reading::sections::fill;
 use reading::sections::section_end;
@@ -11,7 +12,8 @@ ghost use Prim.Native.Nat.{_≤_};
 ghost use lib.ListN.{length, drop};
 ghost use Rattle.reading.specs.Sections.{end-of};
 ghost use Rattle.node.specs.PatchFiles.{node-root, read-node, node-section, first-pass};
-ghost use Rattle.patch_reading.specs.PatchReads.{node-arity, patch-read};
+ghost use Rattle.node.specs.Nodes.Kinds.{node-arity};
+ghost use Rattle.patch_reading.specs.PatchReads.{patch-read};
 
 // Where a patch stands in its file: its input type, and from `nodes` to the end its nodes.
 pub struct PatchPlace {
@@ -37,15 +39,27 @@ impl PatchPlace {
     }
 }
 
-// How many parts a node's kind has.
+// How many parts a node's kind has; a byte that is no kind has none.
 fn node_arity(kind: u8) -> usize
     ensures { λ r. ⌜ r ≡ node-arity kind ⌝ }
 {
     match kind {
+        0 => 0,
+        1 => 0,
+        2 => 0,
+        3 => 0,
         4 => 2,
+        5 => 0,
+        6 => 0,
+        7 => 0,
+        8 => 0,
         9 => 2,
         10 => 2,
-        _ => 0,
+        11 => 0,
+        12 => 0,
+        13 => 0,
+        14 => 0,
+        15..=255 => 0,
     }
 }
 
@@ -60,19 +74,21 @@ fn root_end(bytes: &[u8], at: usize) -> TreeEnd
     }
     let next = at + 1;
     match bytes[at] {
+        0 => TreeEnd::At(next),
         1 => match type_end(&bytes[next..]) {
             TreeEnd::Failed(fault) => TreeEnd::Failed(fault),
             TreeEnd::At(read) => TreeEnd::At(next + read),
         },
+        2 => TreeEnd::At(next),
         3 => {
-            if length - next < 2 {
+            if length - next < VALUE_WIDTH {
                 TreeEnd::Failed(Fault::CutShort)
             } else {
-                TreeEnd::At(next + 2)
+                TreeEnd::At(next + VALUE_WIDTH)
             }
         }
+        4..=14 => TreeEnd::At(next),
         15..=255 => TreeEnd::Failed(Fault::Unlisted),
-        _ => TreeEnd::At(next),
     }
 }
 

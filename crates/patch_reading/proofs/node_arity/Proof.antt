@@ -1,21 +1,31 @@
--- `node_arity` meets its contract: only the kinds 4, 9 and 10 have parts.
+-- `node_arity` meets its contract: each listed kind has its row in the table of arities, and a byte past them has no parts.
 use borrow.Author.Needs.{needs}
 use mathlib.Core.Path.{sym}
-use Rattle.patch_reading.specs.PatchReads.Laws.{leaf-arity}
+use Rattle.stream.specs.Reading.Laws.{past-all}
+use Rattle.node.specs.Nodes.Kinds.{listed-kinds, unlisted-arity}
 use Rattle.patch_reading.proofs.node_arity.Statement.{statement}
 use Rattle.patch_reading.proofs.node_arity.Tie as tie
 
-returns : tie.Need-returns
-returns c = search needs
-
-returns-2 : tie.Need-returns-2
-returns-2 c = search needs
-
-returns-3 : tie.Need-returns-3
-returns-3 c = search needs
-
-returns-4 : tie.Need-returns-4
-returns-4 c = sym (leaf-arity _ (c .match .rest .0 .0 .1) (c .match .rest .0 .1) (c .match .rest .1))
+unlisted : tie.Need-returns-16
+unlisted c = sym (unlisted-arity _ (past-all listed-kinds _ (c .match .rest)))
 
 pub node-arity-spec : {M : Type 1} → statement M
-node-arity-spec = tie.close (tie.spec returns returns-2 returns-3 returns-4)
+node-arity-spec =
+    tie.close
+    (tie.spec
+    (λ c. search needs)
+    (λ c. search needs)
+    (λ c. search needs)
+    (λ c. search needs)
+    (λ c. search needs)
+    (λ c. search needs)
+    (λ c. search needs)
+    (λ c. search needs)
+    (λ c. search needs)
+    (λ c. search needs)
+    (λ c. search needs)
+    (λ c. search needs)
+    (λ c. search needs)
+    (λ c. search needs)
+    (λ c. search needs)
+    unlisted)

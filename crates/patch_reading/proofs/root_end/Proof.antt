@@ -13,6 +13,28 @@ use Rattle.patch_reading.proofs.NodeRoots.{ends-within, cut-short, plai
 use Rattle.patch_reading.proofs.root_end.Statement.{statement}
 use Rattle.patch_reading.proofs.root_end.Tie as tie
 
+-- The places: the entry, the kind byte, and where `type_end` has answered.
+abbrev entry : tie.After-shared-slice-known2 → tie.Start
+entry c = c .before .before .before
+
+abbrev bytes : tie.After-shared-slice-known2 → List ℕ
+bytes c = entry c .args .bytes .now
+
+abbrev place : tie.After-shared-slice-known2 → ℕ
+place c = entry c .args .at
+
+abbrev behind : tie.After-shared-slice-known2 → List ℕ
+behind c = drop (place c + 1) (bytes c)
+
+abbrev at-kind : tie.After-type-end → tie.After-shared-slice-known2
+at-kind c = c .before .before .before
+
+abbrev type-failed-at : tie.After-known-told → tie.After-type-end
+type-failed-at c = c .before .before .before
+
+abbrev type-ended-at : tie.After-known-told2 → tie.After-type-end
+type-ended-at c = c .before .before .before
+
 returns : tie.Need-returns
 returns c = sym (cut-short (c .before .before .args .bytes .now) (c .before .before .args .at) (c .if1 .taken))
 
@@ -40,27 +62,17 @@ enum-known-fault c = search needs
 enum-known-read : tie.Need-enum-known-read
 enum-known-read c = search needs
 
--- What is known at the kind byte, and once `type_end` has answered.
-abbrev bytes : tie.After-shared-slice-known2 → List ℕ
-bytes c = c .before .before .before .args .bytes .now
-
-abbrev place : tie.After-shared-slice-known2 → ℕ
-place c = c .before .before .before .args .at
-
-abbrev behind : tie.After-shared-slice-known2 → List ℕ
-behind c = drop (place c + 1) (bytes c)
-
-ended : (c : tie.After-type-end) → end-of (length (behind (c .before .before .before))) (read-type (behind (c .before .before .before))) ≡ c .type-end .result
+ended : (c : tie.After-type-end) → end-of (length (behind (at-kind c))) (read-type (behind (at-kind c))) ≡ c .type-end .result
 ended c =
-    let a = c .before .before .before in
+    let a = at-kind c in
     let h : length (behind a) ≤ length (bytes a) - (place a + 1) = simp length-drop (omega arith) in
     sym (rw (take-all (length (bytes a) - (place a + 1)) (behind a) h) at (c .type-end .ensures))
 
 add-t19 : tie.Need-add-t19
 add-t19 c =
-    let e = c .before .before .before in
+    let e = type-ended-at c in
     let f = ends-within _ _ _ (ended e ∙ c .before .read .given .1) in
-    omega (arith, f, length-drop (place (e .before .before .before) + 1) (bytes (e .before .before .before)))
+    omega (arith, f, length-drop (place (at-kind e) + 1) (bytes (at-kind e)))
 
 sub-if2 : tie.Need-sub-if2
 sub-if2 c = search needs
@@ -69,34 +81,41 @@ add-t24 : tie.Need-add-t24
 add-t24 c = search needs
 
 returns-2 : tie.Need-returns-2
-returns-2 c =
-    let e = c .before .before .before in
-    let a = e .before .before .before in
-    sym (type-failed (bytes a) (place a) (omega arith) (omega arith) _ (ended e ∙ c .before .fault .given .1))
+returns-2 c = let a = c .before in sym (plain-end (bytes a) (place a) (omega arith) (λ one. omega arith) (λ three. omega arith) (omega arith))
 
 returns-3 : tie.Need-returns-3
 returns-3 c =
-    let e = c .before .before .before in
-    let a = e .before .before .before in
-    sym (type-ended (bytes a) (place a) (omega arith) (omega arith) _ (ended e ∙ c .before .read .given .1))
+    let e = type-failed-at c in
+    let a = at-kind e in
+    sym (type-failed (bytes a) (place a) (omega arith) (omega arith) _ (ended e ∙ c .before .fault .given .1))
 
 returns-4 : tie.Need-returns-4
 returns-4 c =
-    let a = c .before .before in
-    sym (value-failed (bytes a) (place a) (omega arith) (c .before .match .keys2) (c .if2 .taken))
+    let e = type-ended-at c in
+    let a = at-kind e in
+    sym (type-ended (bytes a) (place a) (omega arith) (omega arith) _ (ended e ∙ c .before .read .given .1))
 
 returns-5 : tie.Need-returns-5
-returns-5 c =
-    let a = c .before .before in
-    sym (value-ended (bytes a) (place a) (omega arith) (c .before .match .keys2) (omega arith))
+returns-5 c = let a = c .before in sym (plain-end (bytes a) (place a) (omega arith) (λ one. omega arith) (λ three. omega arith) (omega arith))
 
 returns-6 : tie.Need-returns-6
 returns-6 c =
     let a = c .before .before in
-    sym (plain-end (bytes a) (place a) (omega arith) (c .before .match .rest .0 .1) (c .before .match .rest .1) (c .if3 .taken))
+    sym (value-failed (bytes a) (place a) (omega arith) (c .before .match .keys4) (c .if2 .taken))
 
 returns-7 : tie.Need-returns-7
 returns-7 c =
+    let a = c .before .before in
+    sym (value-ended (bytes a) (place a) (omega arith) (c .before .match .keys4) (omega arith))
+
+returns-8 : tie.Need-returns-8
+returns-8 c =
+    let a = c .before .before in
+    let other = c .before .match .rest in
+    sym (plain-end (bytes a) (place a) (omega arith) (other .0 .0 .1) (other .1) (c .if3 .taken))
+
+returns-9 : tie.Need-returns-9
+returns-9 c =
     let a = c .before .before in
     sym (unlisted-end (bytes a) (place a) (omega arith) (omega arith))
 
@@ -121,4 +140,6 @@ root-end-spec =
     returns-4
     returns-5
     returns-6
-    returns-7)
+    returns-7
+    returns-8
+    returns-9)

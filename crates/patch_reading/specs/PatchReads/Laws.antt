@@ -14,44 +14,27 @@ use Rattle.reading.specs.TypeReads.{TypeAt}
 use Rattle.reading.specs.TypeReads.Laws.{type-before, type-width}
 use Rattle.node.specs.Nodes.{Node, pass, silent, emit-cue, emit-level, both, left-side, right-side, first, second, then, chain, regroup-right, regroup-left, spread, front, count}
 use Rattle.node.specs.Nodes.Functions.{Carries}
+use Rattle.node.specs.Nodes.Kinds.{node-kind, node-arity, node-arities, kind-is-listed}
 use Rattle.node.specs.PatchFiles.{node-bytes}
-use Rattle.patch_reading.specs.PatchReads.{node-arity, node-width, NodeAt}
+use Rattle.patch_reading.specs.PatchReads.{node-width, NodeAt}
 
--- The kind byte.
-abbrev pub node-kind : Node → ℕ
-node-kind pass = 0
-node-kind (silent n) = 1
-node-kind emit-cue = 2
-node-kind (emit-level v) = 3
-node-kind (both n m) = 4
-node-kind left-side = 5
-node-kind right-side = 6
-node-kind first = 7
-node-kind second = 8
-node-kind (then n m) = 9
-node-kind (chain n m) = 10
-node-kind regroup-right = 11
-node-kind regroup-left = 12
-node-kind spread = 13
-node-kind front = 14
-
-root-first : (n : Node) (r : List ℕ) → (node-bytes n r ≡ node-kind n ∷ drop 1 (node-bytes n r)) × (node-kind n < 15)
+root-first : (n : Node) (r : List ℕ) → node-bytes n r ≡ node-kind n ∷ drop 1 (node-bytes n r)
 unfolding node-bytes
-root-first pass r = (refl, omega arith)
-root-first (silent n) r = (refl, omega arith)
-root-first emit-cue r = (refl, omega arith)
-root-first (emit-level v) r = (refl, omega arith)
-root-first (both n m) r = (refl, omega arith)
-root-first left-side r = (refl, omega arith)
-root-first right-side r = (refl, omega arith)
-root-first first r = (refl, omega arith)
-root-first second r = (refl, omega arith)
-root-first (then n m) r = (refl, omega arith)
-root-first (chain n m) r = (refl, omega arith)
-root-first regroup-right r = (refl, omega arith)
-root-first regroup-left r = (refl, omega arith)
-root-first spread r = (refl, omega arith)
-root-first front r = (refl, omega arith)
+root-first pass r = refl
+root-first (silent n) r = refl
+root-first emit-cue r = refl
+root-first (emit-level v) r = refl
+root-first (both n m) r = refl
+root-first left-side r = refl
+root-first right-side r = refl
+root-first first r = refl
+root-first second r = refl
+root-first (then n m) r = refl
+root-first (chain n m) r = refl
+root-first regroup-right r = refl
+root-first regroup-left r = refl
+root-first spread r = refl
+root-first front r = refl
 
 -- Behind a node stands what was put there.
 
@@ -102,7 +85,7 @@ count-within spread = omega arith
 count-within front = omega arith
 
 pub width-positive : (n : Node) → 1 ≤ node-width n
-width-positive n = omega (arith, ap length (root-first n [] .0))
+width-positive n = omega (arith, ap length (root-first n []))
 
 module _ {bytes : List ℕ} {at : ℕ} {n : Node} (stands : NodeAt bytes at n) where
   pub ends-inside : at + node-width n ≤ length bytes
@@ -120,10 +103,10 @@ module _ {bytes : List ℕ} {at : ℕ} {n : Node} (stands : NodeAt bytes at n) w
   pub kind-at : getD bytes at 0 ≡ node-kind n
   kind-at =
       let e : getD (drop at bytes) 0 0 ≡ getD bytes at 0 = rw add-zero at (getD-drop at bytes 0 0) in
-      rw (← e, stands .here) (ap (λ l. getD l 0 0) (root-first n (stands .rest) .0))
+      rw (← e, stands .here) (ap (λ l. getD l 0 0) (root-first n (stands .rest)))
 
   pub kind-listed : getD bytes at 0 < 15
-  kind-listed = rw kind-at (root-first n [] .1)
+  kind-listed = rw kind-at (kind-is-listed n)
 
 -- What has to be shown for the kind k.
 abbrev pub Case : (Node → Type 0) → ℕ → Type 0
@@ -172,9 +155,9 @@ by-byte P {n = n} stands e c = by-kind P n (rw (sym (kind-at stands) ∙ e) c)
 -- Only 4, 9 and 10 have parts.
 pub leaf-arity : (k : ℕ) → (k ≡ 4 → ⊥) → (k ≡ 9 → ⊥) → (k ≡ 10 → ⊥) → node-arity k ≡ 0
 leaf-arity =
-    every (λ k arity. (k ≡ 4 → ⊥) → (k ≡ 9 → ⊥) → (k ≡ 10 → ⊥) → arity ≡ 0) 0 _
+    every (λ k arity. (k ≡ 4 → ⊥) → (k ≡ 9 → ⊥) → (k ≡ 10 → ⊥) → arity ≡ 0) 0 node-arities
     (leaf & leaf & leaf & leaf & (λ four nine ten. absurd (four refl)) & leaf & leaf & leaf & leaf & (λ four nine ten. absurd (nine refl))
-    & (λ four nine ten. absurd (ten refl))
+    & (λ four nine ten. absurd (ten refl)) & leaf & leaf & leaf & leaf
     & past (λ k h. leaf))
   where
     leaf : {k : ℕ} → (k ≡ 4 → ⊥) → (k ≡ 9 → ⊥) → (k ≡ 10 → ⊥) → _≡_ {A = ℕ} 0 0
