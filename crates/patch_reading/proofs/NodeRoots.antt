@@ -5,7 +5,7 @@ use mathlib.Core.List.{List, [], _∷_}
 use Prim.Native.Nat.{ℕ, _+_, _-_, _≤_, _<_}
 use native.Mathlib.Omega.{arith}
 use native.Mathlib.Numerals.{add-one}
-use lib.ListN.{length, getD, drop, length-drop, drop-of-length-le, List·getD-eq-default}
+use lib.ListN.{length, getD, drop, length-drop, drop-of-length-le}
 use lib.Seq.{drop-cons, drop-drop}
 use Rattle.stream.specs.declared.Fault.{Fault}
 use Rattle.stream.specs.declared.Fault.the-variants.{CutShort, Unlisted, TooManyNodes}
@@ -25,7 +25,7 @@ use Rattle.reading.specs.Sections.Laws.{failed, Within, tree-within}
 use Rattle.reading.specs.TypeReads.Laws.{type-drop, read-type-within}
 use Rattle.node.specs.Nodes.{Node, pass, silent, emit-cue, emit-level, both, left-side, right-side, first, second, then, chain, regroup-right, regroup-left, spread, front, node-limit}
 use Rattle.node.specs.PatchFiles.{node-kinds, node-root, read-node}
-use Rattle.node.specs.Nodes.Kinds.{node-arity, unlisted-arity}
+use Rattle.node.specs.Nodes.Kinds.{node-arity, listed-kinds, unlisted-arity, Contents, bare, a-type, a-value, no-kind, node-contents, unlisted-contents}
 
 -- A tree ends within the bytes that it was read from.
 pub ends-within : {A : Type 0} (n : ℕ) (g : Reading A) (k : ℕ) → end-of n g ≡ At k → k ≤ n
@@ -33,43 +33,43 @@ unfolding end-of
 ends-within n (read a r) k h = let e : n - length r ≡ k = cc in omega arith
 ends-within n (fault e) k h = let z : _≡_ {A = ℕ} 0 1 = cc in absurd (omega arith)
 
--- What a kind byte may begin; the second number is how many parts the root owes.
+-- What a kind byte may begin, by what stands behind it and by how many parts the root owes.
 abbrev ReadsRoot : Type 0
 ReadsRoot = List ℕ → Reading (Root (Unit {0}) Node)
 
-abbrev carried : ReadsRoot
-carried s = read-on (read-type s) (λ n r. leaf (silent n) r)
+abbrev carried : (Ty → Node) → ReadsRoot
+carried make s = read-on (read-type s) (λ t r. leaf (make t) r)
 
-abbrev valued : ReadsRoot
-valued s = read-on (read-value CutShort s) (λ v r. leaf (emit-level v) r)
+abbrev valued : (ℕ → Node) → ReadsRoot
+valued make s = read-on (read-value CutShort s) (λ v r. leaf (make v) r)
 
-data Shape : ℕ → ℕ → ReadsRoot → Type 0 where
-  plain : {k : ℕ} (n : Node) → Shape k 0 (leaf n)
-  carries : Shape 1 0 carried
-  values : Shape 3 0 valued
-  forks : {k : ℕ} (f : Node → Node → Node) → Shape k 2 (two-parts f tt tt)
-  unlisted : {k : ℕ} → 15 ≤ k → Shape k 0 (λ s. fault Unlisted)
+data Shape : Contents → ℕ → ReadsRoot → Type 0 where
+  plain : (n : Node) → Shape bare 0 (leaf n)
+  carries : (make : Ty → Node) → Shape a-type 0 (carried make)
+  values : (make : ℕ → Node) → Shape a-value 0 (valued make)
+  forks : (f : Node → Node → Node) → Shape bare 2 (two-parts f tt tt)
+  unlisted : Shape no-kind 0 (λ s. fault Unlisted)
 
 abbrev kind-root : ℕ → ReadsRoot
 kind-root k = getD node-kinds k (λ r. fault Unlisted)
 
-shape : (k : ℕ) → Shape k (node-arity k) (kind-root k)
+shape : (k : ℕ) → Shape (node-contents k) (node-arity k) (kind-root k)
 shape =
-    every (λ k f. Shape k (node-arity k) f) (λ r. fault Unlisted) node-kinds
-    (plain pass & carries & plain emit-cue & values & forks both
+    every (λ k f. Shape (node-contents k) (node-arity k) f) (λ r. fault Unlisted) node-kinds
+    (plain pass & carries silent & plain emit-cue & values emit-level & forks both
     & plain left-side & plain right-side & plain first & plain second & forks then & forks chain
     & plain regroup-right & plain regroup-left & plain spread & plain front
     & past none)
   where
-    none : (k : ℕ) → 15 ≤ k → Shape k (node-arity k) (λ r. fault Unlisted)
-    none k h = rw (unlisted-arity k h) (unlisted h)
+    none : (k : ℕ) → listed-kinds ≤ k → Shape (node-contents k) (node-arity k) (λ r. fault Unlisted)
+    none k h = rw (unlisted-contents k h, unlisted-arity k h) unlisted
 
-arity-of : {k parts : ℕ} {f : ReadsRoot} → Shape k parts f → parts ≤ 2
+arity-of : {c : Contents} {parts : ℕ} {f : ReadsRoot} → Shape c parts f → parts ≤ 2
 arity-of (plain n) = omega arith
-arity-of carries = omega arith
-arity-of values = omega arith
+arity-of (carries make) = omega arith
+arity-of (values make) = omega arith
 arity-of (forks f) = omega arith
-arity-of (unlisted h) = omega arith
+arity-of unlisted = omega arith
 
 pub few-parts : (k : ℕ) → node-arity k ≤ 2
 few-parts k = arity-of (shape k)
@@ -80,12 +80,12 @@ leaf-after : {A : Type 0} (g : Reading A) (make : A → Node) → MakesOne {W = 
 leaf-after (read a r) make = leaf-makes {W = Unit {0}} tt (make a) r
 leaf-after (fault e) make = tt
 
-makes : {k parts : ℕ} {f : ReadsRoot} → Shape k parts f → (s : List ℕ) → MakesOne (f s)
+makes : {c : Contents} {parts : ℕ} {f : ReadsRoot} → Shape c parts f → (s : List ℕ) → MakesOne (f s)
 makes (plain n) s = leaf-makes {W = Unit {0}} tt n s
-makes carries s = leaf-after (read-type s) silent
-makes values s = leaf-after (read-value CutShort s) emit-level
+makes (carries make) s = leaf-after (read-type s) make
+makes (values make) s = leaf-after (read-value CutShort s) make
 makes (forks f) s = two-makes {W = Unit {0}} f tt tt s
-makes (unlisted h) s = tt
+makes unlisted s = tt
 
 pub makes-one : (w : Unit {0}) (s : List ℕ) → MakesOne (node-root w s)
 unfolding node-root
@@ -104,54 +104,57 @@ value-within s =
     ⊎-elim (λ h. rw (value-there CutShort s h .1) (omega (arith, length-drop value-width s))) (λ h. rw (value-missing CutShort s h) tt)
     (long-or-short value-width s)
 
-within : {k parts : ℕ} {f : ReadsRoot} → Shape k parts f → (s : List ℕ) → Within (k ∷ s) (f s)
-within (plain n) s = omega arith
-within carries s = within-after 1 s (read-type s) silent (read-type-within s)
-within values s = within-after 3 s (read-value CutShort s) emit-level (value-within s)
-within (forks f) s = omega arith
-within (unlisted h) s = tt
+within : (k : ℕ) {c : Contents} {parts : ℕ} {f : ReadsRoot} → Shape c parts f → (s : List ℕ) → Within (k ∷ s) (f s)
+within k (plain n) s = omega arith
+within k (carries make) s = within-after k s (read-type s) make (read-type-within s)
+within k (values make) s = within-after k s (read-value CutShort s) make (value-within s)
+within k (forks f) s = omega arith
+within k unlisted s = tt
 
 root-within : (w : Unit {0}) (s : List ℕ) → Within s (node-root w s)
 unfolding node-root
 root-within w [] = tt
-root-within w (k ∷ s) = within (shape k) s
+root-within w (k ∷ s) = within k (shape k) s
 
 pub node-within : (s : List ℕ) → Within s (read-node s)
 unfolding read-node
 node-within s = tree-within TooManyNodes node-root root-within node-limit tt s
 
--- A type, or a value, behind the kind byte.
+-- Where the root ends, by what stands behind the kind byte: nothing, a type or a value. No kind is refused.
 
-module _ (m : ℕ) (s : List ℕ) where
-  carried-fails : (e : Fault) → end-of (length s) (read-type s) ≡ Failed e → end-of m (carried s) ≡ Failed e
-  unfolding end-of
-  carried-fails e h = rw (failed (length s) (read-type s) e h)
-
-  carried-ends : length s ≤ m → (k : ℕ) → end-of (length s) (read-type s) ≡ At k → end-of m (carried s) ≡ At (m - length s + k)
-  unfolding end-of
-  carried-ends h k told = go (read-type s) (read-type-within s) told
-    where
-      go : (g : Reading Ty) → Within s g → end-of (length s) g ≡ At k
-          → end-of m (read-on g (λ n r. leaf {W = Unit {0}} (silent n) r)) ≡ At (m - length s + k)
-      go (read t r) w told = let e : length s - length r ≡ k = cc in ap At (omega arith)
-      go (fault e) w told = let z : _≡_ {A = ℕ} 0 1 = cc in absurd (omega arith)
-
-valued-fails : (m : ℕ) (s : List ℕ) → length s < value-width → end-of m (valued s) ≡ Failed CutShort
+plain-ends : {parts : ℕ} {f : ReadsRoot} → Shape bare parts f → (m : ℕ) (s : List ℕ) → end-of m (f s) ≡ At (m - length s)
 unfolding end-of
-valued-fails m s h = rw (value-missing CutShort s h)
+plain-ends (plain n) m s = refl
+plain-ends (forks f) m s = refl
 
-valued-ends : (m : ℕ) (s : List ℕ) → value-width ≤ length s → length s ≤ m → end-of m (valued s) ≡ At (m - length s + value-width)
+refuses : {parts : ℕ} {f : ReadsRoot} → Shape no-kind parts f → (m : ℕ) (s : List ℕ) → end-of m (f s) ≡ Failed Unlisted
 unfolding end-of
-valued-ends m s h l = rw (value-there CutShort s h .1) (ap At (omega (arith, length-drop value-width s)))
+refuses unlisted m s = refl
 
-plain-ends : {k parts : ℕ} {f : ReadsRoot} → Shape k parts f → (k ≡ 1 → ⊥) → (k ≡ 3 → ⊥) → k < 15
-    → (m : ℕ) (s : List ℕ) → end-of m (f s) ≡ At (m - length s)
+carried-fails : {parts : ℕ} {f : ReadsRoot} → Shape a-type parts f → (m : ℕ) (s : List ℕ) (e : Fault)
+    → end-of (length s) (read-type s) ≡ Failed e → end-of m (f s) ≡ Failed e
 unfolding end-of
-plain-ends (plain n) one three h m s = refl
-plain-ends carries one three h m s = absurd (one refl)
-plain-ends values one three h m s = absurd (three refl)
-plain-ends (forks f) one three h m s = refl
-plain-ends (unlisted l) one three h m s = absurd (omega arith)
+carried-fails (carries make) m s e h = rw (failed (length s) (read-type s) e h)
+
+carried-ends : {parts : ℕ} {f : ReadsRoot} → Shape a-type parts f → (m : ℕ) (s : List ℕ) → length s ≤ m → (k : ℕ)
+    → end-of (length s) (read-type s) ≡ At k → end-of m (f s) ≡ At (m - length s + k)
+unfolding end-of
+carried-ends (carries make) m s h k told = go (read-type s) (read-type-within s) told
+  where
+    go : (g : Reading Ty) → Within s g → end-of (length s) g ≡ At k
+        → end-of m (read-on g (λ t r. leaf {W = Unit {0}} (make t) r)) ≡ At (m - length s + k)
+    go (read t r) w told = let e : length s - length r ≡ k = cc in ap At (omega arith)
+    go (fault e) w told = let z : _≡_ {A = ℕ} 0 1 = cc in absurd (omega arith)
+
+valued-fails : {parts : ℕ} {f : ReadsRoot} → Shape a-value parts f → (m : ℕ) (s : List ℕ) → length s < value-width
+    → end-of m (f s) ≡ Failed CutShort
+unfolding end-of
+valued-fails (values make) m s h = rw (value-missing CutShort s h)
+
+valued-ends : {parts : ℕ} {f : ReadsRoot} → Shape a-value parts f → (m : ℕ) (s : List ℕ) → value-width ≤ length s → length s ≤ m
+    → end-of m (f s) ≡ At (m - length s + value-width)
+unfolding end-of
+valued-ends (values make) m s h l = rw (value-there CutShort s h .1) (ap At (omega (arith, length-drop value-width s)))
 
 -- A root was read at the front of s, before which m - length s bytes stand: it ends at `end` and leaves what stands there.
 record Leaves (parts m : ℕ) (s : List ℕ) (g : Reading (Root (Unit {0}) Node)) (end : ℕ) : Type 0 where
@@ -171,23 +174,23 @@ module _ (m : ℕ) (s : List ℕ) (l : length s ≤ m) (end : ℕ) where
       let n : m - length r ≡ end = cc in
       record { width = w; inside = inside; place = omega (arith, simp length-drop at (ap length e)); owes = (_, ap (leaf (make a)) e, refl) }
 
-  leaves : {k parts : ℕ} {f : ReadsRoot} → Shape k parts f → Bytes s → end-of m (f s) ≡ At end → Leaves parts m s (f s) end
+  leaves : {c : Contents} {parts : ℕ} {f : ReadsRoot} → Shape c parts f → Bytes s → end-of m (f s) ≡ At end → Leaves parts m s (f s) end
   unfolding end-of
   leaves (plain n) b h = let e : m - length s ≡ end = cc in record { width = 0; inside = omega arith; place = omega arith; owes = (_, refl, refl) }
-  leaves carries b h = leaves-after (read-type s) silent behind h
+  leaves (carries make) b h = leaves-after (read-type s) make behind h
     where
       behind : (t : Ty) (r : List ℕ) → read-type s ≡ read t r → (w : ℕ) × (w ≤ length s) × (r ≡ drop w s)
       behind t r e =
           let f = read-type-sound s t r b e in
           (size t, omega (arith, type-length t r, ap length (f .bytes)), rw (← f .bytes) (sym (type-drop t r)))
-  leaves values b h = leaves-after (read-value CutShort s) emit-level behind h
+  leaves (values make) b h = leaves-after (read-value CutShort s) make behind h
     where
       behind : (v : ℕ) (r : List ℕ) → read-value CutShort s ≡ read v r → (w : ℕ) × (w ≤ length s) × (r ≡ drop w s)
       behind v r e =
           let f = value-sound CutShort s v r b e in
           (value-width, omega (arith, value-length v r, ap length (f .bytes)), rw (← f .bytes) (sym (value-behind v r)))
   leaves (forks f) b h = let e : m - length s ≡ end = cc in record { width = 0; inside = omega arith; place = omega arith; owes = (_, refl, refl) }
-  leaves (unlisted i) b h = let z : _≡_ {A = ℕ} 0 1 = cc in absurd (omega arith)
+  leaves unlisted b h = let z : _≡_ {A = ℕ} 0 1 = cc in absurd (omega arith)
 
 -- The root at a place.
 module _ (s : List ℕ) (at : ℕ) where
@@ -212,33 +215,35 @@ module _ (s : List ℕ) (at : ℕ) where
     behind-kind : length s - length (drop (at + 1) s) ≡ at + 1
     behind-kind = simp length-drop (omega arith)
 
-    pub plain-end : (getD s at 0 ≡ 1 → ⊥) → (getD s at 0 ≡ 3 → ⊥) → getD s at 0 < 15 → root-end ≡ At (at + 1)
-    plain-end one three h =
-        by-kind ∙ plain-ends (shape (getD s at 0)) one three h (length s) (drop (at + 1) s) ∙ ap At behind-kind
+    -- The shape of the kind that is there.
+    shape-at : {c : Contents} → node-contents (getD s at 0) ≡ c → Shape c (node-arity (getD s at 0)) (kind-root (getD s at 0))
+    shape-at e = rw e at (shape (getD s at 0))
 
-    pub unlisted-end : 15 ≤ getD s at 0 → root-end ≡ Failed Unlisted
-    unfolding end-of
-    unlisted-end h =
-        let e : kind-root (getD s at 0) ≡ (λ r. fault Unlisted) = List·getD-eq-default node-kinds _ h in
-        by-kind ∙ ap (λ f. end-of (length s) (f (drop (at + 1) s))) e
+    rest-inside : length (drop (at + 1) s) ≤ length s
+    rest-inside = simp length-drop (omega arith)
 
-    module _ (one : getD s at 0 ≡ 1) where
+    pub plain-end : node-contents (getD s at 0) ≡ bare → root-end ≡ At (at + 1)
+    plain-end e = by-kind ∙ plain-ends (shape-at e) (length s) (drop (at + 1) s) ∙ ap At behind-kind
+
+    pub unlisted-end : listed-kinds ≤ getD s at 0 → root-end ≡ Failed Unlisted
+    unlisted-end h = by-kind ∙ refuses (shape-at (unlisted-contents (getD s at 0) h)) (length s) (drop (at + 1) s)
+
+    module _ (typed : node-contents (getD s at 0) ≡ a-type) where
       pub type-failed : (e : Fault) → end-of (length (drop (at + 1) s)) (read-type (drop (at + 1) s)) ≡ Failed e → root-end ≡ Failed e
-      type-failed e h = by-kind ∙ rw one (carried-fails (length s) (drop (at + 1) s) e h)
+      type-failed e h = by-kind ∙ carried-fails (shape-at typed) (length s) (drop (at + 1) s) e h
 
       pub type-ended : (k : ℕ) → end-of (length (drop (at + 1) s)) (read-type (drop (at + 1) s)) ≡ At k → root-end ≡ At (at + 1 + k)
       type-ended k h =
-          let l : length (drop (at + 1) s) ≤ length s = simp length-drop (omega arith) in
-          by-kind ∙ rw one (carried-ends (length s) (drop (at + 1) s) l k h) ∙ ap (λ n. At (n + k)) behind-kind
+          by-kind ∙ carried-ends (shape-at typed) (length s) (drop (at + 1) s) rest-inside k h ∙ ap (λ n. At (n + k)) behind-kind
 
-    module _ (three : getD s at 0 ≡ 3) where
+    module _ (has-value : node-contents (getD s at 0) ≡ a-value) where
       pub value-failed : length s - (at + 1) < value-width → root-end ≡ Failed CutShort
-      value-failed h = by-kind ∙ rw three (valued-fails (length s) (drop (at + 1) s) (simp length-drop h))
+      value-failed h = by-kind ∙ valued-fails (shape-at has-value) (length s) (drop (at + 1) s) (simp length-drop h)
 
       pub value-ended : value-width ≤ length s - (at + 1) → root-end ≡ At (at + 1 + value-width)
       value-ended h =
-          let l : length (drop (at + 1) s) ≤ length s = simp length-drop (omega arith) in
-          by-kind ∙ rw three (valued-ends (length s) (drop (at + 1) s) (simp length-drop h) l) ∙ ap (λ n. At (n + value-width)) behind-kind
+          by-kind ∙ valued-ends (shape-at has-value) (length s) (drop (at + 1) s) (simp length-drop h) rest-inside
+          ∙ ap (λ n. At (n + value-width)) behind-kind
 
   -- A root that ends at `end` was read.
   pub record RootRead (end : ℕ) : Type 0 where

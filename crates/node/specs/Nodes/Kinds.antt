@@ -54,6 +54,23 @@ kind-is-listed front = omega arith
 pub unlisted-arity : (k : ℕ) → listed-kinds ≤ k → node-arity k ≡ 0
 unlisted-arity k h = List·getD-eq-default node-arities 0 h
 
+-- What stands behind each kind byte, before the parts: nothing, a type or a value.
+pub data Contents : Type 0 where
+  bare : Contents
+  a-type : Contents
+  a-value : Contents
+  no-kind : Contents
+
+abbrev pub contents-by-kind : List Contents
+contents-by-kind =
+    bare ∷ a-type ∷ bare ∷ a-value ∷ bare ∷ bare ∷ bare ∷ bare ∷ bare ∷ bare ∷ bare ∷ bare ∷ bare ∷ bare ∷ bare ∷ []
+
+abbrev pub node-contents : ℕ → Contents
+node-contents k = getD contents-by-kind k no-kind
+
+pub unlisted-contents : (k : ℕ) → listed-kinds ≤ k → node-contents k ≡ no-kind
+unlisted-contents k h = List·getD-eq-default contents-by-kind no-kind h
+
 -- The parts, left to right.
 abbrev pub node-parts : Node → List Node
 node-parts pass = []

@@ -1,13 +1,15 @@
 -- `root_end` meets its contract: the kind byte says whether a type, a value or nothing stands behind it (`NodeRoots`), and
 -- `type_end` says where the type ends.
 use borrow.Author.Needs.{needs}
-use mathlib.Core.Path.{_≡_, sym, _∙_}
+use mathlib.Core.Path.{_≡_, refl, sym, ap, _∙_}
 use mathlib.Core.List.{List}
-use Prim.Native.Nat.{ℕ, _+_, _-_, _≤_}
+use Prim.Native.Nat.{ℕ, _+_, _-_, _≤_, _<_}
 use native.Mathlib.Omega.{arith}
-use lib.ListN.{length, drop, length-drop}
+use lib.ListN.{length, getD, drop, length-drop}
 use lib.Seq.{take-all}
+use Rattle.stream.specs.Reading.Laws.{_&_, past, every, past-all}
 use Rattle.stream.specs.TypeFiles.{read-type}
+use Rattle.node.specs.Nodes.Kinds.{listed-kinds, Contents, bare, a-type, no-kind, contents-by-kind, node-contents}
 use Rattle.reading.specs.Sections.{end-of}
 use Rattle.patch_reading.proofs.NodeRoots.{ends-within, cut-short, plain-end, unlisted-end, type-failed, type-ended, value-failed, value-ended}
 use Rattle.patch_reading.proofs.root_end.Statement.{statement}
@@ -62,6 +64,20 @@ enum-known-fault c = search needs
 enum-known-read : tie.Need-enum-known-read
 enum-known-read c = search needs
 
+carries-type : (c : tie.After-type-end) → node-contents (getD (bytes (at-kind c)) (place (at-kind c)) 0) ≡ a-type
+carries-type c = ap node-contents (c .before .before .match .keys2)
+
+-- The kinds from 4 on carry nothing.
+bare-from-four : (k : ℕ) → 4 ≤ k → k < listed-kinds → node-contents k ≡ bare
+bare-from-four =
+    every (λ k c. 4 ≤ k → k < listed-kinds → c ≡ bare) no-kind contents-by-kind
+    ((λ from below. absurd (omega arith)) & (λ from below. absurd (omega arith)) & (λ from below. absurd (omega arith))
+    & (λ from below. absurd (omega arith)) & plain & plain & plain & plain & plain & plain & plain & plain & plain & plain & plain
+    & past (λ k above from below. absurd (omega arith)))
+  where
+    plain : {k : ℕ} → 4 ≤ k → k < listed-kinds → _≡_ {A = Contents} bare bare
+    plain from below = refl
+
 ended : (c : tie.After-type-end) → end-of (length (behind (at-kind c))) (read-type (behind (at-kind c))) ≡ c .type-end .result
 ended c =
     let a = at-kind c in
@@ -81,38 +97,38 @@ add-t24 : tie.Need-add-t24
 add-t24 c = search needs
 
 returns-2 : tie.Need-returns-2
-returns-2 c = let a = c .before in sym (plain-end (bytes a) (place a) (omega arith) (λ one. omega arith) (λ three. omega arith) (omega arith))
+returns-2 c = let a = c .before in sym (plain-end (bytes a) (place a) (omega arith) (ap node-contents (c .match .keys1)))
 
 returns-3 : tie.Need-returns-3
 returns-3 c =
     let e = type-failed-at c in
     let a = at-kind e in
-    sym (type-failed (bytes a) (place a) (omega arith) (omega arith) _ (ended e ∙ c .before .fault .given .1))
+    sym (type-failed (bytes a) (place a) (omega arith) (carries-type e) _ (ended e ∙ c .before .fault .given .1))
 
 returns-4 : tie.Need-returns-4
 returns-4 c =
     let e = type-ended-at c in
     let a = at-kind e in
-    sym (type-ended (bytes a) (place a) (omega arith) (omega arith) _ (ended e ∙ c .before .read .given .1))
+    sym (type-ended (bytes a) (place a) (omega arith) (carries-type e) _ (ended e ∙ c .before .read .given .1))
 
 returns-5 : tie.Need-returns-5
-returns-5 c = let a = c .before in sym (plain-end (bytes a) (place a) (omega arith) (λ one. omega arith) (λ three. omega arith) (omega arith))
+returns-5 c = let a = c .before in sym (plain-end (bytes a) (place a) (omega arith) (ap node-contents (c .match .keys3)))
 
 returns-6 : tie.Need-returns-6
 returns-6 c =
     let a = c .before .before in
-    sym (value-failed (bytes a) (place a) (omega arith) (c .before .match .keys4) (c .if2 .taken))
+    sym (value-failed (bytes a) (place a) (omega arith) (ap node-contents (c .before .match .keys4)) (c .if2 .taken))
 
 returns-7 : tie.Need-returns-7
 returns-7 c =
     let a = c .before .before in
-    sym (value-ended (bytes a) (place a) (omega arith) (c .before .match .keys4) (omega arith))
+    sym (value-ended (bytes a) (place a) (omega arith) (ap node-contents (c .before .match .keys4)) (omega arith))
 
 returns-8 : tie.Need-returns-8
 returns-8 c =
     let a = c .before .before in
-    let other = c .before .match .rest in
-    sym (plain-end (bytes a) (place a) (omega arith) (other .0 .0 .1) (other .1) (c .if3 .taken))
+    let past-value = past-all 4 _ (c .before .match .rest) in
+    sym (plain-end (bytes a) (place a) (omega arith) (bare-from-four _ past-value (c .if3 .taken)))
 
 returns-9 : tie.Need-returns-9
 returns-9 c =
