@@ -8,9 +8,10 @@ use lib.ListN.{getD}
 use Rattle.stream.specs.Types.{Ty, size, kind, first-part, second-part, has-kind}
 use Rattle.stream.specs.Types.Laws.{and-both}
 use Rattle.stream.specs.TypeFiles.{type-bytes}
+use Rattle.stream.specs.Types.Kinds.{type-arity}
 use Rattle.reading.specs.declared.nested.Pieces.{Pieces}
 use Rattle.reading.specs.declared.nested.Shaped.the-variants.{Nested, Other}
-use Rattle.reading.specs.TypeReads.{type-arity, TypeAt, SomeTypeAt, TypeEnds}
+use Rattle.reading.specs.TypeReads.{TypeAt, SomeTypeAt, TypeEnds}
 use Rattle.reading.specs.TypeReads.Laws.{fork-size, first-at, second-at, second-behind}
 use Rattle.reading.specs.Nesting.{Piece, PiecesAt, Nesting, first-nested, second-nested, is-nested, TypeCut, other-type, nested-type, Told, told-other, told-nested, TypesBehind, two-types, PiecesDue, PiecesFound}
 use Rattle.reading.specs.Nesting.Laws.{other-shape, same-shape, is-fork, type-piece}

@@ -3,7 +3,8 @@
 use crate::prefixes::skip_prefix;
 use crate::types::skip_type;
 ghost use mathlib.Core.Path.{_≡_};
-ghost use Rattle.reading.specs.TypeReads.{type-arity, TypeAt, SomeTypeAt};
+ghost use Rattle.stream.specs.Types.Kinds.{type-arity};
+ghost use Rattle.reading.specs.TypeReads.{TypeAt, SomeTypeAt};
 ghost use Rattle.reading.specs.Nesting.{first-nested, second-nested, TypeCut, FirstCut, SecondCut, SliceAt, SomeSlice, Shapes, TypesBehind, PrefixesBehind, PiecesDue, PiecesFound};
 
 // Where the three are: s from `first` up to `gap`, t from `second` up to `third`, r from there up to `end`. `kind` is the kind of t

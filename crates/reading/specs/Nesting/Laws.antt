@@ -9,23 +9,17 @@ use lib.ListN.{length, getD, take, drop, length-drop}
 use lib.Seq.{drop-drop, take-add, length-take-le}
 use borrow.Author.Tests.{eq-eqb, ne-eqb}
 use Rattle.stream.specs.Types.{Ty, size, kind, has-kind}
-use Rattle.stream.specs.Reading.Laws.{_&_, past, every}
 use Rattle.stream.specs.TypeFiles.{type-bytes}
 use Rattle.stream.specs.Prefixes.{Prefix}
 use Rattle.stream.specs.SliceFiles.{prefix-bytes}
-use Rattle.reading.specs.TypeReads.{type-arity, TypeAt}
-use Rattle.reading.specs.TypeReads.Laws.{ends-inside, kind-at, bytes-at}
+use Rattle.stream.specs.Types.Kinds.{type-arity}
+use Rattle.reading.specs.TypeReads.{TypeAt}
+use Rattle.reading.specs.TypeReads.Laws.{parts-fork, ends-inside, kind-at, bytes-at}
 use Rattle.reading.specs.SliceReads.{PrefixAt, prefix-width}
 use Rattle.reading.specs.SliceReads.Laws.{prefix-inside, prefix-taken}
 use Rattle.reading.specs.Nesting.{Piece}
 
 -- Shapes
-
--- The kinds with two parts.
-forking : (k : ℕ) → type-arity k ≡ 2 → 3 ≤ k
-forking =
-    every (λ k arity. arity ≡ 2 → 3 ≤ k) 2 _
-    ((λ two. absurd (omega arith)) & (λ two. absurd (omega arith)) & (λ two. absurd (omega arith)) & past (λ k above two. above))
 
 -- The kind byte tells whether a type has the shape that is asked.
 module _ {types : List ℕ} {at : ℕ} {t : Ty} (stands : TypeAt types at t) {shape : ℕ} where
@@ -36,7 +30,7 @@ module _ {types : List ℕ} {at : ℕ} {t : Ty} (stands : TypeAt types at t) {sh
   same-shape h = eq-eqb (kind t) shape (sym (kind-at stands) ∙ h)
 
   pub is-fork : getD types at 0 ≡ shape → type-arity shape ≡ 2 → 3 ≤ kind t
-  is-fork h two = omega (arith, kind-at stands, forking shape two)
+  is-fork h two = omega (arith, kind-at stands, parts-fork shape two)
 
 -- Pieces
 

@@ -1,6 +1,6 @@
 -- `type_leaf` meets its contract: each kind without parts gives what the function for it writes (`TypingLeaf`).
 use borrow.Author.Needs.{needs}
-use mathlib.Core.Path.{refl}
+use mathlib.Core.Path.{refl, ap}
 use mathlib.Core.List.{[]}
 use native.Mathlib.Omega.{arith}
 use Rattle.stream.specs.Types.{cue, level, size, type-limit}
