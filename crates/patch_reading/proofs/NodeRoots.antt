@@ -25,7 +25,8 @@ use Rattle.reading.specs.Sections.Laws.{failed, Within, tree-within}
 use Rattle.reading.specs.TypeReads.Laws.{type-drop, read-type-within}
 use Rattle.node.specs.Nodes.{Node, pass, silent, emit-cue, emit-level, both, left-side, right-side, first, second, then, chain, regroup-right, regroup-left, spread, front, node-limit}
 use Rattle.node.specs.PatchFiles.{node-kinds, node-root, read-node}
-use Rattle.node.specs.Nodes.Kinds.{node-arity, listed-kinds, unlisted-arity, Contents, bare, a-type, a-value, no-kind, node-contents, unlisted-contents}
+use Rattle.node.specs.Nodes.Kinds.{node-arities, node-arity, listed-kinds, Contents, bare, a-type, a-value, no-kind, contents-by-kind, node-contents}
+use Rattle.stream.specs.Tables.{beyond}
 
 -- A tree ends within the bytes that it was read from.
 pub ends-within : {A : Type 0} (n : ℕ) (g : Reading A) (k : ℕ) → end-of n g ≡ At k → k ≤ n
@@ -62,7 +63,7 @@ shape =
     & past none)
   where
     none : (k : ℕ) → listed-kinds ≤ k → Shape (node-contents k) (node-arity k) (λ r. fault Unlisted)
-    none k h = rw (unlisted-contents k h, unlisted-arity k h) unlisted
+    none k h = rw (← beyond contents-by-kind no-kind k h, ← beyond node-arities 0 k h) unlisted
 
 arity-of : {c : Contents} {parts : ℕ} {f : ReadsRoot} → Shape c parts f → parts ≤ 2
 arity-of (plain n) = omega arith
@@ -226,7 +227,7 @@ module _ (s : List ℕ) (at : ℕ) where
     plain-end e = by-kind ∙ plain-ends (shape-at e) (length s) (drop (at + 1) s) ∙ ap At behind-kind
 
     pub unlisted-end : listed-kinds ≤ getD s at 0 → root-end ≡ Failed Unlisted
-    unlisted-end h = by-kind ∙ refuses (shape-at (unlisted-contents (getD s at 0) h)) (length s) (drop (at + 1) s)
+    unlisted-end h = by-kind ∙ refuses (shape-at (sym (beyond contents-by-kind no-kind (getD s at 0) h))) (length s) (drop (at + 1) s)
 
     module _ (typed : node-contents (getD s at 0) ≡ a-type) where
       pub type-failed : (e : Fault) → end-of (length (drop (at + 1) s)) (read-type (drop (at + 1) s)) ≡ Failed e → root-end ≡ Failed e

@@ -39,26 +39,17 @@ impl PatchPlace {
     }
 }
 
-// How many parts a node's kind has; a byte that is no kind has none.
+// How many parts a node's kind has.
 fn node_arity(kind: u8) -> usize
     ensures { λ r. ⌜ r ≡ node-arity kind ⌝ }
 {
     match kind {
-        0 => 0,
-        1 => 0,
-        2 => 0,
-        3 => 0,
+        0..=3 => 0,
         4 => 2,
-        5 => 0,
-        6 => 0,
-        7 => 0,
-        8 => 0,
-        9 => 2,
-        10 => 2,
-        11 => 0,
-        12 => 0,
-        13 => 0,
-        14 => 0,
+        5..=8 => 0,
+        9..=10 => 2,
+        11..=14 => 0,
+        // No node's kind.
         15..=255 => 0,
     }
 }

@@ -18,7 +18,7 @@ use Rattle.stream.specs.Prefixes.Functions.{complete}
 use Rattle.stream.specs.Prefixes.Kinds.{root-width}
 use Rattle.stream.specs.Reading.{Reading, read, fault, Result, accepted, refused, tree}
 use Rattle.reading.specs.TypeReads.{TypeAt}
-use Rattle.stream.specs.SliceFiles.{Owed, owed, prefix-root, prefix-bytes, slice-file}
+use Rattle.stream.specs.SliceFiles.{Owed, owed, prefix-root, prefix-bytes, slice-over, slice-file}
 pub mod Laws
 pub mod Descent
 
@@ -155,7 +155,7 @@ SumsFit first (Failed e) = Unit
 
 -- A prefix of what is owed, of at most `budget` nodes, at the front of some bytes.
 unfoldable pub read-owed : (budget : ℕ) → Owed → List ℕ → Reading Prefix
-read-owed budget o s = tree SliceCutShort prefix-root budget o s
+read-owed budget o s = tree slice-over prefix-root budget o s
 
 -- The walk's answer, whichever type stands at `at`, under any budget that is enough for that type: where type and prefix end, and
 -- what is known of the prefix.

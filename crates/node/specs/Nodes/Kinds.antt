@@ -2,9 +2,9 @@
 -- table.
 use mathlib.Core.Path.{_≡_, refl}
 use mathlib.Core.List.{List, [], _∷_}
-use Prim.Native.Nat.{ℕ, suc, _+_, _≤_, _<_}
+use Prim.Native.Nat.{ℕ, suc, _+_, _<_}
 use native.Mathlib.Omega.{arith}
-use lib.ListN.{length, getD, List·getD-eq-default}
+use lib.ListN.{length, getD}
 use Rattle.node.specs.Nodes.{Node, pass, silent, emit-cue, emit-level, both, left-side, right-side, first, second, then, chain, regroup-right, regroup-left, spread, front, count}
 
 abbrev pub node-kind : Node → ℕ
@@ -51,9 +51,6 @@ kind-is-listed regroup-left = omega arith
 kind-is-listed spread = omega arith
 kind-is-listed front = omega arith
 
-pub unlisted-arity : (k : ℕ) → listed-kinds ≤ k → node-arity k ≡ 0
-unlisted-arity k h = List·getD-eq-default node-arities 0 h
-
 -- What stands behind each kind byte, before the parts: nothing, a type or a value.
 pub data Contents : Type 0 where
   bare : Contents
@@ -67,9 +64,6 @@ contents-by-kind =
 
 abbrev pub node-contents : ℕ → Contents
 node-contents k = getD contents-by-kind k no-kind
-
-pub unlisted-contents : (k : ℕ) → listed-kinds ≤ k → node-contents k ≡ no-kind
-unlisted-contents k h = List·getD-eq-default contents-by-kind no-kind h
 
 -- The parts, left to right.
 abbrev pub node-parts : Node → List Node

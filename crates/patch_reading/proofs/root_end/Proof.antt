@@ -3,30 +3,21 @@
 use borrow.Author.Needs.{needs}
 use mathlib.Core.Path.{_≡_, refl, sym, ap, _∙_}
 use mathlib.Core.List.{List}
-use Prim.Native.Nat.{ℕ, _+_, _-_, _≤_, _<_}
+use Prim.Native.Nat.{ℕ, _+_, _-_, _≤_}
 use native.Mathlib.Omega.{arith}
 use lib.ListN.{length, getD, drop, length-drop}
 use lib.Seq.{take-all}
-use Rattle.stream.specs.Reading.Laws.{_&_, past, every, past-all}
+use Rattle.stream.specs.Tables.{shared}
 use Rattle.stream.specs.TypeFiles.{read-type}
-use Rattle.node.specs.Nodes.Kinds.{listed-kinds, Contents, bare, a-type, no-kind, contents-by-kind, node-contents}
+use Rattle.node.specs.Nodes.Kinds.{a-type, no-kind, contents-by-kind, node-contents}
 use Rattle.reading.specs.Sections.{end-of}
 use Rattle.patch_reading.proofs.NodeRoots.{ends-within, cut-short, plain-end, unlisted-end, type-failed, type-ended, value-failed, value-ended}
 use Rattle.patch_reading.proofs.root_end.Statement.{statement}
 use Rattle.patch_reading.proofs.root_end.Tie as tie
 
--- The places: the entry, the kind byte, and where `type_end` has answered.
+-- The map of places: what stands before what.
 abbrev entry : tie.After-shared-slice-known2 → tie.Start
 entry c = c .before .before .before
-
-abbrev bytes : tie.After-shared-slice-known2 → List ℕ
-bytes c = entry c .args .bytes .now
-
-abbrev place : tie.After-shared-slice-known2 → ℕ
-place c = entry c .args .at
-
-abbrev behind : tie.After-shared-slice-known2 → List ℕ
-behind c = drop (place c + 1) (bytes c)
 
 abbrev at-kind : tie.After-type-end → tie.After-shared-slice-known2
 at-kind c = c .before .before .before
@@ -36,6 +27,16 @@ type-failed-at c = c .before .before .before
 
 abbrev type-ended-at : tie.After-known-told2 → tie.After-type-end
 type-ended-at c = c .before .before .before
+
+-- What is read at the kind byte.
+abbrev bytes : tie.After-shared-slice-known2 → List ℕ
+bytes c = entry c .args .bytes .now
+
+abbrev place : tie.After-shared-slice-known2 → ℕ
+place c = entry c .args .at
+
+abbrev behind : tie.After-shared-slice-known2 → List ℕ
+behind c = drop (place c + 1) (bytes c)
 
 returns : tie.Need-returns
 returns c = sym (cut-short (c .before .before .args .bytes .now) (c .before .before .args .at) (c .if1 .taken))
@@ -66,17 +67,6 @@ enum-known-read c = search needs
 
 carries-type : (c : tie.After-type-end) → node-contents (getD (bytes (at-kind c)) (place (at-kind c)) 0) ≡ a-type
 carries-type c = ap node-contents (c .before .before .match .keys2)
-
--- The kinds from 4 on carry nothing.
-bare-from-four : (k : ℕ) → 4 ≤ k → k < listed-kinds → node-contents k ≡ bare
-bare-from-four =
-    every (λ k c. 4 ≤ k → k < listed-kinds → c ≡ bare) no-kind contents-by-kind
-    ((λ from below. absurd (omega arith)) & (λ from below. absurd (omega arith)) & (λ from below. absurd (omega arith))
-    & (λ from below. absurd (omega arith)) & plain & plain & plain & plain & plain & plain & plain & plain & plain & plain & plain
-    & past (λ k above from below. absurd (omega arith)))
-  where
-    plain : {k : ℕ} → 4 ≤ k → k < listed-kinds → _≡_ {A = Contents} bare bare
-    plain from below = refl
 
 ended : (c : tie.After-type-end) → end-of (length (behind (at-kind c))) (read-type (behind (at-kind c))) ≡ c .type-end .result
 ended c =
@@ -127,8 +117,8 @@ returns-7 c =
 returns-8 : tie.Need-returns-8
 returns-8 c =
     let a = c .before .before in
-    let past-value = past-all 4 _ (c .before .match .rest) in
-    sym (plain-end (bytes a) (place a) (omega arith) (bare-from-four _ past-value (c .if3 .taken)))
+    let kind = getD (bytes a) (place a) 0 in
+    sym (plain-end (bytes a) (place a) (omega arith) (sym (shared contents-by-kind no-kind 4 11 refl kind (omega arith) (omega arith))))
 
 returns-9 : tie.Need-returns-9
 returns-9 c =

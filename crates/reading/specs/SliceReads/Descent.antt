@@ -15,7 +15,7 @@ use Rattle.stream.specs.Reading.{Bytes, Reading, read, fault, read-on, Root, le
 use Rattle.stream.specs.Reading.Laws.{FoundTree, tree-sound, _&_, past, every}
 use Rattle.stream.specs.Reading.Budgets.{tree-fault, tree-leaf, tree-one, tree-two}
 use Rattle.stream.specs.Tables.{beyond}
-use Rattle.stream.specs.SliceFiles.{Owed, owed, belongs, prefix-kinds, prefix-root, prefix-bytes}
+use Rattle.stream.specs.SliceFiles.{Owed, owed, belongs, prefix-kinds, prefix-root, prefix-bytes, slice-over}
 use Rattle.stream.specs.SliceFiles.Laws.{nodes, Fills, root-sound, prefix-spends}
 use Rattle.reading.specs.SliceReads.{overlap, belongs-at, read-owed}
 
@@ -74,28 +74,28 @@ module _ (t : Ty) (c : Bool) (s : List ℕ) where
 module _ (t : Ty) (c : Bool) (budget : ℕ) (s : List ℕ) where
   pub reads-fault : (e : Fault) → prefix-root (owed t c) s ≡ fault e → read-owed (suc budget) (owed t c) s ≡ fault e
   unfolding read-owed
-  reads-fault e h = tree-fault prefix-spends SliceCutShort budget (owed t c) s e h
+  reads-fault e h = tree-fault prefix-spends slice-over budget (owed t c) s e h
 
   pub reads-leaf : (p : Prefix) (r : List ℕ) → prefix-root (owed t c) s ≡ leaf p r → read-owed (suc budget) (owed t c) s ≡ read p r
   unfolding read-owed
-  reads-leaf p r h = tree-leaf prefix-spends SliceCutShort budget (owed t c) s r p h
+  reads-leaf p r h = tree-leaf prefix-spends slice-over budget (owed t c) s r p h
 
   pub reads-one : (f : Prefix → Prefix) (o : Owed) (r : List ℕ) → prefix-root (owed t c) s ≡ one-part f o r
       → read-owed (suc budget) (owed t c) s ≡ read-on (read-owed budget o r) (λ p x. read (f p) x)
   unfolding read-owed
-  reads-one f o r h = tree-one prefix-spends SliceCutShort budget (owed t c) o s r f h
+  reads-one f o r h = tree-one prefix-spends slice-over budget (owed t c) o s r f h
 
   pub reads-two : (f : Prefix → Prefix → Prefix) (o u : Owed) (r : List ℕ) → prefix-root (owed t c) s ≡ two-parts f o u r
       → read-owed (suc budget) (owed t c) s
       ≡ read-on (read-owed budget o r) (λ p x. read-on (read-owed (budget - nodes p) u x) (λ q y. read (f p q) y))
   unfolding read-owed
-  reads-two f o u r h = tree-two prefix-spends SliceCutShort budget (owed t c) o u s r f h
+  reads-two f o u r h = tree-two prefix-spends slice-over budget (owed t c) o u s r f h
 
 -- What is read is a prefix of the type, of the bytes that were there.
 pub read-owed-sound : (budget : ℕ) (o : Owed) (s : List ℕ) (p : Prefix) (r : List ℕ) → Bytes s → read-owed budget o s ≡ read p r
-    → FoundTree SliceCutShort prefix-root Fills prefix-bytes nodes root-sound budget o s p r
+    → FoundTree slice-over prefix-root Fills prefix-bytes nodes root-sound budget o s p r
 unfolding read-owed
-read-owed-sound budget o s p r b e = tree-sound SliceCutShort prefix-root Fills prefix-bytes nodes root-sound budget o s p r b e
+read-owed-sound budget o s p r b e = tree-sound slice-over prefix-root Fills prefix-bytes nodes root-sound budget o s p r b e
 
 -- A join with what follows is not shorter than the two by more than the nodes of the type.
 pub overlap-size : {t : Ty} {p : Prefix} → IsPrefix t p → overlap p ≤ size t

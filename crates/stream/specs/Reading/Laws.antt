@@ -348,15 +348,3 @@ all-at (h & hs) (suc b) = rw (add-suc, ← suc-add) (all-at hs b)
 
 pub every : {K : Type 0} (P : ℕ → K → Type 0) (d : K) (ks : List K) → All P d 0 ks → (b : ℕ) → P b (getD ks b d)
 every P d ks h b = let z : 0 + b ≡ b = omega arith in rw z at (all-at h b)
-
--- What is none of the first n numbers is past them: what a match that has an arm for each leaves for its last.
-abbrev pub NoneBelow : ℕ → ℕ → Type 0
-NoneBelow zero k = Unit
-NoneBelow (suc n) k = NoneBelow n k × (k ≡ n → ⊥)
-
-pub past-all : (n k : ℕ) → NoneBelow n k → n ≤ k
-past-all zero k h = omega arith
-past-all (suc n) k h = above (past-all n k (h .0)) (h .1)
-  where
-    above : n ≤ k → (k ≡ n → ⊥) → suc n ≤ k
-    above le other = omega arith

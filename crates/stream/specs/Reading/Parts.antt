@@ -1,11 +1,11 @@
--- With budget enough for what is owed, a tree is its root and then its parts, each read by itself, whatever the budget.
-use mathlib.Core.Path.{_≡_, refl, sym, ap, _∙_}
-use mathlib.Core.List.{List, [], _∷_, _++_, append-assoc}
+-- What becomes of trees that are read one after the other; and that a budget which is enough for what is owed is not seen.
+use mathlib.Core.Path.{_≡_, refl, sym}
+use mathlib.Core.List.{List, [], _∷_, _++_}
 use Prim.Native.Nat.{ℕ, zero, suc, _+_, _≤_, _<_}
 use native.Mathlib.Omega.{arith}
-use lib.ListN.{length, length-append}
+use lib.ListN.{length}
 use Rattle.stream.specs.declared.Fault.{Fault}
-use Rattle.stream.specs.Reading.{Reading, read, fault, read-on, Root, forest, only, tree, leaf, one-part, two-parts, on-one, on-two}
+use Rattle.stream.specs.Reading.{Reading, read, fault, read-on, Root, forest, only, tree, one-part, two-parts, on-one, on-two}
 use Rattle.stream.specs.Reading.Laws.{none-owed}
 use Rattle.stream.specs.Reading.Walking.{MakesOne, OneEach, one-each}
 
@@ -102,87 +102,3 @@ module _ {W : Type 0} (weigh : W → ℕ) where
         go (read n r) l same =
             rw (same (n .parts ++ ws) r (omega (arith, weight-append (n .parts) ws)) (omega (arith, weight-append (n .parts) ws)))
         go (fault x) l same = refl
-
--- Roots that can be read one by one: each entry weighs something and its parts less, and each root makes one tree.
-pub record Descends {W A : Type 0} (weigh : W → ℕ) (root : W → List ℕ → Reading (Root W A)) : Type 0 where
-  pub positive : (w : W) → 1 ≤ weigh w
-  pub lighter : (w : W) (s : List ℕ) → Lighter weigh w (root w s)
-  pub makes-one : (w : W) (s : List ℕ) → MakesOne (root w s)
-  pub in-front : (w : W) (s : List ℕ) → InFront (root w s)
-
-module _ {W A : Type 0} {weigh : W → ℕ} {root : W → List ℕ → Reading (Root W A)} (descends : Descends weigh root) (over : Fault) where
-  forest-append : (budget : ℕ) (ws vs : List W) (s : List ℕ) → weight weigh (ws ++ vs) ≤ budget
-      → forest over root budget (ws ++ vs) s ≡ then-read (forest over root budget ws s) (λ ts. forest over root budget vs)
-  unfolding forest weight
-  forest-append zero [] vs s h = as-read (forest over root zero vs s)
-  forest-append (suc budget) [] vs s h = as-read (forest over root (suc budget) vs s)
-  forest-append zero (w ∷ ws) vs s h = absurd (omega (arith, descends .positive w))
-  forest-append (suc budget) (w ∷ ws) vs s h =
-      go (root w s) (descends .lighter w s) (descends .in-front w s) (λ us r i. forest-append budget us vs r i)
-    where
-      light : weigh w + (weight weigh ws + weight weigh vs) ≤ suc budget
-      light = omega (arith, weight-append weigh ws vs)
-
-      on : (n : Root W A) (r : List ℕ) → InFront (read n r) → (g : Reading (List A)) → OneEach over root (descends .makes-one) (n .parts ++ ws) g
-          → read-on (then-read g (λ ts. forest over root budget vs)) (λ ts x. read (n .build ts) x)
-          ≡ then-read (read-on g (λ ts x. read (n .build ts) x)) (λ ts. forest over root (suc budget) vs)
-      on n r f (read ts x) o =
-          built n ts (forest over root budget vs x) (λ us. f ts us (omega (arith, o, length-append (n .parts) ws)))
-          ∙ ap (λ g. read-on g (λ us y. read (n .build ts ++ us) y))
-          (same-forest weigh root (descends .positive) (descends .lighter) over over budget (suc budget) vs x
-          (omega (arith, light, descends .positive w)) (omega (arith, light)))
-      on n r f (fault e) o = refl
-
-      go : (g : Reading (Root W A)) → Lighter weigh w g → InFront g
-          → ((us : List W) (r : List ℕ) → weight weigh (us ++ vs) ≤ budget
-          → forest over root budget (us ++ vs) r ≡ then-read (forest over root budget us r) (λ ts. forest over root budget vs))
-          → read-on g (λ n r. read-on (forest over root budget (n .parts ++ (ws ++ vs)) r) (λ ts rest. read (n .build ts) rest))
-          ≡ then-read (read-on g (λ n r. read-on (forest over root budget (n .parts ++ ws) r) (λ ts rest. read (n .build ts) rest)))
-          (λ ts. forest over root (suc budget) vs)
-      go (read n r) l f k =
-          ap (λ us. read-on (forest over root budget us r) (λ ts rest. read (n .build ts) rest)) (sym (append-assoc (n .parts) ws vs))
-          ∙ ap (λ g. read-on g (λ ts rest. read (n .build ts) rest))
-          (k (n .parts ++ ws) r (omega (arith, light, weight-append weigh (n .parts ++ ws) vs, weight-append weigh (n .parts) ws)))
-          ∙ on n r f (forest over root budget (n .parts ++ ws) r) (one-each over root (descends .makes-one) budget (n .parts ++ ws) r)
-      go (fault e) l f k = refl
-
-  -- The one tree of a part, under the budget that a node less leaves.
-  part : (budget : ℕ) (w : W) (s : List ℕ) → weigh w ≤ budget
-      → forest over root budget (w ∷ []) s ≡ read-on (tree over root (suc budget) w s) (λ a r. read (a ∷ []) r)
-  unfolding weight
-  part budget w s h =
-      same-forest weigh root (descends .positive) (descends .lighter) over over budget (suc budget) (w ∷ []) s (omega arith) (omega arith)
-      ∙ alone over root (descends .makes-one) (suc budget) w s
-
-  pub tree-fault : (budget : ℕ) (w : W) (s : List ℕ) (e : Fault) → weigh w ≤ budget → root w s ≡ fault e → tree over root budget w s ≡ fault e
-  unfolding tree forest
-  tree-fault zero w s e h k = absurd (omega (arith, descends .positive w))
-  tree-fault (suc budget) w s e h k = rw (forest, k)
-
-  pub tree-leaf : (budget : ℕ) (w : W) (s r : List ℕ) (a : A) → weigh w ≤ budget → root w s ≡ leaf a r → tree over root budget w s ≡ read a r
-  unfolding tree forest
-  tree-leaf zero w s r a h k = absurd (omega (arith, descends .positive w))
-  tree-leaf (suc budget) w s r a h k = rw (forest, k, none-owed over root budget r)
-
-  pub tree-one : (budget : ℕ) (w v : W) (s r : List ℕ) (f : A → A) → weigh w ≤ budget → root w s ≡ one-part f v r
-      → tree over root budget w s ≡ read-on (tree over root budget v r) (λ a x. read (f a) x)
-  unfolding tree forest weight
-  tree-one zero w v s r f h k = absurd (omega (arith, descends .positive w))
-  tree-one (suc budget) w v s r f h k =
-      let l : weigh v + 0 < weigh w = rw k at (descends .lighter w s) in
-      rw (forest, k) (rw (part budget v r (omega arith)) (one-read over f (tree over root (suc budget) v r)))
-
-  pub tree-two : (budget : ℕ) (w u v : W) (s r : List ℕ) (f : A → A → A) → weigh w ≤ budget → root w s ≡ two-parts f u v r
-      → tree over root budget w s
-      ≡ read-on (tree over root budget u r) (λ a x. read-on (tree over root budget v x) (λ b y. read (f a b) y))
-  unfolding tree forest weight
-  tree-two zero w u v s r f h k = absurd (omega (arith, descends .positive w))
-  tree-two (suc budget) w u v s r f h k =
-      let l : weigh u + (weigh v + 0) < weigh w = rw k at (descends .lighter w s) in
-      rw (forest, k, forest-append budget (u ∷ []) (v ∷ []) r (omega arith), part budget u r (omega arith)) (go (omega arith) (tree over root (suc budget) u r))
-    where
-      go : weigh v ≤ budget → (g : Reading A)
-          → read-on (read-on (then-read (read-on g (λ a x. read (a ∷ []) x)) (λ ts. forest over root budget (v ∷ []))) (λ ts x. read (on-two f ts) x)) (only over)
-          ≡ read-on g (λ a x. read-on (tree over root (suc budget) v x) (λ b y. read (f a b) y))
-      go i (read a x) = rw (part budget v x i) (second-read over f a (tree over root (suc budget) v x))
-      go i (fault e) = refl
