@@ -3,10 +3,11 @@
 -- whatever is summed on the way comes to that tally at the end; the place come to is such a sum.
 use mathlib.Core.Path.{_≡_, refl, sym, ap, _∙_}
 use mathlib.Core.List.{List, [], _∷_, _++_}
-use Prim.Native.Nat.{ℕ, _+_, _≤_, _<_}
+use Prim.Native.Nat.{ℕ, suc, _+_, _≤_, _<_}
 use native.Mathlib.Omega.{arith}
 use lib.ListN.{length, getD, drop, length-append}
 use lib.Seq.{drop-drop}
+use Rattle.stream.specs.Levels.{value-width}
 use Rattle.stream.specs.Prefixes.{Prefix, nothing, cue-awaited, cue-come, level-awaited, level-come, in-first, crossed, beside}
 use Rattle.stream.specs.Reading.Laws.{_&_, past, every}
 use Rattle.stream.specs.Prefixes.Kinds.{prefix-kind, prefix-arity, root-widths, root-width, prefix-parts, prefix-parts-many, tally, tallies, totals, tallies-append, tally-by-parts}
@@ -100,16 +101,15 @@ module _ {slice : List ℕ} {place : ℕ} {p : Prefix} {passed : List ℕ} {owed
             come = omega (arith, run .come);
           }
 
--- A kind with parts has no value.
-pub parts-alone : (k : ℕ) → (prefix-arity k ≡ 0 → ⊥) → root-width k ≡ 1
-parts-alone =
-    every (λ k w. (prefix-arity k ≡ 0 → ⊥) → w ≡ 1) 1 root-widths
-    ((λ h. refl)
-    & (λ h. refl)
-    & (λ h. refl)
-    & (λ h. refl)
-    & (λ h. absurd (h refl))
-    & (λ h. refl)
-    & (λ h. refl)
-    & (λ h. refl)
-    & past (λ k l h. refl))
+-- A level that has come has its value behind it; no other kind has, and so none with parts.
+
+pub level-wide : (k : ℕ) → k ≡ 4 → root-width k ≡ suc value-width
+level-wide k e = rw e
+
+pub other-wide : (k : ℕ) → (k ≡ 4 → ⊥) → root-width k ≡ 1
+other-wide =
+    every (λ k w. (k ≡ 4 → ⊥) → w ≡ 1) 1 root-widths
+    ((λ h. refl) & (λ h. refl) & (λ h. refl) & (λ h. refl) & (λ h. absurd (h refl)) & (λ h. refl) & (λ h. refl) & (λ h. refl) & past (λ k l h. refl))
+
+pub parts-wide : (k : ℕ) → (prefix-arity k ≡ 0 → ⊥) → root-width k ≡ 1
+parts-wide k h = other-wide k (λ e. h (ap prefix-arity e))

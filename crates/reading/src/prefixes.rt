@@ -44,9 +44,12 @@ pub fn type_kind_of(kind: u8) -> u8
 {
     match kind {
         0 => 0,
-        1..=2 => 1,
-        3..=4 => 2,
-        5..=6 => 3,
+        1 => 1,
+        2 => 1,
+        3 => 2,
+        4 => 2,
+        5 => 3,
+        6 => 3,
         7 => 4,
         // No slice's kind.
         8..=255 => 4,
@@ -121,11 +124,12 @@ pub fn skip_prefix(slice: &[u8], place: usize) -> usize
         let kind = slice[end];
         end += 1;
         let parts = prefix_arity(kind);
-        if parts == 0 {
-            owed -= 1;
-            let width = root_width(kind);
-            if 1 < width {
-                end += width - 1;
+        if parts < 2 {
+            if parts == 0 {
+                owed -= 1;
+                if kind == 4 {
+                    end += VALUE_WIDTH;
+                }
             }
         } else {
             owed += parts - 1;
@@ -204,7 +208,18 @@ fn in_first(first: Known, second: usize) -> Known
 fn crossed(first: Known, second: Walk) -> Walk
     ensures { λ r. ⌜ r ≡ combined crossed-known first second ⌝ }
 {
-    second
+    match second {
+        Walk::Failed(fault) => Walk::Failed(fault),
+        Walk::Past(type_end, prefix_end, prefix) => Walk::Past(
+            type_end,
+            prefix_end,
+            Known {
+                complete: prefix.complete,
+                remains: prefix.remains,
+                overlap: prefix.overlap,
+            },
+        ),
+    }
 }
 
 // Of two prefixes side by side, from the first and from how the walk through the second ended.

@@ -2,7 +2,7 @@
 -- arm by arm.
 use mathlib.Core.Path.{_≡_, sym, ap, _∙_}
 use mathlib.Core.List.{List}
-use Prim.Native.Nat.{ℕ, _+_, _-_, _≤_, _<_}
+use Prim.Native.Nat.{ℕ, suc, _+_, _-_, _≤_, _<_}
 use native.Mathlib.Omega.{arith}
 use lib.ListN.{length, getD, take, drop, replicate, getD-replicate, List·getD-eq-default}
 use lib.Seq.{getD-take, getD-drop}
@@ -21,3 +21,7 @@ shared {v = v} ks d a n alike k low high =
 
 pub beyond : {K : Type 0} (ks : List K) (d : K) (k : ℕ) → length ks ≤ k → d ≡ getD ks k d
 beyond ks d k long = sym (List·getD-eq-default ks d long)
+
+-- The entries come to one after the other: the next is past one that it is not.
+pub above : {n k : ℕ} → n ≤ k → (k ≡ n → ⊥) → suc n ≤ k
+above low other = omega arith

@@ -1,18 +1,19 @@
 -- `crossed` meets its contract: however the second walk ended, it hands that on.
-use mathlib.Core.Path.{_≡_, refl}
-use Rattle.reading.specs.declared.prefixes.Known.{Known}
-use Rattle.reading.specs.declared.prefixes.Walk.{Walk}
-use Rattle.reading.specs.declared.prefixes.Walk.the-variants.{Past, Failed}
-use Rattle.reading.specs.SliceReads.{crossed-known, combined}
+use borrow.Author.Needs.{needs}
 use Rattle.reading.proofs.prefixes.crossed.Statement.{statement}
 use Rattle.reading.proofs.prefixes.crossed.Tie as tie
 
-handed-on : (first : Known) (second : Walk) → second ≡ combined crossed-known first second
-handed-on first (Past type-end prefix-end known) = refl
-handed-on first (Failed fault) = refl
+enum-known-second : tie.Need-enum-known-second
+enum-known-second c = search needs
+
+enum-known-second-2 : tie.Need-enum-known-second-2
+enum-known-second-2 c = search needs
 
 returns : tie.Need-returns
-returns c = handed-on (c .args .first) (c .args .second)
+returns c = rw (c .before .second .given .1)
+
+returns-2 : tie.Need-returns-2
+returns-2 c = rw (c .before .second2 .given .1)
 
 pub crossed-spec : {M : Type 1} → statement M
-crossed-spec = tie.close (tie.spec returns)
+crossed-spec = tie.close (tie.spec enum-known-second enum-known-second-2 returns returns-2)

@@ -1,15 +1,13 @@
 -- `skip_prefix` meets its contract: whichever prefix stands at `place`, `owed` prefixes of it are ahead at `end` (`Run`), and the
 -- byte there says how many parts take the place of the first of them.
 use borrow.Author.Needs.{needs}
-use mathlib.Core.Path.{_∙_}
 use mathlib.Core.List.{List}
 use Prim.Native.Nat.{ℕ, _+_, _-_, _≤_}
 use native.Mathlib.Omega.{arith}
 use lib.ListN.{length, getD}
 use Rattle.stream.specs.Prefixes.{Prefix}
 use Rattle.reading.specs.SliceReads.{PrefixAt}
-use Rattle.reading.specs.SliceReads.Laws.{root-positive}
-use Rattle.reading.proofs.PrefixWalk.{Run, starts, room, finished, turned, parts-alone}
+use Rattle.reading.proofs.PrefixWalk.{Run, starts, room, finished, turned, level-wide, other-wide, parts-wide}
 use Rattle.reading.proofs.prefixes.skip_prefix.Statement.{statement}
 use Rattle.reading.proofs.prefixes.skip_prefix.Tie as tie
 
@@ -47,14 +45,10 @@ prefix-arity-requires c κs = search needs
 sub-owed : tie.Need-sub-owed Inv-loop μ-loop
 sub-owed c = omega arith
 
-root-width-requires : tie.Need-root-width-requires Inv-loop μ-loop
-root-width-requires c κs = search needs
-
-sub-end : tie.Need-sub-end Inv-loop μ-loop
-sub-end c = omega arith
-
 loop-again : tie.Need-loop-again Inv-loop μ-loop
-loop-again c = λ p s. (_, turned (turn (c .before .before .before) .loop .inv p s .1) (omega arith) _ _ (omega arith) (omega arith))
+loop-again c = λ p s.
+    let at = turn (c .before .before .before) in
+    (_, turned (at .loop .inv p s .1) (omega arith) _ _ (omega arith) (omega (arith, level-wide (kind at) (c .if3 .taken))))
 
 add-end-2 : tie.Need-add-end-2 Inv-loop μ-loop
 add-end-2 c =
@@ -70,24 +64,31 @@ loop-less-2 c = omega (arith, inside (turn (c .before .before .before)))
 loop-again-2 : tie.Need-loop-again-2 Inv-loop μ-loop
 loop-again-2 c = λ p s.
     let at = turn (c .before .before .before) in
-    (_, turned (at .loop .inv p s .1) (omega arith) _ _ (omega arith) (omega (arith, root-positive (kind at))))
+    (_, turned (at .loop .inv p s .1) (omega arith) _ _ (omega arith) (omega (arith, other-wide (kind at) (c .if3 .left))))
+
+loop-less-3 : tie.Need-loop-less-3 Inv-loop μ-loop
+loop-less-3 c = omega (arith, inside (turn (c .before .before)))
+
+loop-again-3 : tie.Need-loop-again-3 Inv-loop μ-loop
+loop-again-3 c = λ p s.
+    let at = turn (c .before .before) in
+    (_, turned (at .loop .inv p s .1) (omega arith) _ _ (omega arith) (omega (arith, parts-wide (kind at) (λ none. omega arith))))
 
 sub-owed-2 : tie.Need-sub-owed-2 Inv-loop μ-loop
 sub-owed-2 c = omega arith
 
-loop-less-3 : tie.Need-loop-less-3 Inv-loop μ-loop
-loop-less-3 c = omega (arith, inside (turn (c .before)))
+loop-less-4 : tie.Need-loop-less-4 Inv-loop μ-loop
+loop-less-4 c = omega (arith, inside (turn (c .before)))
 
-loop-again-3 : tie.Need-loop-again-3 Inv-loop μ-loop
-loop-again-3 c = λ p s.
+loop-again-4 : tie.Need-loop-again-4 Inv-loop μ-loop
+loop-again-4 c = λ p s.
     let at = turn (c .before) in
-    let alone = parts-alone (kind at) (λ none. c .if1 .left (c .before .prefix-arity .ensures ∙ none)) in
-    (_, turned (at .loop .inv p s .1) (omega arith) _ _ (omega arith) (omega (arith, alone)))
+    (_, turned (at .loop .inv p s .1) (omega arith) _ _ (omega arith) (omega (arith, parts-wide (kind at) (λ none. omega arith))))
 
 add-owed : tie.Need-add-owed Inv-loop μ-loop
 add-owed c =
     let some = entry (turn (c .before)) .pre in
-    omega (arith, room (loop-again-3 c (some .prefix) (some .stands) .1) (some .stands))
+    omega (arith, room (loop-again-4 c (some .prefix) (some .stands) .1) (some .stands))
 
 returns : tie.Need-returns Inv-loop μ-loop
 returns c = record { each = λ p s. finished (c .before .loop .inv p s .1) (omega arith) }
@@ -103,15 +104,15 @@ skip-prefix-spec =
     add-end
     prefix-arity-requires
     sub-owed
-    root-width-requires
-    sub-end
     add-end-2
     loop-less
     loop-again
     loop-less-2
     loop-again-2
-    sub-owed-2
-    add-owed
     loop-less-3
     loop-again-3
+    sub-owed-2
+    add-owed
+    loop-less-4
+    loop-again-4
     returns)

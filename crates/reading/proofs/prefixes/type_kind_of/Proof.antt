@@ -1,8 +1,8 @@
--- `type_kind_of` meets its contract: each arm has entries of the table that are alike, the last what stands past its end.
+-- `type_kind_of` meets its contract: each arm has an entry of the table, the last what stands past its end.
 use borrow.Author.Needs.{needs}
 use native.Mathlib.Omega.{arith}
-use mathlib.Core.Path.{refl}
-use Rattle.stream.specs.Tables.{shared, beyond}
+use Prim.Native.Nat.{_≤_}
+use Rattle.stream.specs.Tables.{beyond, above}
 use Rattle.reading.specs.SliceReads.{types-by-kind}
 use Rattle.reading.proofs.prefixes.type_kind_of.Statement.{statement}
 use Rattle.reading.proofs.prefixes.type_kind_of.Tie as tie
@@ -14,16 +14,34 @@ returns-2 : tie.Need-returns-2
 returns-2 c = search needs
 
 returns-3 : tie.Need-returns-3
-returns-3 c = shared types-by-kind 4 1 2 refl (c .before .before .args .kind) (omega arith) (omega arith)
+returns-3 c = search needs
 
 returns-4 : tie.Need-returns-4
-returns-4 c = shared types-by-kind 4 3 2 refl (c .before .before .before .args .kind) (omega arith) (omega arith)
+returns-4 c = search needs
 
 returns-5 : tie.Need-returns-5
-returns-5 c = let other = c .before .before in shared types-by-kind 4 5 2 refl (other .before .before .args .kind) (omega arith) (omega arith)
+returns-5 c = search needs
 
 returns-6 : tie.Need-returns-6
-returns-6 c = let other = c .before .before in beyond types-by-kind 4 (other .before .before .args .kind) (omega arith)
+returns-6 c = search needs
+
+returns-7 : tie.Need-returns-7
+returns-7 c = search needs
+
+returns-8 : tie.Need-returns-8
+returns-8 c = search needs
+
+-- None of the kinds 0 to 7.
+unlisted : (c : tie.At-match-rest) → 8 ≤ c .before .args .kind
+unlisted c =
+    let others = c .match .rest in
+    let none : 0 ≤ c .before .args .kind = omega arith in
+    let low = above (above (above (above none (others .0 .0 .0 .0 .0 .0 .0 .1)) (others .0 .0 .0 .0 .0 .0 .1)) (others .0 .0 .0 .0 .0 .1)) (others .0 .0 .0 .0 .1) in
+    above (above (above (above low (others .0 .0 .0 .1)) (others .0 .0 .1)) (others .0 .1)) (others .1)
+
+returns-9 : tie.Need-returns-9
+returns-9 c = beyond types-by-kind 4 (c .before .args .kind) (unlisted c)
 
 pub type-kind-of-spec : {M : Type 1} → statement M
-type-kind-of-spec = tie.close (tie.spec returns returns-2 returns-3 returns-4 returns-5 returns-6)
+type-kind-of-spec =
+    tie.close (tie.spec returns returns-2 returns-3 returns-4 returns-5 returns-6 returns-7 returns-8 returns-9)
