@@ -2,6 +2,7 @@
 use borrow.Author.Needs.{needs}
 use mathlib.Core.Path.{refl, ap}
 use mathlib.Core.List.{[]}
+use Prim.Native.Nat.{suc}
 use native.Mathlib.Omega.{arith}
 use Rattle.stream.specs.Types.{cue, level, size, type-limit}
 use Rattle.stream.specs.Levels.Laws.{value-length}
