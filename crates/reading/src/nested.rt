@@ -18,6 +18,21 @@ pub struct Pieces {
     pub end: usize,
 }
 
+impl Pieces {
+    fn new(kind: u8, first: usize, gap: usize, second: usize, third: usize, end: usize) -> Pieces
+        ensures { λ r. ⌜ r ≡ record { kind = kind; first = first; gap = gap; second = second; third = third; end = end } ⌝ }
+    {
+        Pieces {
+            kind,
+            first,
+            gap,
+            second,
+            third,
+            end,
+        }
+    }
+}
+
 // What is found at a place: the three pieces, or a tree that has them not.
 pub enum Shaped {
     Nested(Pieces),
@@ -31,14 +46,7 @@ fn types_behind(kind: u8, types: &[u8], first: usize, gap: usize, second: usize)
 {
     let third = skip_type(types, second);
     let end = skip_type(types, third);
-    Pieces {
-        kind,
-        first,
-        gap,
-        second,
-        third,
-        end,
-    }
+    Pieces::new(kind, first, gap, second, third, end)
 }
 
 // The pieces of (s, t), r: 3 3 s t r.
@@ -80,24 +88,10 @@ fn prefixes_behind(kind: u8, slice: &[u8], first: usize, gap: usize, second: usi
 {
     let third = skip_prefix(slice, second);
     if kind == 5 {
-        return Pieces {
-            kind,
-            first,
-            gap,
-            second,
-            third,
-            end: third,
-        };
+        return Pieces::new(kind, first, gap, second, third, third);
     }
     let end = skip_prefix(slice, third);
-    Pieces {
-        kind,
-        first,
-        gap,
-        second,
-        third,
-        end,
-    }
+    Pieces::new(kind, first, gap, second, third, end)
 }
 
 // The pieces of a slice of (s, t), r, if s has come: 5 6 s t and 6 6 s t r.

@@ -179,6 +179,7 @@ pub fn type_node(types: &[u8], at: usize, nodes: &[u8], from: usize, out: &mut [
                 Typed::Gives(second, _) => type_node(&middle, 0, nodes, second, out),
             }
         }
+        // The kinds without parts.
         _ => type_leaf(types, at, nodes, from, out),
     }
 }

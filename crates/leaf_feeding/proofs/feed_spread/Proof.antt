@@ -21,20 +21,23 @@ asked c = c .before .before .before
 abbrev entry : tie.After-crossed-in-second → tie.Start
 entry c = asked (c .before)
 
+abbrev found : tie.After-write-spread-arg → tie.After-places
+found c = c .before .before
+
 abbrev waits : tie.After-enum-told → tie.After-crossed-in-second
 waits c = c .before .before
 
 abbrev told : tie.After-places → tie.After-crossed-in-second
 told c = c .before .before
 
-abbrev found : tie.After-write-spread-arg → tie.After-places
-found c = c .before .before
-
 abbrev written : tie.After-leave2 → tie.After-write-spread
 written c = c .before .before .before .before
 
 abbrev skipped : tie.After-append-kind → tie.After-skip-prefix
 skipped c = c .before .before
+
+abbrev sent : tie.After-leave → tie.After-append-part2
+sent c = c .before .before .before .before
 
 abbrev kind : tie.After-append-part-arg → tie.After-append-kind
 kind c = c .before .before .before
@@ -44,9 +47,6 @@ begun c = entry (waits (skipped c .before))
 
 abbrev once : tie.After-append-part-arg2 → tie.After-append-part
 once c = c .before .before .before
-
-abbrev sent : tie.After-leave → tie.After-append-part2
-sent c = c .before .before .before .before
 
 -- What is told of a slice that is fed: that s is still coming, or where the pieces are.
 

@@ -21,14 +21,14 @@ outer c = c .before .before .before
 abbrev inner : tie.After-append-part-arg → tie.After-append-kind2
 inner c = c .before .before .before
 
+abbrev rest : tie.After-slice-known5 → tie.After-append-part2
+rest c = c .before .before
+
 abbrev begun : tie.After-append-kind2 → tie.Start
 begun c = entry (outer (c .before))
 
 abbrev first : tie.After-append-part-arg2 → tie.After-append-part
 first c = c .before .before .before
-
-abbrev rest : tie.After-slice-known5 → tie.After-append-part2
-rest c = c .before .before
 
 -- How many bytes there are at each of them
 
