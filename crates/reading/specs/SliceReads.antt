@@ -58,17 +58,17 @@ pub record ReadsSlice (types : List ℕ) (at : ℕ) (file : List ℕ) (answer : 
   pub each : (t : Ty) → TypeAt types at t → answer ≡ slice-read t (slice-file t file)
 
 -- A prefix stands at a place of some bytes; what stands behind it is free.
-pub record PrefixAt (bytes : List ℕ) (at : ℕ) (p : Prefix) : Type 0 where
+pub record PrefixAt (bytes : List ℕ) (place : ℕ) (p : Prefix) : Type 0 where
   pub rest : List ℕ
-  pub here : drop at bytes ≡ prefix-bytes p rest
+  pub here : drop place bytes ≡ prefix-bytes p rest
 
-pub record SomePrefixAt (bytes : List ℕ) (at : ℕ) : Type 0 where
+pub record SomePrefixAt (bytes : List ℕ) (place : ℕ) : Type 0 where
   pub prefix : Prefix
-  pub stands : PrefixAt bytes at prefix
+  pub stands : PrefixAt bytes place prefix
 
--- `end` is where the prefix at `at` ends, whichever it is.
-pub record PrefixEnds (bytes : List ℕ) (at end : ℕ) : Type 0 where
-  pub each : (p : Prefix) → PrefixAt bytes at p → end ≡ at + prefix-width p
+-- `end` is where the prefix at `place` ends, whichever it is.
+pub record PrefixEnds (bytes : List ℕ) (place end : ℕ) : Type 0 where
+  pub each : (p : Prefix) → PrefixAt bytes place p → end ≡ place + prefix-width p
 
 -- A type stands from `at` to `end`; `wide` is how many bytes each of its complete prefixes has. A complete prefix of it stands
 -- at `place`; `behind` is where that ends.

@@ -124,46 +124,46 @@ kind-first (crossed b q) r = refl
 kind-first (beside p q) r = refl
 
 -- Some bytes further on.
-hop : (bytes : List ℕ) (at n : ℕ) {x r : List ℕ} {end : ℕ} → drop at bytes ≡ x → drop n x ≡ r → end ≡ at + n → drop end bytes ≡ r
-hop bytes at n h g e = rw (e, ← drop-drop, h) g
+hop : (bytes : List ℕ) (place n : ℕ) {x r : List ℕ} {end : ℕ} → drop place bytes ≡ x → drop n x ≡ r → end ≡ place + n → drop end bytes ≡ r
+hop bytes place n h g e = rw (e, ← drop-drop, h) g
 
-behind-kind : (bytes : List ℕ) (at : ℕ) {k : ℕ} {r : List ℕ} → drop at bytes ≡ k ∷ r → drop (at + 1) bytes ≡ r
-behind-kind bytes at h = hop bytes at 1 h refl refl
+behind-kind : (bytes : List ℕ) (place : ℕ) {k : ℕ} {r : List ℕ} → drop place bytes ≡ k ∷ r → drop (place + 1) bytes ≡ r
+behind-kind bytes place h = hop bytes place 1 h refl refl
 
-module _ {bytes : List ℕ} {at : ℕ} where
-  pub prefix-inside : {p : Prefix} → PrefixAt bytes at p → at + prefix-width p ≤ length bytes
+module _ {bytes : List ℕ} {place : ℕ} where
+  pub prefix-inside : {p : Prefix} → PrefixAt bytes place p → place + prefix-width p ≤ length bytes
   prefix-inside {p} s =
-      omega (arith, width-positive p, prefix-bytes-length p (s .rest), ap length (s .here), length-drop at bytes)
+      omega (arith, width-positive p, prefix-bytes-length p (s .rest), ap length (s .here), length-drop place bytes)
 
-  pub kind-at : {p : Prefix} → PrefixAt bytes at p → getD bytes at 0 ≡ prefix-kind p
+  pub kind-at : {p : Prefix} → PrefixAt bytes place p → getD bytes place 0 ≡ prefix-kind p
   kind-at {p} s =
-      ap (λ n. getD bytes n 0) (sym (add-zero at)) ∙ sym (getD-drop at bytes 0 0) ∙ ap (λ l. getD l 0 0) (s .here)
+      ap (λ n. getD bytes n 0) (sym (add-zero place)) ∙ sym (getD-drop place bytes 0 0) ∙ ap (λ l. getD l 0 0) (s .here)
       ∙ kind-first p (s .rest)
 
-  pub prefix-taken : {p : Prefix} (n : ℕ) → PrefixAt bytes at p → n ≡ prefix-width p → take n (drop at bytes) ≡ prefix-bytes p []
+  pub prefix-taken : {p : Prefix} (n : ℕ) → PrefixAt bytes place p → n ≡ prefix-width p → take n (drop place bytes) ≡ prefix-bytes p []
   prefix-taken {p} n s e =
       ap (take n) (s .here ∙ prefix-before p (s .rest)) ∙ take-at (prefix-bytes p []) (s .rest) n (omega (arith, prefix-bytes-length p []))
 
   -- The first part stands behind the kind, the second behind the first.
 
-  pub in-first-at : {p : Prefix} → PrefixAt bytes at (in-first p) → PrefixAt bytes (at + 1) p
+  pub in-first-at : {p : Prefix} → PrefixAt bytes place (in-first p) → PrefixAt bytes (place + 1) p
   unfolding prefix-bytes
-  in-first-at s = record { rest = s .rest; here = behind-kind bytes at (s .here) }
+  in-first-at s = record { rest = s .rest; here = behind-kind bytes place (s .here) }
 
-  pub crossed-first-at : {b q : Prefix} → PrefixAt bytes at (crossed b q) → PrefixAt bytes (at + 1) b
+  pub crossed-first-at : {b q : Prefix} → PrefixAt bytes place (crossed b q) → PrefixAt bytes (place + 1) b
   unfolding prefix-bytes
-  crossed-first-at {q = q} s = record { rest = prefix-bytes q (s .rest); here = behind-kind bytes at (s .here) }
+  crossed-first-at {q = q} s = record { rest = prefix-bytes q (s .rest); here = behind-kind bytes place (s .here) }
 
-  pub crossed-second-at : {b q : Prefix} {end : ℕ} → PrefixAt bytes at (crossed b q) → end ≡ at + 1 + prefix-width b → PrefixAt bytes end q
+  pub crossed-second-at : {b q : Prefix} {end : ℕ} → PrefixAt bytes place (crossed b q) → end ≡ place + 1 + prefix-width b → PrefixAt bytes end q
   unfolding prefix-bytes
   crossed-second-at {b} {q} s e =
-      record { rest = s .rest; here = hop bytes (at + 1) (prefix-width b) (behind-kind bytes at (s .here)) (behind-prefix b (prefix-bytes q (s .rest))) e }
+      record { rest = s .rest; here = hop bytes (place + 1) (prefix-width b) (behind-kind bytes place (s .here)) (behind-prefix b (prefix-bytes q (s .rest))) e }
 
-  pub beside-first-at : {p q : Prefix} → PrefixAt bytes at (beside p q) → PrefixAt bytes (at + 1) p
+  pub beside-first-at : {p q : Prefix} → PrefixAt bytes place (beside p q) → PrefixAt bytes (place + 1) p
   unfolding prefix-bytes
-  beside-first-at {q = q} s = record { rest = prefix-bytes q (s .rest); here = behind-kind bytes at (s .here) }
+  beside-first-at {q = q} s = record { rest = prefix-bytes q (s .rest); here = behind-kind bytes place (s .here) }
 
-  pub beside-second-at : {p q : Prefix} {end : ℕ} → PrefixAt bytes at (beside p q) → end ≡ at + 1 + prefix-width p → PrefixAt bytes end q
+  pub beside-second-at : {p q : Prefix} {end : ℕ} → PrefixAt bytes place (beside p q) → end ≡ place + 1 + prefix-width p → PrefixAt bytes end q
   unfolding prefix-bytes
   beside-second-at {p} {q} s e =
-      record { rest = s .rest; here = hop bytes (at + 1) (prefix-width p) (behind-kind bytes at (s .here)) (behind-prefix p (prefix-bytes q (s .rest))) e }
+      record { rest = s .rest; here = hop bytes (place + 1) (prefix-width p) (behind-kind bytes place (s .here)) (behind-prefix p (prefix-bytes q (s .rest))) e }

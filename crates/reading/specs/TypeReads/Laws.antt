@@ -79,14 +79,6 @@ forked (par s t) r h = (refl, refl)
 pub fork-size : (t : Ty) → 3 ≤ kind t → size t ≡ suc (size (first-part t) + size (second-part t))
 fork-size t h = forked t [] h .1
 
-pub leaf-size : (t : Ty) → kind t < 3 → size t ≡ 1
-unfolding size
-leaf-size empty h = refl
-leaf-size cue h = refl
-leaf-size level h = refl
-leaf-size (seq s t) h = absurd (omega arith)
-leaf-size (par s t) h = absurd (omega arith)
-
 module _ {bytes : List ℕ} {at : ℕ} {t : Ty} (stands : TypeAt bytes at t) where
   pub ends-inside : at + size t ≤ length bytes
   ends-inside =
