@@ -294,17 +294,20 @@ pub fn write_empty(types: &[u8], at: usize, out: &mut [u8]) -> usize
             next = skip_type(types, next);
         } else {
             let kind = types[next];
-            out[written] = empty_kind(kind);
-            written += 1;
             let parts = empty_parts(kind);
             if 0 < parts {
+                out[written] = empty_kind(kind);
+                written += 1;
                 // The first part is written, and the second if the empty prefix has it.
                 owed[depth] = parts - 1;
                 owed[depth + 1] = 1;
                 depth += 2;
                 next += 1;
             } else {
+                // The type is passed before the byte is written, so that its kind is read once.
                 next = skip_type(types, next);
+                out[written] = empty_kind(kind);
+                written += 1;
             }
         }
     }

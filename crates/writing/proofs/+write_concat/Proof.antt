@@ -5,8 +5,9 @@ use borrow.Fn.Kinds.{In}
 use borrow.Fn.PlainCycle.{Measures, is, falls, and}
 use native.Mathlib.Omega.{arith}
 use mathlib.Core.Path.{refl}
-use Prim.Native.Nat.{ℕ, _-_, _<_}
-use lib.ListN.{length, length-set}
+use Prim.Native.Nat.{ℕ, _+_, _-_, _≤_, _<_}
+use lib.ListN.{length, getD, set, length-set}
+use Rattle.writing.specs.Writing.Laws.{back}
 use Rattle.writing.proofs.JoiningLeaf.{leaf-due, unlisted}
 use Rattle.writing.proofs.JoiningParts.{inside, settled, joins-first, started, coming-written, crossing-due, crossing-written, aside-due, aside-written, copies-first, copied, behind-due, behind-written}
 use Rattle.writing.proofs.write_concat.Reads as write-concat
@@ -115,6 +116,47 @@ module _ (t : ℕ) where
   abbrev leaf-call : lts.After-slice-known8 calls here write-concat.Post → lts.After-write-leaf-concat calls here write-concat.Post
   leaf-call c = c .before .before
 
+  -- Behind a first piece there is room for the next.
+
+  coming-within : (c : Coming)
+      → (let start = entry (coming-kind c .before) in
+      let out = start .args .out .now in
+      let kind = getD (start .args .second .now) (start .args .second-place) 0 in
+      (1 + c .write-concat .result .written ≤ length out)
+      × (1 + c .write-concat .result .written ≤ length (back 1 (set out 0 kind) (c .write-concat .last .1 .1 .1 .1 .0))))
+  coming-within c =
+      let kind = coming-kind c in
+      let begun =
+      started _ _ _ _ _ _ (c .write-concat .ensures) (entry (kind .before) .pre .1) (rw (kind .match .keys1) (omega arith))
+      (λ six. omega (arith, kind .match .keys1)) in
+      (begun .within, omega (arith, begun .within, begun .kept))
+
+  aside-within : (c : Aside)
+      → (let out = entry (aside-kind c .before) .args .out .now in
+      (1 + c .write-concat3 .result .written ≤ length out)
+      × (1 + c .write-concat3 .result .written ≤ length (back 1 (set out 0 7) (c .write-concat3 .last .1 .1 .1 .1 .0))))
+  aside-within c =
+      let kind = aside-kind c in
+      let begun =
+      started _ _ _ _ _ _ (c .write-concat3 .ensures) (entry (kind .before) .pre .1) (rw (kind .match .keys3) (omega arith))
+      (λ six. omega (arith, kind .match .keys3)) in
+      (begun .within, omega (arith, begun .within, begun .kept))
+
+  -- With what the second prefix has of the second part copied, both sums are within the bytes that there are.
+  crossing-sums : (c : lts.After-copy-prefix calls here write-concat.Post)
+      → (let start = entry (coming-kind (crossing-part (crossing-begun c)) .before) in
+      let part = crossing-part (crossing-begun c) .write-concat .result in
+      (part .second + c .copy-prefix .result ≤ length (start .args .second .now))
+      × (1 + part .written + c .copy-prefix .result ≤ length (start .args .out .now)))
+  crossing-sums c =
+      let first = crossing-part (crossing-begun c) in
+      let kind = coming-kind first in
+      let all =
+      settled _ _ _ _ _ (entry (kind .before) .pre .1)
+      (crossing-written _ _ _ _ _ _ (first .write-concat .ensures) refl (kind .match .keys1) (crossing-begun c .before .if1 .left)
+      (c .copy-prefix .ensures)) in
+      (all .second-inside, all .within)
+
   shared-slice-read-match : lts.Need-shared-slice-read-match calls here write-concat.Post
   shared-slice-read-match c = omega (arith, inside _ _ _ _ _ (entry c .pre .1))
 
@@ -174,26 +216,10 @@ module _ (t : ℕ) where
   -- The second prefix brings the crossing.
 
   add-written : lts.Need-add-written calls here write-concat.Post
-  add-written c =
-      let first = crossing-part c in
-      let kind = coming-kind first in
-      omega (
-        arith,
-        entry (kind .before) .good,
-        started _ _ _ _ _ _ (first .write-concat .ensures) (entry (kind .before) .pre .1) (rw (kind .match .keys1) (omega arith))
-            (λ six. omega (arith, kind .match .keys1)),
-      )
+  add-written c = omega (arith, entry (coming-kind (crossing-part c) .before) .good, coming-within (crossing-part c) .0)
 
   sub-copy-prefix : lts.Need-sub-copy-prefix calls here write-concat.Post
-  sub-copy-prefix c =
-      let first = crossing-part c in
-      let kind = coming-kind first in
-      omega (
-        arith,
-        entry (kind .before) .good,
-        started _ _ _ _ _ _ (first .write-concat .ensures) (entry (kind .before) .pre .1) (rw (kind .match .keys1) (omega arith))
-            (λ six. omega (arith, kind .match .keys1)),
-      )
+  sub-copy-prefix c = coming-within (crossing-part c) .1
 
   part-copy-prefix-start : lts.Need-part-copy-prefix-start calls here write-concat.Post
   part-copy-prefix-start c = sub-copy-prefix c
@@ -208,30 +234,12 @@ module _ (t : ℕ) where
       crossing-due _ _ _ _ _ _ (first .write-concat .ensures) refl (kind .match .keys1) (c .before .before .if1 .left) (entry (kind .before) .pre .1)
 
   add-new : lts.Need-add-new calls here write-concat.Post
-  add-new c =
-      let begun = crossing-begun (crossing-copied c) in
-      let first = crossing-part begun in
-      let kind = coming-kind first in
-      omega (
-        arith,
-        entry (kind .before) .good,
-        settled _ _ _ _ _ (entry (kind .before) .pre .1)
-            (crossing-written _ _ _ _ _ _ (first .write-concat .ensures) refl (kind .match .keys1) (begun .before .if1 .left)
-            (crossing-copied c .copy-prefix .ensures)),
-      )
+  add-new c = omega (arith, crossing-sums (crossing-copied c) .0)
 
   add-new-2 : lts.Need-add-new-2 calls here write-concat.Post
   add-new-2 c =
-      let begun = crossing-begun (crossing-copied c) in
-      let first = crossing-part begun in
-      let kind = coming-kind first in
-      omega (
-        arith,
-        entry (kind .before) .good,
-        settled _ _ _ _ _ (entry (kind .before) .pre .1)
-            (crossing-written _ _ _ _ _ _ (first .write-concat .ensures) refl (kind .match .keys1) (begun .before .if1 .left)
-            (crossing-copied c .copy-prefix .ensures)),
-      )
+      let copy = crossing-copied c in
+      omega (arith, entry (coming-kind (crossing-part (crossing-begun copy)) .before) .good, crossing-sums copy .1)
 
   new-requires : lts.Need-new-requires calls here write-concat.Post
   new-requires c κs = search needs
@@ -361,26 +369,10 @@ module _ (t : ℕ) where
       )
 
   add-written-3 : lts.Need-add-written-3 calls here write-concat.Post
-  add-written-3 c =
-      let first = aside-part c in
-      let kind = aside-kind first in
-      omega (
-        arith,
-        entry (kind .before) .good,
-        started _ _ _ _ _ _ (first .write-concat3 .ensures) (entry (kind .before) .pre .1) (rw (kind .match .keys3) (omega arith))
-            (λ six. omega (arith, kind .match .keys3)),
-      )
+  add-written-3 c = omega (arith, entry (aside-kind (aside-part c) .before) .good, aside-within (aside-part c) .0)
 
   sub-write-concat-4 : lts.Need-sub-write-concat-4 calls here write-concat.Post
-  sub-write-concat-4 c =
-      let first = aside-part c in
-      let kind = aside-kind first in
-      omega (
-        arith,
-        entry (kind .before) .good,
-        started _ _ _ _ _ _ (first .write-concat3 .ensures) (entry (kind .before) .pre .1) (rw (kind .match .keys3) (omega arith))
-            (λ six. omega (arith, kind .match .keys3)),
-      )
+  sub-write-concat-4 c = aside-within (aside-part c) .1
 
   part-write-concat-start-4 : lts.Need-part-write-concat-start-4 calls here write-concat.Post
   part-write-concat-start-4 c = sub-write-concat-4 c

@@ -1,6 +1,5 @@
 -- `write_derivative` meets its contract: each kind with parts writes its own byte, and then on the part of the buffer behind it
 -- what is left of its parts (`Derivative`); every call is at a later place of the type.
-use mathlib.Core.Path.{_≡_}
 use Prim.Native.Nat.{ℕ, _+_, _-_, _≤_, _<_}
 use native.Mathlib.Omega.{arith}
 use borrow.Author.Needs.{needs}
@@ -137,6 +136,20 @@ module _ (t : ℕ) where
   shared-slice-read-match : lts.Need-shared-slice-read-match calls here write-derivative.Post
   shared-slice-read-match c = entered c .prefix-inside
 
+  -- With the second part copied, both sums are within the bytes that there are.
+  coming-sums : (c : lts.After-copy-type calls here write-derivative.Post)
+      → (let start = entry (coming-kind (copied-part c) .before) in
+      let part = copied-part c .write-derivative .result in
+      (part .first + c .copy-type .result ≤ length (start .args .types .now))
+      × (1 + part .written + c .copy-type .result ≤ length (start .args .out .now)))
+  coming-sums c =
+      let first = copied-part c in
+      let kind = coming-kind first in
+      let all =
+      settled _ _ _ _ _ (entry (kind .before) .pre .1)
+      (coming-written _ _ _ _ _ (kind .match .keys1) (first .write-derivative .ensures) (c .copy-type .ensures)) in
+      (all .type-inside, all .within)
+
   -- A first part that is still coming.
 
   slice-write-out : lts.Need-slice-write-out calls here write-derivative.Post
@@ -181,26 +194,10 @@ module _ (t : ℕ) where
       coming-second _ _ _ _ _ (coming-kind first .match .keys1) (first .write-derivative .ensures) (entry (coming-kind first .before) .pre .1)
 
   add-new : lts.Need-add-new calls here write-derivative.Post
-  add-new c =
-      let first = copied-part (coming-copied c) in
-      let kind = coming-kind first in
-      omega (
-        arith,
-        entry (kind .before) .good,
-        settled _ _ _ _ _ (entry (kind .before) .pre .1)
-            (coming-written _ _ _ _ _ (kind .match .keys1) (first .write-derivative .ensures) (coming-copied c .copy-type .ensures)),
-      )
+  add-new c = omega (arith, coming-sums (coming-copied c) .0)
 
   add-new-2 : lts.Need-add-new-2 calls here write-derivative.Post
-  add-new-2 c =
-      let first = copied-part (coming-copied c) in
-      let kind = coming-kind first in
-      omega (
-        arith,
-        entry (kind .before) .good,
-        settled _ _ _ _ _ (entry (kind .before) .pre .1)
-            (coming-written _ _ _ _ _ (kind .match .keys1) (first .write-derivative .ensures) (coming-copied c .copy-type .ensures)),
-      )
+  add-new-2 c = omega (arith, entry (coming-kind (copied-part (coming-copied c)) .before) .good, coming-sums (coming-copied c) .1)
 
   new-requires : lts.Need-new-requires calls here write-derivative.Post
   new-requires c κs = search needs
