@@ -6,4 +6,3 @@ pub mod FeedingBoth
 pub mod FeedingParts
 pub mod FeedingThen
 pub mod FeedingChain
-pub mod PatchLeft

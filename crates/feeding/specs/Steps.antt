@@ -8,17 +8,15 @@ use lib.Dec.{eqb}
 use lib.ListN.{length, getD}
 use Rattle.stream.specs.Types.{Ty, seq, par, size}
 use Rattle.stream.specs.Reading.{read, fault}
-use Rattle.stream.specs.Prefixes.{Prefix, crossed, beside, IsPrefix, derivative}
-use Rattle.stream.specs.Buffers.{at-front}
+use Rattle.stream.specs.Prefixes.{Prefix, crossed, beside, IsPrefix}
 use Rattle.stream.specs.TypeFiles.{type-bytes}
 use Rattle.stream.specs.SliceFiles.{prefix-bytes}
 use Rattle.reading.specs.TypeReads.{TypeAt}
 use Rattle.reading.specs.SliceReads.{PrefixAt, prefix-width}
-use Rattle.writing.specs.Writing.{LeftFileDue}
-use Rattle.node.specs.Nodes.{Node, both, second, Takes, count, node-limit, patch-of, Few}
+use Rattle.node.specs.Nodes.{Node, both, second, Takes, count, node-limit, Few}
 use Rattle.node.specs.Nodes.Functions.{output-type, Fits}
 use Rattle.node.specs.Feeding.Functions.{sends, leaves}
-use Rattle.node.specs.PatchFiles.{node-bytes, read-node, patch-file-bytes}
+use Rattle.node.specs.PatchFiles.{node-bytes, read-node}
 use Rattle.patch_reading.specs.PatchReads.{node-arity, node-width, NodeAt}
 use Rattle.leaf_feeding.specs.declared.Sent.{Sent}
 use Rattle.leaf_feeding.specs.Sending.{LeafDue}
@@ -150,15 +148,3 @@ pub record FeedsParts (kind : ℕ) (types : List ℕ) (first second : ℕ) (node
       (parts-left kind (leaves (due .first-type) (due .first-node) (due .first-prefix)) (leaves (due .second-type) (due .second-node) (due .second-prefix)))
       (parts-given kind (output-type (due .first-type) (due .first-node)) (output-type (due .second-type) (due .second-node)))
       out remainder given out-after remainder-after given-after step
-
--- The file of a patch left: its input type is what the slice file's prefix leaves of the type at `at`, its nodes are all of `nodes`.
-pub record PatchLeftDue (types : List ℕ) (at : ℕ) (slice : List ℕ) (remains : ℕ) (nodes lent : List ℕ) : Type 0 where
-  pub type-due : LeftFileDue types at slice remains lent
-  pub node : Node
-  pub here : nodes ≡ node-bytes node []
-  pub countable : length nodes ≤ 65535
-  pub room : 2 + remains + 2 + length nodes ≤ length lent
-
-pub record PatchLeftWritten (types : List ℕ) (at : ℕ) (slice : List ℕ) (remains : ℕ) (nodes lent lent-after : List ℕ) : Type 0 where
-  pub each : (due : PatchLeftDue types at slice remains nodes lent)
-      → lent-after ≡ at-front (patch-file-bytes (patch-of (derivative (due .type-due .type) (due .type-due .prefix)) (due .node))) lent

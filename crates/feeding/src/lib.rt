@@ -22,11 +22,9 @@ use typing::give_type;
 use typing::type_leaf;
 use typing::type_node;
 use writing::copy;
-use writing::write_left_file;
-use writing::write_section;
 ghost use mathlib.Core.Path.{_≡_};
 ghost use lib.ListN.{getD};
-ghost use Rattle.feeding.specs.Steps.{FeedDue, FeedsNode, GiveDue, GivesLeaf, BehindDue, FeedsBehind, FeedPartsDue, FeedsParts, PatchLeftDue, PatchLeftWritten};
+ghost use Rattle.feeding.specs.Steps.{FeedDue, FeedsNode, GiveDue, GivesLeaf, BehindDue, FeedsBehind, FeedPartsDue, FeedsParts};
 
 // How a feed leaves a node: where the node ends, how many bytes it sends, how many the node left has, and how many nodes the type
 // that it gives.
@@ -330,22 +328,4 @@ fn feed_chain(
         given,
     );
     Step::new(rest.end, rest.sent, kept + rest.kept, rest.size)
-}
-
-// Writes the file of the patch left: what the slice file's prefix leaves of the type at `at`, a type of `remains` nodes, and then the
-// nodes, which are all of `nodes`.
-pub fn write_patch_left(
-    types: &[u8],
-    at: usize,
-    slice: &[u8],
-    remains: usize,
-    nodes: &[u8],
-    out: &mut [u8],
-)
-    requires { ⌜ PatchLeftDue (now types) at (now slice) remains (now nodes) (now out) ⌝ }
-    ensures { λ _. ⌜ PatchLeftWritten (now (types .entry)) at (now (slice .entry)) remains (now (nodes .entry)) (now (out .entry)) (now (out .exit)) ⌝ }
-{
-    write_left_file(types, at, slice, remains, out);
-    let written = 2 + remains;
-    write_section(nodes, &mut out[written..]);
 }

@@ -33,11 +33,12 @@ use Rattle.patch_reading.specs.declared.PatchPlace.{PatchPlace}
 use Rattle.patch_reading.specs.PatchReads.Laws.{ends-inside, count-within}
 use Rattle.patch_reading.specs.PatchReads.{AcceptedPatch}
 use Rattle.feeding.specs.declared.Step.{Step}
-use Rattle.feeding.specs.Steps.{Feedable, FeedDue, Steps, PatchLeftDue}
+use Rattle.feeding.specs.Steps.{Feedable, FeedDue, Steps}
 use Rattle.feeding.specs.Steps.Laws.{leads-inside, leads-taken, left-width}
 use Rattle.meaning.specs.Answers.{FedFiles, feed, with-room, fed as told, after, fed-files}
 use Rattle.meaning.specs.Promises.{FeedPromise}
 use Rattle.wosthile.specs.FeedReads.{FeedRead}
+use Rattle.wosthile.specs.PatchLeft.{PatchLeftDue}
 use Rattle.stream.specs.Bounds.{slice-limit, slice-file-limit, twice-node-bytes, node-bytes-limit}
 
 -- How the answers of Feed keep its promise.

@@ -2,3 +2,4 @@ mod CheckOutcome
 mod FeedOutcome
 pub mod Keeping
 pub mod Opening
+mod PatchLeft

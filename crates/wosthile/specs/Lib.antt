@@ -1,1 +1,2 @@
 pub mod FeedReads
+pub mod PatchLeft

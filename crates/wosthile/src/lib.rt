@@ -1,7 +1,6 @@
 // The operations on files, for the frame loop: any bytes may be handed to them. What each promises stands in
 // Promises.antt of the crate `meaning`; `exports` has their names for C.
 use feeding::feed_node;
-use feeding::write_patch_left;
 use meaning::Admitted;
 use meaning::Fed;
 use meaning::Written;
@@ -25,6 +24,7 @@ ghost use mathlib.Core.Path.{_≡_};
 ghost use Rattle.stream.specs.Faults.{number};
 ghost use Rattle.meaning.specs.Promises.{CheckPromise, AdmitPromise, LeftPromise, JoinPromise, FeedPromise};
 ghost use Rattle.wosthile.specs.FeedReads.{FeedRead, SendDue};
+ghost use Rattle.wosthile.specs.PatchLeft.{PatchLeftDue, PatchLeftWritten};
 
 pub mod exports;
 
@@ -157,6 +157,24 @@ fn refuse_feed(fault: Fault) -> Fed
         output: 0,
         patch: 0,
     }
+}
+
+// Writes the file of the patch left: what the slice file's prefix leaves of the type at `at`, a type of `remains` nodes, and then the
+// nodes, which are all of `nodes`.
+fn write_patch_left(
+    types: &[u8],
+    at: usize,
+    slice: &[u8],
+    remains: usize,
+    nodes: &[u8],
+    out: &mut [u8],
+)
+    requires { ⌜ PatchLeftDue (now types) at (now slice) remains (now nodes) (now out) ⌝ }
+    ensures { λ _. ⌜ PatchLeftWritten (now (types .entry)) at (now (slice .entry)) remains (now (nodes .entry)) (now (out .entry)) (now (out .exit)) ⌝ }
+{
+    write_left_file(types, at, slice, remains, out);
+    let written = 2 + remains;
+    write_section(nodes, &mut out[written..]);
 }
 
 // Feeds a slice that was read to a patch that was read; the slice leaves a type of `remains` nodes. The answers are made on work

@@ -1,9 +1,13 @@
 -- `write_patch_left` meets its contract: the file of the type left is the first section of the patch file, and the section with
 -- the nodes follows on the part behind it.
 use borrow.Author.Needs.{needs}
-use Rattle.feeding.proofs.PatchLeft.{patch-left-written}
-use Rattle.feeding.proofs.write_patch_left.Statement.{statement}
-use Rattle.feeding.proofs.write_patch_left.Tie as tie
+use Rattle.wosthile.proofs.PatchLeft.{patch-left-written}
+use Rattle.wosthile.proofs.write_patch_left.Statement.{statement}
+use Rattle.wosthile.proofs.write_patch_left.Tie as tie
+
+-- The place: from where the section has been written, where the type's file has been.
+abbrev left-file : tie.After-write-section → tie.After-write-left-file
+left-file c = c .before .before .before .before
 
 write-left-file-requires : tie.Need-write-left-file-requires
 write-left-file-requires c κs = search needs
@@ -27,9 +31,7 @@ same-length : tie.Need-same-length
 same-length c = search needs
 
 returns : tie.Need-returns
-returns c =
-    let left-file = c .before .before .before .before .before .before in
-    patch-left-written _ _ _ _ _ _ (left-file .write-left-file .ensures) (c .before .before .write-section .ensures)
+returns c = patch-left-written _ _ _ _ _ _ (left-file (c .before .before) .write-left-file .ensures) (c .before .before .write-section .ensures)
 
 pub write-patch-left-spec : {M : Type 1} → statement M
 write-patch-left-spec =

@@ -13,7 +13,7 @@ use Rattle.node.specs.PatchFiles.{node-bytes, patch-file-bytes}
 use Rattle.writing.specs.Writing.{LeftFileWritten, Begun}
 use Rattle.writing.specs.Writing.Laws.{part, back, goes-on}
 use Rattle.writing.specs.Writing.Standing.{type-file-size}
-use Rattle.feeding.specs.Steps.{PatchLeftDue, PatchLeftWritten}
+use Rattle.wosthile.specs.PatchLeft.{PatchLeftDue, PatchLeftWritten}
 
 -- A patch file is its input type's file and then a section with its nodes.
 patch-file-parts : (s : Ty) (n : Node) → type-file-bytes s ++ section-bytes (node-bytes n []) [] ≡ patch-file-bytes (patch-of s n)
