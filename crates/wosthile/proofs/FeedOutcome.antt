@@ -8,7 +8,6 @@ use lib.Seq.{length-take-le}
 use borrow.Author.Tests.{le-leb, lt-leb}
 use Rattle.stream.specs.declared.Fault.{Fault}
 use Rattle.stream.specs.declared.Fault.the-variants.{NoRoom}
-use Rattle.stream.specs.Faults.{number}
 use Rattle.stream.specs.Types.{Ty, size}
 use Rattle.stream.specs.Types.Laws.{limit-is}
 use Rattle.stream.specs.Prefixes.{Prefix, derivative}
@@ -44,19 +43,19 @@ use Rattle.stream.specs.Bounds.{slice-limit, slice-file-limit, twice-node-bytes
 -- How the answers of Feed keep its promise.
 module _ (output patch-lent : List ℕ) {patch slice : List ℕ} where
   pub refused-keeps : (e : Fault) → feed patch slice ≡ refused e
-      → FeedPromise patch slice output patch-lent (record { number = number e; output = 0; patch = 0 }) output patch-lent
+      → FeedPromise patch slice output patch-lent (told (refused e)) output patch-lent
   unfolding with-room told after
   refused-keeps e h = record { answers = rw h; output-buffer = rw h; patch-buffer = rw h }
 
   module _ (files : FedFiles) (h : feed patch slice ≡ accepted files) where
     pub output-short : length output < length (files .output)
-        → FeedPromise patch slice output patch-lent (record { number = number NoRoom; output = 0; patch = 0 }) output patch-lent
+        → FeedPromise patch slice output patch-lent (told (refused NoRoom)) output patch-lent
     unfolding with-room told after
     output-short s =
         record { answers = rw (h, lt-leb _ _ s); output-buffer = rw (h, lt-leb _ _ s); patch-buffer = rw (h, lt-leb _ _ s) }
 
     pub patch-short : length (files .output) ≤ length output → length patch-lent < length (files .patch)
-        → FeedPromise patch slice output patch-lent (record { number = number NoRoom; output = 0; patch = 0 }) output patch-lent
+        → FeedPromise patch slice output patch-lent (told (refused NoRoom)) output patch-lent
     unfolding with-room told after
     patch-short r s =
         record {

@@ -9,7 +9,6 @@ use borrow.Author.Tests.{le-leb, lt-leb}
 use mir.Val.{boolByte}
 use Rattle.stream.specs.declared.Fault.{Fault}
 use Rattle.stream.specs.declared.Fault.the-variants.{NoRoom}
-use Rattle.stream.specs.Faults.{number}
 use Rattle.stream.specs.Reading.{Result, accepted, refused}
 use Rattle.stream.specs.Buffers.{at-front}
 use Rattle.meaning.specs.Answers.{with-room, after, written, admitted, as-number}
@@ -17,12 +16,12 @@ use Rattle.meaning.specs.Promises.{Writes, Admits}
 
 module _ (lent : List ℕ) where
   pub refusal-keeps : {outcome : Result (List ℕ)} (e : Fault) → outcome ≡ refused e
-      → Writes outcome lent (record { number = number e; written = 0 }) lent
+      → Writes outcome lent (written (refused e)) lent
   unfolding with-room written after
   refusal-keeps e h = record { answers = rw h; buffer = rw h }
 
   pub shortage-keeps : {outcome : Result (List ℕ)} (file : List ℕ) → outcome ≡ accepted file → length lent < length file
-      → Writes outcome lent (record { number = number NoRoom; written = 0 }) lent
+      → Writes outcome lent (written (refused NoRoom)) lent
   unfolding with-room written after
   shortage-keeps file h short = record { answers = rw (h, lt-leb _ _ short); buffer = rw (h, lt-leb _ _ short) }
 
@@ -32,7 +31,7 @@ module _ (lent : List ℕ) where
   unfolding with-room written after
   file-keeps file h room n s = record { answers = rw (h, le-leb _ _ room, n); buffer = rw (h, le-leb _ _ room, s) }
 
-pub turned-down : {outcome : Result Bool} (e : Fault) → outcome ≡ refused e → Admits outcome (record { number = number e; complete = 0 })
+pub turned-down : {outcome : Result Bool} (e : Fault) → outcome ≡ refused e → Admits outcome (admitted (refused e))
 unfolding admitted
 turned-down e h = record { answers = rw h }
 

@@ -13,15 +13,12 @@ use reading::prefixes::read_slice_file;
 use reading::types::TypeRead;
 use reading::types::read_type_file;
 use stream::Fault;
-use stream::number_of;
 use typing::Typed;
 use typing::type_node;
 use writing::write_derivative;
 use writing::write_joined_file;
 use writing::write_left_file;
 use writing::write_section;
-ghost use mathlib.Core.Path.{_≡_};
-ghost use Rattle.stream.specs.Faults.{number};
 ghost use Rattle.meaning.specs.Promises.{CheckPromise, AdmitPromise, LeftPromise, JoinPromise, FeedPromise};
 ghost use Rattle.wosthile.specs.FeedReads.{FeedRead, SendDue};
 ghost use Rattle.wosthile.specs.PatchLeft.{PatchLeftDue, PatchLeftWritten};
@@ -31,40 +28,20 @@ pub mod exports;
 // "Accepted is 0."
 const ACCEPTED: u32 = 0;
 
-// A call that writes nothing, and why.
-fn refuse(fault: Fault) -> Written
-    ensures { λ r. ⌜ r ≡ record { number = number fault; written = 0 } ⌝ }
-{
-    Written {
-        number: number_of(fault),
-        written: 0,
-    }
-}
-
-// A slice that is not admitted, and why.
-fn turn_down(fault: Fault) -> Admitted
-    ensures { λ r. ⌜ r ≡ record { number = number fault; complete = 0 } ⌝ }
-{
-    Admitted {
-        number: number_of(fault),
-        complete: 0,
-    }
-}
-
 // The file of the type that the patch gives.
 pub fn check(patch: &[u8], out: &mut [u8]) -> Written
     ensures { λ r. ⌜ CheckPromise (now (patch .entry)) (now (out .entry)) r (now (out .exit)) ⌝ }
 {
     match read_patch_file(patch) {
-        PatchRead::Refused(fault) => refuse(fault),
+        PatchRead::Refused(fault) => Written::refused(fault),
         PatchRead::Whole(place) => {
             let mut given = [0u8; 255];
             match type_node(patch, place.input.start, patch, place.nodes, &mut given) {
-                Typed::Failed(fault) => refuse(fault),
+                Typed::Failed(fault) => Written::refused(fault),
                 Typed::Gives(_, size) => {
                     let needed = 2 + size;
                     if out.len() < needed {
-                        return refuse(Fault::NoRoom);
+                        return Written::refused(Fault::NoRoom);
                     }
                     write_section(&given[..size], out);
                     Written {
@@ -82,9 +59,9 @@ pub fn admit(ty: &[u8], slice: &[u8]) -> Admitted
     ensures { λ r. ⌜ AdmitPromise (now (ty .entry)) (now (slice .entry)) r ⌝ }
 {
     match read_type_file(ty) {
-        TypeRead::Refused(fault) => turn_down(fault),
+        TypeRead::Refused(fault) => Admitted::refused(fault),
         TypeRead::Whole(place) => match read_slice_file(ty, place.start, slice) {
-            SliceRead::Refused(fault) => turn_down(fault),
+            SliceRead::Refused(fault) => Admitted::refused(fault),
             SliceRead::Whole(prefix) => Admitted {
                 number: ACCEPTED,
                 complete: prefix.complete as u32,
@@ -98,13 +75,13 @@ pub fn left(ty: &[u8], slice: &[u8], out: &mut [u8]) -> Written
     ensures { λ r. ⌜ LeftPromise (now (ty .entry)) (now (slice .entry)) (now (out .entry)) r (now (out .exit)) ⌝ }
 {
     match read_type_file(ty) {
-        TypeRead::Refused(fault) => refuse(fault),
+        TypeRead::Refused(fault) => Written::refused(fault),
         TypeRead::Whole(place) => match read_slice_file(ty, place.start, slice) {
-            SliceRead::Refused(fault) => refuse(fault),
+            SliceRead::Refused(fault) => Written::refused(fault),
             SliceRead::Whole(prefix) => {
                 let length = 2 + prefix.remains;
                 if out.len() < length {
-                    return refuse(Fault::NoRoom);
+                    return Written::refused(Fault::NoRoom);
                 }
                 write_left_file(ty, place.start, slice, prefix.remains, out);
                 Written {
@@ -122,19 +99,19 @@ pub fn join(ty: &[u8], first: &[u8], second: &[u8], out: &mut [u8]) -> Written
     ensures { λ r. ⌜ JoinPromise (now (ty .entry)) (now (first .entry)) (now (second .entry)) (now (out .entry)) r (now (out .exit)) ⌝ }
 {
     match read_type_file(ty) {
-        TypeRead::Refused(fault) => refuse(fault),
+        TypeRead::Refused(fault) => Written::refused(fault),
         TypeRead::Whole(place) => match read_slice_file(ty, place.start, first) {
-            SliceRead::Refused(fault) => refuse(fault),
+            SliceRead::Refused(fault) => Written::refused(fault),
             SliceRead::Whole(prefix) => {
                 let mut remainder = [0u8; 255];
                 write_derivative(ty, place.start, first, 2, &mut remainder);
                 let types: &[u8] = &remainder;
                 match read_slice_file(types, 0, second) {
-                    SliceRead::Refused(fault) => refuse(fault),
+                    SliceRead::Refused(fault) => Written::refused(fault),
                     SliceRead::Whole(_) => {
                         let joined = first.len() - 2 + (second.len() - 2) - prefix.overlap;
                         if out.len() < 2 + joined {
-                            return refuse(Fault::NoRoom);
+                            return Written::refused(Fault::NoRoom);
                         }
                         write_joined_file(first, second, joined, out);
                         Written {
@@ -145,17 +122,6 @@ pub fn join(ty: &[u8], first: &[u8], second: &[u8], out: &mut [u8]) -> Written
                 }
             }
         },
-    }
-}
-
-// A feed that writes nothing, and why.
-fn refuse_feed(fault: Fault) -> Fed
-    ensures { λ r. ⌜ r ≡ record { number = number fault; output = 0; patch = 0 } ⌝ }
-{
-    Fed {
-        number: number_of(fault),
-        output: 0,
-        patch: 0,
     }
 }
 
@@ -208,10 +174,10 @@ fn send(
     let output = 2 + step.sent;
     let needed = 2 + remains + 2 + step.kept;
     if out.len() < output {
-        return refuse_feed(Fault::NoRoom);
+        return Fed::refused(Fault::NoRoom);
     }
     if next.len() < needed {
-        return refuse_feed(Fault::NoRoom);
+        return Fed::refused(Fault::NoRoom);
     }
     write_section(&sent[..step.sent], out);
     write_patch_left(patch, start, slice, remains, &nodes[..step.kept], next);
@@ -248,13 +214,13 @@ pub fn feed(patch: &[u8], slice: &[u8], out: &mut [u8], next: &mut [u8]) -> Fed
     ensures { λ r. ⌜ FeedPromise (now (patch .entry)) (now (slice .entry)) (now (out .entry)) (now (next .entry)) r (now (out .exit)) (now (next .exit)) ⌝ }
 {
     match read_patch_file(patch) {
-        PatchRead::Refused(fault) => refuse_feed(fault),
+        PatchRead::Refused(fault) => Fed::refused(fault),
         PatchRead::Whole(place) => {
             let mut given = [0u8; 255];
             match type_node(patch, place.input.start, patch, place.nodes, &mut given) {
-                Typed::Failed(fault) => refuse_feed(fault),
+                Typed::Failed(fault) => Fed::refused(fault),
                 Typed::Gives(_, _) => match read_slice_file(patch, place.input.start, slice) {
-                    SliceRead::Refused(fault) => refuse_feed(fault),
+                    SliceRead::Refused(fault) => Fed::refused(fault),
                     SliceRead::Whole(prefix) => send_on(
                         patch,
                         place,

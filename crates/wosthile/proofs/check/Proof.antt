@@ -21,8 +21,8 @@ read-patch-file-requires c κs = search needs
 enum-known-fault : tie.Need-enum-known-fault
 enum-known-fault c = search needs
 
-refuse-requires : tie.Need-refuse-requires
-refuse-requires c κs = search needs
+refused-requires : tie.Need-refused-requires
+refused-requires c κs = search needs
 
 enum-known-place : tie.Need-enum-known-place
 enum-known-place c = search needs
@@ -50,8 +50,8 @@ type-node-requires c κs = due (c .before)
 enum-known-fault-2 : tie.Need-enum-known-fault-2
 enum-known-fault-2 c = search needs
 
-refuse-requires-2 : tie.Need-refuse-requires-2
-refuse-requires-2 c κs = search needs
+refused-requires-2 : tie.Need-refused-requires-2
+refused-requires-2 c κs = search needs
 
 enum-known-size : tie.Need-enum-known-size
 enum-known-size c = search needs
@@ -71,13 +71,13 @@ out-of c = c .before .before .before .before .before .before .before .before .be
 add-needed : tie.Need-add-needed
 add-needed c = omega (arith, type-of c .small)
 
-refuse-requires-3 : tie.Need-refuse-requires-3
-refuse-requires-3 c κs = search needs
+refused-requires-3 : tie.Need-refused-requires-3
+refused-requires-3 c κs = search needs
 
 returns : tie.Need-returns
 returns c =
     let t = type-of (c .before .before) in
-    rw (c .refuse3 .ensures) (shortage-keeps _ (type-file-bytes (t .output)) (t .is-typed) (omega (arith, t .long)))
+    rw (c .refused3 .ensures) (shortage-keeps _ (type-file-bytes (t .output)) (t .is-typed) (omega (arith, t .long)))
 
 array-share-prefix-given : tie.Need-array-share-prefix-given
 array-share-prefix-given c = type-of (c .before) .inside
@@ -92,13 +92,13 @@ returns-2 : tie.Need-returns-2
 returns-2 c =
     let read = c .before .before .before .before in
     let e = patch-refused (file-of read) (read .read-patch-file .ensures) _ (c .before .before .fault .given .1) in
-    rw (c .refuse .ensures) (refusal-keeps _ _ (not-read _ e))
+    rw (c .refused .ensures) (refusal-keeps _ _ (not-read _ e))
 
 returns-3 : tie.Need-returns-3
 returns-3 c =
     let typed = c .before .before .before .before .before in
     let patch = typed .before .before in
-    rw (c .refuse2 .ensures) (refusal-keeps _ _ (not-typed (patch-of patch) (typed .type-node .ensures .each (due patch)) (c .before .before .fault2 .given .1)))
+    rw (c .refused2 .ensures) (refusal-keeps _ _ (not-typed (patch-of patch) (typed .type-node .ensures .each (due patch)) (c .before .before .fault2 .given .1)))
 
 same-length : tie.Need-same-length
 same-length c = search needs
@@ -115,15 +115,15 @@ check-spec =
     (tie.spec
     read-patch-file-requires
     enum-known-fault
-    refuse-requires
+    refused-requires
     enum-known-place
     slice-aggregate-type-node
     type-node-requires
     enum-known-fault-2
-    refuse-requires-2
+    refused-requires-2
     enum-known-size
     add-needed
-    refuse-requires-3
+    refused-requires-3
     returns
     array-share-prefix-given
     slice-aggregate-write-section

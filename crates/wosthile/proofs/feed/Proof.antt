@@ -20,8 +20,8 @@ read-patch-file-requires c κs = search needs
 enum-known-fault : tie.Need-enum-known-fault
 enum-known-fault c = search needs
 
-refuse-feed-requires : tie.Need-refuse-feed-requires
-refuse-feed-requires c κs = search needs
+refused-requires : tie.Need-refused-requires
+refused-requires c κs = search needs
 
 enum-known-place : tie.Need-enum-known-place
 enum-known-place c = search needs
@@ -50,8 +50,8 @@ type-node-requires c κs = due (c .before)
 enum-known-fault-2 : tie.Need-enum-known-fault-2
 enum-known-fault-2 c = search needs
 
-refuse-feed-requires-2 : tie.Need-refuse-feed-requires-2
-refuse-feed-requires-2 c κs = search needs
+refused-requires-2 : tie.Need-refused-requires-2
+refused-requires-2 c κs = search needs
 
 enum-told : tie.Need-enum-told
 enum-told c = search needs
@@ -64,8 +64,8 @@ read-slice-file-requires c κs =
 enum-known-fault-3 : tie.Need-enum-known-fault-3
 enum-known-fault-3 c = search needs
 
-refuse-feed-requires-3 : tie.Need-refuse-feed-requires-3
-refuse-feed-requires-3 c κs = search needs
+refused-requires-3 : tie.Need-refused-requires-3
+refused-requires-3 c κs = search needs
 
 enum-known-prefix : tie.Need-enum-known-prefix
 enum-known-prefix c = search needs
@@ -103,14 +103,14 @@ returns : tie.Need-returns
 returns c =
     let read = c .before .before .before .before in
     let e = patch-refused (entry read .args .patch .now) (read .read-patch-file .ensures) _ (c .before .before .fault .given .1) in
-    rw (c .refuse-feed .ensures) (refused-keeps _ _ _ (patch-unread _ _ e))
+    rw (c .refused .ensures) (refused-keeps _ _ _ (patch-unread _ _ e))
 
 returns-2 : tie.Need-returns-2
 returns-2 c =
     let typed = c .before .before .before .before .before in
     let patch = typed .before .before in
     let e = is-refused _ _ (sym (c .before .before .fault2 .given .1) ∙ typed .type-node .ensures .each (due patch) .answers) in
-    rw (c .refuse-feed2 .ensures) (refused-keeps _ _ _ (patch-untyped (patch-of patch) _ e))
+    rw (c .refused2 .ensures) (refused-keeps _ _ _ (patch-untyped (patch-of patch) _ e))
 
 returns-3 : tie.Need-returns-3
 returns-3 c =
@@ -118,7 +118,7 @@ returns-3 c =
     let told = slice .before in
     let patch = patch-of (read-of told) in
     let e = slice-refused (slice .read-slice-file .ensures) (patch .type-at) _ (c .before .before .fault3 .given .1) in
-    rw (c .refuse-feed3 .ensures) (refused-keeps _ _ _ (slice-unread patch _ (type-of told .given) e))
+    rw (c .refused3 .ensures) (refused-keeps _ _ _ (slice-unread patch _ (type-of told .given) e))
 
 same-length : tie.Need-same-length
 same-length c = search needs
@@ -135,16 +135,16 @@ feed-spec =
     (tie.spec
     read-patch-file-requires
     enum-known-fault
-    refuse-feed-requires
+    refused-requires
     enum-known-place
     slice-aggregate-type-node
     type-node-requires
     enum-known-fault-2
-    refuse-feed-requires-2
+    refused-requires-2
     enum-told
     read-slice-file-requires
     enum-known-fault-3
-    refuse-feed-requires-3
+    refused-requires-3
     enum-known-prefix
     send-on-requires
     returns

@@ -9,14 +9,41 @@ use lib.ListN.{length}
 use Rattle.stream.specs.Prefixes.{derivative}
 use Rattle.stream.specs.Reading.{accepted}
 use Rattle.stream.specs.TypeFiles.{type-file-bytes}
-use Rattle.writing.specs.Writing.Standing.{type-accepted, type-refused, slice-accepted, slice-refused, type-file-size, left-small, left-file-due}
+use Rattle.writing.specs.Writing.Standing.{type-accepted, slice-accepted, type-file-size, left-small, left-file-due}
 use Rattle.reading.specs.SliceReads.{AcceptedSlice}
 use Rattle.reading.specs.TypeReads.{AcceptedType}
 use Rattle.meaning.specs.Answers.{left}
 use Rattle.wosthile.proofs.Keeping.{refusal-keeps, shortage-keeps, file-keeps}
-use Rattle.wosthile.proofs.Opening.{no-type, no-slice, goes-on}
+use Rattle.wosthile.proofs.Opening.{type-stops, slice-stops, goes-on}
 use Rattle.wosthile.proofs.left.Statement.{statement}
 use Rattle.wosthile.proofs.left.Tie as tie
+
+-- The places: the entry, from where the type file has been read; what is known of the bytes; where each file is accepted, and where
+-- one is refused; where the answer has been written.
+
+abbrev entry : tie.After-read-type-file → tie.Start
+entry c = c .before .before .before .before
+
+abbrev bytes-known : tie.After-read-type-file → tie.After-shared-slice-known2
+bytes-known c = c .before .before
+
+abbrev type-told : tie.After-known-told2 → tie.After-read-type-file
+type-told c = c .before .before .before
+
+abbrev slice-told : tie.After-known-told4 → tie.After-read-slice-file
+slice-told c = c .before .before .before
+
+abbrev type-read : tie.After-known-told4 → tie.After-known-told2
+type-read c = slice-told c .before
+
+abbrev refused-type : tie.After-refused → tie.After-read-type-file
+refused-type c = c .before .before .before .before
+
+abbrev refused-slice : tie.After-refused2 → tie.After-read-slice-file
+refused-slice c = c .before .before .before .before
+
+abbrev written : tie.After-write-left-file → tie.After-known-told4
+written c = c .before .before .before .before
 
 read-type-file-requires : tie.Need-read-type-file-requires
 read-type-file-requires c κs = search needs
@@ -24,37 +51,33 @@ read-type-file-requires c κs = search needs
 enum-known-fault : tie.Need-enum-known-fault
 enum-known-fault c = search needs
 
-refuse-requires : tie.Need-refuse-requires
-refuse-requires c κs = search needs
+refused-requires : tie.Need-refused-requires
+refused-requires c κs = search needs
 
 enum-known-place : tie.Need-enum-known-place
 enum-known-place c = search needs
 
 -- The type file is accepted, and then the slice file.
 abbrev type-file-of : tie.After-read-type-file → List ℕ
-type-file-of c = c .before .before .before .before .args .ty .now
+type-file-of c = entry c .args .ty .now
 
 abbrev slice-file-of : tie.After-read-type-file → List ℕ
-slice-file-of c = c .before .before .before .before .args .slice .now
+slice-file-of c = entry c .args .slice .now
 
-type-of : (c : tie.After-known-told2) → AcceptedType (type-file-of (c .before .before .before)) (c .before .place .given .0 .0 .start)
+type-of : (c : tie.After-known-told2) → AcceptedType (type-file-of (type-told c)) (c .before .place .given .0 .0 .start)
 type-of c =
-    let read = c .before .before .before in
-    type-accepted (type-file-of read) (read .read-type-file .ensures) (λ i. omega (arith, read .before .before .before .shared-slice-known .given i)) _ (c .before .place .given .1)
+    let read = type-told c in
+    type-accepted (type-file-of read) (read .read-type-file .ensures) (λ i. omega (arith, bytes-known read .before .shared-slice-known .given i)) _
+    (c .before .place .given .1)
 
 read-slice-file-requires : tie.Need-read-slice-file-requires
 read-slice-file-requires c κs = record { type = type-of c .type; stands = type-of c .stands }
 
-abbrev type-read : tie.After-known-told4 → tie.After-known-told2
-type-read c = c .before .before .before .before
-
 slice-of : (c : tie.After-known-told4)
-    → AcceptedSlice (type-of (type-read c) .type) (slice-file-of (type-read c .before .before .before)) (c .before .prefix .given .0 .0)
+    → AcceptedSlice (type-of (type-read c) .type) (slice-file-of (type-told (type-read c))) (c .before .prefix .given .0 .0)
 slice-of c =
-    let slice = c .before .before .before in
-    let read = type-read c .before .before .before in
-    slice-accepted (slice .read-slice-file .ensures) (type-of (type-read c) .stands)
-    (λ i. omega (arith, read .before .before .shared-slice-known2 .given i)) _ (c .before .prefix .given .1)
+    slice-accepted (slice-told c .read-slice-file .ensures) (type-of (type-read c) .stands)
+    (λ i. omega (arith, bytes-known (type-told (type-read c)) .shared-slice-known2 .given i)) _ (c .before .prefix .given .1)
 
 -- What has to be written, and how long it is.
 abbrev left-file : tie.After-known-told4 → List ℕ
@@ -64,15 +87,15 @@ left-length : (c : tie.After-known-told4) → length (left-file c) ≡ 2 + c .be
 left-length c = type-file-size _ ∙ ap (λ n. 2 + n) (sym (slice-of c .remains))
 
 left-is : (c : tie.After-known-told4)
-    → (let read = type-read c .before .before .before in left (type-file-of read) (slice-file-of read)) ≡ accepted (left-file c)
+    → (let read = type-told (type-read c) in left (type-file-of read) (slice-file-of read)) ≡ accepted (left-file c)
 unfolding left
 left-is c = goes-on _ _ _ (type-of (type-read c)) (slice-of c)
 
 enum-known-fault-2 : tie.Need-enum-known-fault-2
 enum-known-fault-2 c = search needs
 
-refuse-requires-2 : tie.Need-refuse-requires-2
-refuse-requires-2 c κs = search needs
+refused-requires-2 : tie.Need-refused-requires-2
+refused-requires-2 c κs = search needs
 
 enum-known-prefix : tie.Need-enum-known-prefix
 enum-known-prefix c = search needs
@@ -80,13 +103,13 @@ enum-known-prefix c = search needs
 add-length : tie.Need-add-length
 add-length c = omega (arith, left-small (type-of (type-read (c .before))) (slice-of (c .before)))
 
-refuse-requires-3 : tie.Need-refuse-requires-3
-refuse-requires-3 c κs = search needs
+refused-requires-3 : tie.Need-refused-requires-3
+refused-requires-3 c κs = search needs
 
 returns : tie.Need-returns
 returns c =
     let slice = c .before .before .before in
-    rw (c .refuse3 .ensures) (shortage-keeps _ (left-file slice) (left-is slice) (omega (arith, left-length slice)))
+    rw (c .refused3 .ensures) (shortage-keeps _ (left-file slice) (left-is slice) (omega (arith, left-length slice)))
 
 write-left-file-requires : tie.Need-write-left-file-requires
 write-left-file-requires c κs =
@@ -96,24 +119,21 @@ write-left-file-requires c κs =
 returns-2 : tie.Need-returns-2
 unfolding left
 returns-2 c =
-    let read = c .before .before .before .before in
-    let e = type-refused (type-file-of read) (read .read-type-file .ensures) _ (c .before .before .fault .given .1) in
-    rw (c .refuse .ensures) (refusal-keeps _ _ (no-type _ _ _ e))
+    rw (c .refused .ensures) (refusal-keeps _ _ (type-stops _ _ _ (refused-type c .read-type-file .ensures) (c .before .before .fault .given .1)))
 
 returns-3 : tie.Need-returns-3
 unfolding left
 returns-3 c =
-    let slice = c .before .before .before .before in
-    let t = type-of (slice .before) in
-    let e = slice-refused (slice .read-slice-file .ensures) (t .stands) _ (c .before .before .fault2 .given .1) in
-    rw (c .refuse2 .ensures) (refusal-keeps _ _ (no-slice _ _ _ t e))
+    let slice = refused-slice c in
+    rw (c .refused2 .ensures)
+    (refusal-keeps _ _ (slice-stops _ _ _ (type-of (slice .before)) (slice .read-slice-file .ensures) (c .before .before .fault2 .given .1)))
 
 same-length : tie.Need-same-length
 same-length c = search needs
 
 returns-4 : tie.Need-returns-4
 returns-4 c =
-    let slice = c .before .before .before .before .before .before in
+    let slice = written (c .before .before) in
     file-keeps _ (left-file slice) (left-is slice) (omega (arith, left-length slice)) (omega (arith, left-length slice))
     (c .before .before .write-left-file .ensures .each (left-file-due (type-of (type-read slice)) (slice-of slice) _ (omega arith)))
 
@@ -123,14 +143,14 @@ left-spec =
     (tie.spec
     read-type-file-requires
     enum-known-fault
-    refuse-requires
+    refused-requires
     enum-known-place
     read-slice-file-requires
     enum-known-fault-2
-    refuse-requires-2
+    refused-requires-2
     enum-known-prefix
     add-length
-    refuse-requires-3
+    refused-requires-3
     returns
     write-left-file-requires
     returns-2

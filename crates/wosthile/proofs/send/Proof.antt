@@ -43,8 +43,8 @@ add-needed-3 c =
     let step = c .before .before .before .before .before .before in
     omega (arith, done step .nodes-small, small-left (entry step .pre .reads))
 
-refuse-feed-requires : tie.Need-refuse-feed-requires
-refuse-feed-requires c κs = search needs
+refused-requires : tie.Need-refused-requires
+refused-requires c κs = search needs
 
 same-length : tie.Need-same-length
 same-length c = search needs
@@ -53,10 +53,10 @@ returns : tie.Need-returns
 returns c =
     let step = c .before .before .before .before .before .before .before .before in
     let due = entry step .pre .reads in
-    rw (c .refuse-feed .ensures) (output-short _ _ (files due) (feed-is due) (omega (arith, done step .output-long)))
+    rw (c .refused .ensures) (output-short _ _ (files due) (feed-is due) (omega (arith, done step .output-long)))
 
-refuse-feed-requires-2 : tie.Need-refuse-feed-requires-2
-refuse-feed-requires-2 c κs = search needs
+refused-requires-2 : tie.Need-refused-requires-2
+refused-requires-2 c κs = search needs
 
 same-length-2 : tie.Need-same-length-2
 same-length-2 c = search needs
@@ -65,7 +65,7 @@ returns-2 : tie.Need-returns-2
 returns-2 c =
     let step = c .before .before .before .before .before .before .before .before .before in
     let due = entry step .pre .reads in
-    rw (c .refuse-feed2 .ensures)
+    rw (c .refused2 .ensures)
     (patch-short _ _ (files due) (feed-is due) (omega (arith, done step .output-long)) (omega (arith, done step .patch-long)))
 
 array-share-prefix-sent : tie.Need-array-share-prefix-sent
@@ -120,10 +120,10 @@ send-spec =
     add-needed
     add-needed-2
     add-needed-3
-    refuse-feed-requires
+    refused-requires
     same-length
     returns
-    refuse-feed-requires-2
+    refused-requires-2
     same-length-2
     returns-2
     array-share-prefix-sent
