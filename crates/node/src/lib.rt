@@ -1,1 +1,1 @@
-// Nodes and patch files. What they mean is in specs/; the readers come with Check.
+// Nodes and patch files, as definitions with their laws, in specs/. The crate `patch_reading` has the code that reads them.
