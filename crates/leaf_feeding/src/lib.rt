@@ -3,6 +3,7 @@
 use reading::nested::Shaped;
 use reading::nested::crossed_in_first;
 use reading::nested::crossed_in_second;
+use reading::prefixes::VALUE_WIDTH;
 use reading::prefixes::skip_complete;
 use reading::prefixes::skip_prefix;
 use writing::appending::append;
@@ -19,9 +20,6 @@ ghost use Prim.Native.Nat.{_≤_};
 ghost use lib.ListN.{length};
 ghost use Rattle.node.specs.Nodes.{pass, emit-cue, left-side, right-side, first, regroup-right, regroup-left, spread, front};
 ghost use Rattle.leaf_feeding.specs.Sending.{LeavesKind, LeavesSilent, LeafDue, LeafFed, CarryingDue, CarryingFed, SecondDue, SecondFed};
-
-// How many bytes the value of a level takes.
-const VALUE_WIDTH: usize = 2;
 
 // How many bytes a node sends, and how many the node left has.
 pub struct Sent {
