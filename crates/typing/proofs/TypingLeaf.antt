@@ -5,6 +5,7 @@ use Prim.Native.Nat.{ℕ, suc, _+_, _≤_, _<_}
 use native.Mathlib.Omega.{arith}
 use lib.ListN.{length, getD}
 use Rattle.stream.specs.Types.{Ty, size, Small}
+use Rattle.stream.specs.Levels.{value-width}
 use Rattle.stream.specs.Levels.Laws.{value-length}
 use Rattle.stream.specs.Reading.{Result}
 use Rattle.stream.specs.TypeFiles.{type-bytes}
@@ -60,10 +61,10 @@ module _ {types : List ℕ} {at : ℕ} {nodes : List ℕ} {from : ℕ} where
             rw (end, ap (typing (due .type)) (silent .made)) (given .each (silent .type) (silent .type-at))
 
   -- A level's value stands behind its kind byte.
-  pub level-inside : TypingDue types at nodes from → getD nodes from 0 ≡ 3 → from + 3 ≤ length nodes
+  pub level-inside : TypingDue types at nodes from → getD nodes from 0 ≡ 3 → from + suc value-width ≤ length nodes
   unfolding node-bytes
   level-inside due e =
-      let wide = by-byte (λ n. node-width n ≡ 3) (due .node-at) e (λ v. ap suc (value-length v [])) in
+      let wide = by-byte (λ n. node-width n ≡ suc value-width) (due .node-at) e (λ v. ap suc (value-length v [])) in
       omega (arith, ends-inside (due .node-at))
 
 -- No kind is left when all others but those with parts have been tried.

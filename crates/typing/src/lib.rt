@@ -6,6 +6,7 @@
 use reading::nested::Shaped;
 use reading::nested::nested_in_first;
 use reading::nested::nested_in_second;
+use reading::prefixes::VALUE_WIDTH;
 use reading::types::TypePlace;
 use reading::types::is_nullable;
 use reading::types::skip_type;
@@ -24,6 +25,9 @@ ghost use Rattle.node.specs.Nodes.{regroup-right, regroup-left, spread, front};
 ghost use Rattle.node.specs.Checking.{gives, typing};
 ghost use Rattle.patch_reading.specs.PatchReads.{node-arity};
 ghost use Rattle.typing.specs.Typing.{limited, first-of, second-of, Given, GivenCarried, TypingDue, TypesNode, TypePartsDue, TypesParts};
+
+// How many bytes the node level takes: its kind, and its value.
+const LEVEL_WIDTH: usize = 1 + VALUE_WIDTH;
 
 // How the second pass leaves a node: where the node ends and how many nodes the type has that it gives, or the first fault.
 pub enum Typed {
@@ -142,7 +146,7 @@ pub fn type_leaf(types: &[u8], at: usize, nodes: &[u8], from: usize, out: &mut [
         0 => give_type(types, at, next, out),
         1 => give_carried(nodes, next, out),
         2 => Typed::Gives(next, append_kind(1, 0, out)),
-        3 => Typed::Gives(from + 3, append_kind(2, 0, out)),
+        3 => Typed::Gives(from + LEVEL_WIDTH, append_kind(2, 0, out)),
         5 => give_first(4, types, at, next, out),
         6 => give_second(4, types, at, next, out),
         7 => give_first(3, types, at, next, out),

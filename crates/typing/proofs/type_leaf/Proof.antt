@@ -5,6 +5,7 @@ use mathlib.Core.List.{[]}
 use Prim.Native.Nat.{suc}
 use native.Mathlib.Omega.{arith}
 use Rattle.stream.specs.Types.{cue, level, size, type-limit}
+use Rattle.stream.specs.Levels.{value-width}
 use Rattle.stream.specs.Levels.Laws.{value-length}
 use Rattle.stream.specs.TypeFiles.{type-bytes}
 use Rattle.node.specs.Checking.{typing}
@@ -84,7 +85,7 @@ same-length-4 c = search needs
 
 returns-4 : tie.Need-returns-4
 unfolding typing node-bytes type-bytes size type-limit
-returns-4 c = emitter-typed 3 level (c .before .before .before .before .match .keys4) (λ v. (ap suc (value-length v []), λ t. refl)) (omega arith) (c .before .before .append-kind2 .ensures)
+returns-4 c = emitter-typed (suc value-width) level (c .before .before .before .before .match .keys4) (λ v. (ap suc (value-length v []), λ t. refl)) (omega arith) (c .before .before .append-kind2 .ensures)
 
 same-length-5 : tie.Need-same-length-5
 same-length-5 c = search needs
