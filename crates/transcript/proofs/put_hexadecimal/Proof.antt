@@ -54,7 +54,8 @@ loop-less c = omega arith
 
 loop-again : tie.Need-loop-again Inv-loop μ-loop
 loop-again c =
-    let l = c .before .before .before .before in
+    let turn = c .before .before .before in
+    let l = turn .before in
     let start = l .before .before .before in
     let s = start .args .source .now in
     let twice : 2 * (l .loop .at + 1) ≡ 2 * l .loop .at + 1 + 1 = omega arith in (

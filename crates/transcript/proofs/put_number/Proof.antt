@@ -53,7 +53,8 @@ same-length-2 c = search needs
 
 returns-2 : tie.Need-returns-2
 returns-2 c =
-    let start = c .before .before .before .before in
+    let long = c .before .before in
+    let start = long .before .before in
     rw (two-digits (start .args .number) (omega arith), c .before .digit2 .ensures, c .digit3 .ensures)
     (byte-on (byte-on (begins _ (omega arith)) _ (omega arith)) 10 (omega arith))
 

@@ -16,7 +16,9 @@ enum-known-second-2 c = search needs
 
 -- What is asked of the sums, once the second walk is known to have come to its end.
 sums : (c : tie.Joined1) → let g = c .before .before .second2 .given .0 in SumsFit (c .before .before .before .before .args .first) (Past (g .0) (g .1 .0) (g .1 .1 .0))
-sums c = rw (c .before .before .second2 .given .1) at (c .before .before .before .before .pre)
+sums c =
+    let second : tie.After-second2 = c .before .before in
+    rw (second .second2 .given .1) at (second .before .before .pre)
 
 add-t14 : tie.Need-add-t14
 add-t14 c = omega (arith, limit-is, sums c)
