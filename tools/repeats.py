@@ -5,7 +5,8 @@ numbers are blanked. A row is a place to look, not a verdict.
     tools/repeats.py [DIR] [--min LINES] [--most ROWS] [--shape] [--since REV]
 
 --since REV keeps the pairs of which one side stands in lines added since that commit. Blank lines, comments, imports and needs that the
-prover answers by itself are passed over.
+prover answers by itself are passed over, and what nobody writes: the list of needs that a proof ends with, whose order the prover
+fixes, and the ways of a map of places (tools/map_places.py).
 """
 import argparse
 import os
@@ -14,6 +15,8 @@ import subprocess
 from collections import defaultdict
 
 PASSED_OVER = re.compile(r"^\s*(--|//|use |ghost use |mod |pub mod |pub use |unfolding |$|[)}\]];?,?$)|search needs$|: tie\.Need-")
+NEED_LISTED = re.compile(r"^\(?[\w·′₀-₉-]+( t)?\)*$")
+WAY = re.compile(r"^abbrev (\S+) : \S*(tie|lts)\.[^→]*→ \S*(tie|lts)\.")
 COMMENT = re.compile(r"(--|//).*")
 NAME = re.compile(r"[\w·′₀-₉-]+")
 HUNK = re.compile(r"@@ -\S+ \+(\d+)(?:,(\d+))?")
@@ -41,10 +44,13 @@ def files_below(folder):
 
 def lines_of(path, shape):
     """The lines of a file that count: the number and the text of each."""
+    way = None
     with open(path, encoding="utf-8", errors="replace") as file:
         for number, text in enumerate(file, 1):
             text = re.sub(r"\s+", " ", COMMENT.sub("", text)).strip()
-            if len(text) >= 4 and not PASSED_OVER.search(text):
+            way = WAY.match(text) or way
+            of_map = way and re.match(rf"(abbrev )?{re.escape(way[1])} ", text)
+            if len(text) >= 4 and not of_map and not PASSED_OVER.search(text) and not NEED_LISTED.match(text):
                 yield number, NAME.sub("x", text) if shape else text
 
 

@@ -11,8 +11,7 @@ use Rattle.leaf_feeding.specs.Sending.Laws.{delivers}
 use Rattle.leaf_feeding.proofs.feed_cue.Statement.{statement}
 use Rattle.leaf_feeding.proofs.feed_cue.Tie as tie
 
--- What is read where
-
+-- The map of places: what stands before what.
 abbrev entry : tie.After-slice-known2 → tie.Start
 entry c = c .before .before .before
 
@@ -21,6 +20,8 @@ left c = c .before .before
 
 abbrev begun : tie.After-slice-known3 → tie.Start
 begun c = entry (left c .before .before)
+
+-- What is read where
 
 -- What is due
 

@@ -15,6 +15,25 @@ use Rattle.leaf_feeding.specs.Sending.Laws.{delivers-written}
 use Rattle.leaf_feeding.proofs.feed_front.Statement.{statement}
 use Rattle.leaf_feeding.proofs.feed_front.Tie as tie
 
+-- The map of places: what stands before what.
+abbrev entry-before-skip-prefix : tie.After-skip-prefix → tie.Start
+entry-before-skip-prefix c = c .before .before .before .before
+
+abbrev append-kind-before-append-kind2 : tie.After-append-kind2 → tie.After-append-kind
+append-kind-before-append-kind2 c = c .before .before .before .before
+
+abbrev skip-prefix-before-slice-known4 : tie.After-slice-known4 → tie.After-skip-prefix
+skip-prefix-before-slice-known4 c = append-kind-before-append-kind2 (c .before .before) .before .before
+
+abbrev append-kind2-before-append-arg2 : tie.After-append-arg2 → tie.After-append-kind2
+append-kind2-before-append-arg2 c = c .before .before .before .before
+
+abbrev append-kind2-before-append : tie.After-append → tie.After-append-kind2
+append-kind2-before-append c = append-kind2-before-append-arg2 (c .before)
+
+abbrev append-before-leave : tie.After-leave → tie.After-append
+append-before-leave c = c .before .before .before .before
+
 skip-prefix-requires : tie.Need-skip-prefix-requires
 skip-prefix-requires c κs = search needs
 
@@ -26,8 +45,8 @@ append-kind-requires-2 c κs = search needs
 
 sub-append : tie.Need-sub-append
 sub-append c =
-    let skipped = c .before .before .before .before .before .before .before .before in
-    let begun = skipped .before .before .before .before in
+    let skipped = skip-prefix-before-slice-known4 c in
+    let begun = entry-before-skip-prefix skipped in
     let due = begun .pre in
     omega (arith, skipped .skip-prefix .ensures .each (due .prefix) (due .prefix-at))
 
@@ -36,22 +55,22 @@ part-append-start c = sub-append c
 
 part-append-end : tie.Need-part-append-end
 part-append-end c =
-    let skipped = c .before .before .before .before .before .before .before .before in
-    let begun = skipped .before .before .before .before in
+    let skipped = skip-prefix-before-slice-known4 c in
+    let begun = entry-before-skip-prefix skipped in
     let due = begun .pre in
     omega (arith, skipped .skip-prefix .ensures .each (due .prefix) (due .prefix-at), prefix-inside (due .prefix-at))
 
 -- How many bytes the prefix has.
 abbrev long : tie.After-skip-prefix → ℕ
-long c = c .skip-prefix .result - c .before .before .before .before .args .place
+long c = c .skip-prefix .result - entry-before-skip-prefix c .args .place
 
 append-requires : tie.Need-append-requires
 unfolding sends prefix-width
 append-requires c κs =
-    let second = c .before .before .before .before in
-    let first = second .before .before .before .before in
+    let second = append-kind2-before-append-arg2 c in
+    let first = append-kind-before-append-kind2 second in
     let skipped = first .before .before in
-    let begun = skipped .before .before .before .before in
+    let begun = entry-before-skip-prefix skipped in
     let due = begun .pre in
     let end = skipped .skip-prefix .ensures .each (due .prefix) (due .prefix-at) in
     rw (prefix-taken (long skipped) (due .prefix-at) (omega arith))
@@ -76,9 +95,9 @@ returns : tie.Need-returns
 unfolding sends leaves node-bytes prefix-bytes
 returns c =
     let left = c .before .before in
-    let copied = left .before .before .before .before in
-    let second = copied .before .before .before .before .before in
-    let first = second .before .before .before .before in
+    let copied = append-before-leave left in
+    let second = append-kind2-before-append copied in
+    let first = append-kind-before-append-kind2 second in
     let skipped = first .before .before in
     record {
       each = λ due.

@@ -9,25 +9,26 @@ use Rattle.leaf_feeding.proofs.LevelSent.{value-inside, level-room, val
 use Rattle.leaf_feeding.proofs.feed_level.Statement.{statement}
 use Rattle.leaf_feeding.proofs.feed_level.Tie as tie
 
--- What is read where
-
+-- The map of places: what stands before what.
 abbrev entry : tie.After-slice-known2 → tie.Start
 entry c = c .before .before .before .before
 
 abbrev room : tie.After-copy-arg → tie.Start
 room c = entry (c .before)
 
+abbrev begun : tie.After-copy → tie.Start
+begun c = room (c .before .before)
+
 abbrev copied : tie.After-slice-known3 → tie.After-copy
 copied c = c .before .before
-
-abbrev left : tie.After-slice-known4 → tie.After-leave-silent
-left c = c .before .before
 
 abbrev level : tie.After-leave-silent → tie.After-copy
 level c = copied (c .before .before)
 
-abbrev begun : tie.After-copy → tie.Start
-begun c = room (c .before .before)
+abbrev left : tie.After-slice-known4 → tie.After-leave-silent
+left c = c .before .before
+
+-- What is read where
 
 -- What is due
 

@@ -13,8 +13,7 @@ use Rattle.leaf_feeding.proofs.Regrouped.{right-cut, first-wide, cut-at
 use Rattle.leaf_feeding.proofs.feed_regroup_right.Statement.{statement}
 use Rattle.leaf_feeding.proofs.feed_regroup_right.Tie as tie
 
--- What is read where
-
+-- The map of places: what stands before what.
 abbrev asked : tie.After-slice-known2 → tie.Start
 asked c = c .before .before .before
 
@@ -27,17 +26,19 @@ waits c = c .before .before
 abbrev told : tie.After-places → tie.After-crossed-in-first
 told c = c .before .before
 
+abbrev coming : tie.After-copy-prefix → tie.After-enum-told
+coming c = c .before .before
+
 abbrev found : tie.After-write-right-arg → tie.After-places
 found c = c .before .before
-
-abbrev written : tie.After-leave2 → tie.After-write-right
-written c = c .before .before .before .before
 
 abbrev sent : tie.After-leave → tie.After-copy-prefix
 sent c = c .before .before .before .before
 
-abbrev coming : tie.After-copy-prefix → tie.After-enum-told
-coming c = c .before .before
+abbrev written : tie.After-leave2 → tie.After-write-right
+written c = c .before .before .before .before
+
+-- What is read where
 
 -- What is told of a slice that is fed: that s is still coming, or where the pieces are.
 

@@ -9,6 +9,13 @@ use Rattle.leaf_feeding.proofs.PartsSent.{right-before, right-part-at}
 use Rattle.leaf_feeding.proofs.feed_right.Statement.{statement}
 use Rattle.leaf_feeding.proofs.feed_right.Tie as tie
 
+-- The map of places: what stands before what.
+abbrev entry-before-copy-prefix-arg : tie.After-copy-prefix-arg → tie.Start
+entry-before-copy-prefix-arg c = c .before .before .before .before .before
+
+abbrev copy-prefix-before-leave : tie.After-leave → tie.After-copy-prefix
+copy-prefix-before-leave c = c .before .before .before .before
+
 add-skip-prefix : tie.Need-add-skip-prefix
 add-skip-prefix c = omega (arith, leaf-inside (c .before .before .before .pre))
 
@@ -19,7 +26,7 @@ skip-prefix-requires c κs =
 
 copy-prefix-requires : tie.Need-copy-prefix-requires
 copy-prefix-requires c κs =
-    let due = c .before .before .before .before .before .pre in
+    let due = entry-before-copy-prefix-arg c .pre in
     copy-due due (right-part-at (due .types) (due .is-prefix) (due .prefix-at) (c .before .skip-prefix .ensures))
 
 leave-requires : tie.Need-leave-requires
@@ -35,7 +42,7 @@ returns : tie.Need-returns
 unfolding leaves node-bytes
 returns c =
     let left = c .before .before in
-    let sent = left .before .before .before .before in
+    let sent = copy-prefix-before-leave left in
     let skipped = sent .before .before in
     record {
       each = λ due.

@@ -7,8 +7,15 @@ use Rattle.leaf_feeding.proofs.SecondWaits.{crossed-due, crossed-part, 
 use Rattle.leaf_feeding.proofs.feed_second.Statement.{statement}
 use Rattle.leaf_feeding.proofs.feed_second.Tie as tie
 
+-- The map of places: what stands before what.
 abbrev entry : tie.After-shared-slice-known3 → tie.Start
 entry c = c .before .before .before .before .before
+
+abbrev write-empty-before-leave : tie.After-leave → tie.After-write-empty
+write-empty-before-leave c = c .before .before .before .before
+
+abbrev copy-prefix-before-leave2 : tie.After-leave2 → tie.After-copy-prefix
+copy-prefix-before-leave2 c = c .before .before .before .before
 
 shared-slice-read-if1 : tie.Need-shared-slice-read-if1
 shared-slice-read-if1 c = leaf-inside (entry c .pre .due)
@@ -28,7 +35,7 @@ same-length-2 c = search needs
 returns : tie.Need-returns
 returns c =
     let left = c .before .before in
-    let sent = left .before .before .before .before in
+    let sent = write-empty-before-leave left in
     let tested = sent .before .before in
     record { each = λ asked. waiting asked (tested .if1 .taken) (sent .write-empty .ensures) (left .leave .ensures) }
 
@@ -57,7 +64,7 @@ same-length-4 c = search needs
 returns-2 : tie.Need-returns-2
 returns-2 c =
     let left = c .before .before in
-    let sent = left .before .before .before .before in
+    let sent = copy-prefix-before-leave2 left in
     let ended = sent .before .before in
     record {
       each = λ asked.

@@ -6,8 +6,7 @@ use Rattle.leaf_feeding.proofs.SilentSent.{empty-due, silent-inside, si
 use Rattle.leaf_feeding.proofs.feed_silent.Statement.{statement}
 use Rattle.leaf_feeding.proofs.feed_silent.Tie as tie
 
--- What is read where
-
+-- The map of places: what stands before what.
 abbrev entry : tie.After-slice-known2 → tie.Start
 entry c = c .before .before .before .before
 
@@ -17,11 +16,13 @@ sent c = c .before .before
 abbrev begun : tie.After-slice-known3 → tie.Start
 begun c = entry (sent c .before .before)
 
+abbrev kept : tie.After-copy → tie.After-slice-known3
+kept c = c .before .before .before
+
 abbrev left : tie.After-slice-known4 → tie.After-copy
 left c = c .before .before
 
-abbrev kept : tie.After-copy → tie.After-slice-known3
-kept c = c .before .before .before
+-- What is read where
 
 -- What is due
 

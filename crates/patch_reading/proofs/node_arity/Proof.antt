@@ -11,11 +11,11 @@ use Rattle.patch_reading.proofs.node_arity.Tie as tie
 abbrev entry-before-then3 : tie.Then3 → tie.Start
 entry-before-then3 c = c .before .before .before .before
 
-abbrev entry-before-then4 : tie.Then4 → tie.Start
-entry-before-then4 c = c .before .before .before .before .before
-
 abbrev entry-before-else4 : tie.Else4 → tie.Start
 entry-before-else4 c = c .before .before .before .before .before
+
+abbrev entry-before-then4 : tie.Then4 → tie.Start
+entry-before-then4 c = c .before .before .before .before .before
 
 returns : tie.Need-returns
 returns c = search needs

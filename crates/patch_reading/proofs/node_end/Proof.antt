@@ -22,6 +22,16 @@ Inv-loop bytes owed₀ count₀ at₀ owed count at = Walked TooManyNodes node-r
 abbrev μ-loop : tie.MeasureT-loop
 μ-loop bytes owed₀ count₀ at₀ owed count at = node-limit - count
 
+-- The map of places: what stands before what.
+abbrev at-loop-before-end : tie.After-end Inv-loop μ-loop → tie.At-loop Inv-loop μ-loop
+at-loop-before-end c = c .before .before .before .before .before
+
+abbrev shared-slice-known-before-end : tie.After-end Inv-loop μ-loop → tie.After-shared-slice-known Inv-loop μ-loop
+shared-slice-known-before-end c = at-loop-before-end c .before
+
+abbrev entry-before-end : tie.After-end Inv-loop μ-loop → tie.Start Inv-loop μ-loop
+entry-before-end c = shared-slice-known-before-end c .before
+
 loop-holds : tie.Need-loop-holds Inv-loop μ-loop
 loop-holds c = starts TooManyNodes node-root node-limit makes-one _
 
@@ -49,14 +59,14 @@ sub-owed c = search needs
 
 -- The root that `root_end` found.
 abbrev bytes : tie.After-end Inv-loop μ-loop → List ℕ
-bytes c = c .before .before .before .before .before .before .before .args .bytes .now
+bytes c = entry-before-end c .args .bytes .now
 
 abbrev place : tie.After-end Inv-loop μ-loop → ℕ
-place c = c .before .before .before .before .before .loop .at
+place c = at-loop-before-end c .loop .at
 
 root : (c : tie.After-end Inv-loop μ-loop) → RootRead (bytes c) (place c) (c .end .given .0 .0)
 root c =
-    let b : Bytes (bytes c) = λ i. omega (arith, c .before .before .before .before .before .before .shared-slice-known .given i) in
+    let b : Bytes (bytes c) = λ i. omega (arith, shared-slice-known-before-end c .shared-slice-known .given i) in
     root-read (bytes c) (place c) _ b (sym (c .before .before .root-end .ensures) ∙ c .end .given .1)
 
 shared-slice-read-node-arity : tie.Need-shared-slice-read-node-arity Inv-loop μ-loop
@@ -85,7 +95,7 @@ loop-again c =
     let e = c .before .before .before in
     let r = root e in
     rw (c .node-arity .ensures)
-    (goes-on (e .before .before .before .before .before .loop .inv) (omega arith) (omega arith) _ _ (few-parts (getD (bytes e) (place e) 0)) (r .ends-inside) (r .owes))
+    (goes-on (at-loop-before-end e .loop .inv) (omega arith) (omega arith) _ _ (few-parts (getD (bytes e) (place e) 0)) (r .ends-inside) (r .owes))
 
 returns-3 : tie.Need-returns-3 Inv-loop μ-loop
 unfolding read-node

@@ -11,6 +11,13 @@ use Rattle.patch_reading.proofs.NodeRoots.{node-within}
 use Rattle.patch_reading.proofs.node_section_end.Statement.{statement}
 use Rattle.patch_reading.proofs.node_section_end.Tie as tie
 
+-- The map of places: what stands before what.
+abbrev entry-before-end : tie.After-end → tie.Start
+entry-before-end c = c .before .before .before .before
+
+abbrev end-before-fill : tie.After-fill → tie.After-end
+end-before-fill c = c .before .before .before .before
+
 section-end-requires : tie.Need-section-end-requires
 section-end-requires c κs = search needs
 
@@ -22,7 +29,7 @@ enum-known-end c = search needs
 
 -- The section that `section_end` found.
 abbrev bytes : tie.After-end → List ℕ
-bytes c = c .before .before .before .before .args .bytes .now
+bytes c = entry-before-end c .args .bytes .now
 
 counted : (c : tie.After-end) → SectionEnds any-bytes (bytes c) (c .end .given .0 .0)
 counted c = section-ended any-bytes (bytes c) _ (sym (c .before .before .section-end .ensures) ∙ c .end .given .1)
@@ -51,7 +58,7 @@ returns c =
 returns-2 : tie.Need-returns-2
 unfolding node-section
 returns-2 c =
-    let a = c .before .before .before .before in
+    let a = end-before-fill c in
     c .fill .ensures
     ∙ ap (filled (a .end .given .0 .0)) (c .before .node-end .ensures)
     ∙ sym (section-filled read-node (bytes a) (counted a) (node-within _))

@@ -18,6 +18,16 @@ use Rattle.patch_reading.proofs.FirstPass.{type-failed, type-held, node
 use Rattle.patch_reading.proofs.read_patch_file.Statement.{statement}
 use Rattle.patch_reading.proofs.read_patch_file.Tie as tie
 
+-- The map of places: what stands before what.
+abbrev entry-before-type-end : tie.After-type-end → tie.Start
+entry-before-type-end c = c .before .before .before .before
+
+abbrev type-end-of : tie.After-read → tie.After-type-end
+type-end-of c = c .before .before .before .before .before
+
+abbrev read-before-new2 : tie.After-new2 → tie.After-read
+read-before-new2 c = c .before .before .before .before
+
 type-section-end-requires : tie.Need-type-section-end-requires
 type-section-end-requires c κs = search needs
 
@@ -29,7 +39,7 @@ enum-known-type-end c = search needs
 
 -- What is known once `type_section_end` has found the type's section, and `node_section_end` that of the nodes.
 abbrev file : tie.After-type-end → List ℕ
-file c = c .before .before .before .before .args .file .now
+file c = entry-before-type-end c .args .file .now
 
 abbrev place : tie.After-type-end → ℕ
 place c = c .type-end .given .0 .0
@@ -52,9 +62,6 @@ node-told c =
     let a = c .before .before .before in
     let h : length (behind a) ≤ length (file a) - place a = simp length-drop (omega arith) in
     sym (rw (take-all (length (file a) - place a) (behind a) h) at (c .node-section-end .ensures))
-
-abbrev type-end-of : tie.After-read → tie.After-type-end
-type-end-of c = c .before .before .before .before .before
 
 abbrev node-place : tie.After-read → ℕ
 node-place c = c .read .given .0 .0
@@ -118,7 +125,7 @@ returns-3 c =
 returns-4 : tie.Need-returns-4
 unfolding patch-read
 returns-4 c =
-    let r = c .before .before .before .before in
+    let r = read-before-new2 c in
     let a = type-end-of r in
     rw (c .new2 .ensures, c .before .new .ensures, held a .place)
     (sym (ap patch-read (file-whole (file a) (bytes a) (place a) (type-ends a) (node-place r) (node-ends r) (omega arith))))

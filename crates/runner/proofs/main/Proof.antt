@@ -15,6 +15,16 @@ Inv-loop input₀ patch₀ lines₀ progress₀ turns₀ input patch lines progr
 abbrev μ-loop : tie.MeasureT-loop
 μ-loop input₀ patch₀ lines₀ progress₀ turns₀ input patch lines progress turns = turns
 
+-- The map of places: what stands before what.
+abbrev at-loop-before-patch : tie.After-patch Inv-loop μ-loop → tie.At-loop Inv-loop μ-loop
+at-loop-before-patch c = c .before .before .before .before
+
+abbrev at-loop-before-lines : tie.After-lines Inv-loop μ-loop → tie.At-loop Inv-loop μ-loop
+at-loop-before-lines c = at-loop-before-patch (c .before)
+
+abbrev at-loop-before-turn : tie.After-turn Inv-loop μ-loop → tie.At-loop Inv-loop μ-loop
+at-loop-before-turn c = at-loop-before-lines (c .before)
+
 input-buffer-requires : tie.Need-input-buffer-requires Inv-loop μ-loop
 input-buffer-requires c κs = tt
 
@@ -33,13 +43,13 @@ slice-aggregate-turn : tie.Need-slice-aggregate-turn Inv-loop μ-loop
 slice-aggregate-turn c = c .before .before .before .loop .inv .4
 
 slice-aggregate-turn-2 : tie.Need-slice-aggregate-turn-2 Inv-loop μ-loop
-slice-aggregate-turn-2 c = c .before .before .before .before .loop .inv .1
+slice-aggregate-turn-2 c = at-loop-before-patch c .loop .inv .1
 
 slice-aggregate-turn-3 : tie.Need-slice-aggregate-turn-3 Inv-loop μ-loop
-slice-aggregate-turn-3 c = c .before .before .before .before .before .loop .inv .5
+slice-aggregate-turn-3 c = at-loop-before-lines c .loop .inv .5
 
 turn-requires : tie.Need-turn-requires Inv-loop μ-loop
-turn-requires c κs = let inv = c .before .before .before .before .before .loop .inv in (inv .0, omega (arith, inv .1), inv .2, inv .3, omega (arith, inv .4))
+turn-requires c κs = let inv = at-loop-before-lines c .loop .inv in (inv .0, omega (arith, inv .1), inv .2, inv .3, omega (arith, inv .4))
 
 sub-turns : tie.Need-sub-turns Inv-loop μ-loop
 sub-turns c = omega arith
@@ -50,7 +60,7 @@ loop-less c = omega arith
 loop-again : tie.Need-loop-again Inv-loop μ-loop
 loop-again c =
     let call = c .before .before .before in
-    let inv = call .before .before .before .before .before .before .loop .inv in
+    let inv = at-loop-before-turn call .loop .inv in
     let kept = call .turn .kept in (
       call .turn .ensures .0,
       inv .1 ∙ sym (kept .1 .1 .0),

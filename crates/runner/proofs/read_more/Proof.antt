@@ -11,13 +11,17 @@ use Rattle.writing.specs.Appending.Laws.{part-length}
 use Rattle.runner.proofs.read_more.Statement.{statement}
 use Rattle.runner.proofs.read_more.Tie as tie
 
+-- The map of places: what stands before what.
+abbrev start : tie.After-move-to-front → tie.Start
+start c = c .before .before .before
+
+abbrev move-to-front-before-slice-known3 : tie.After-slice-known3 → tie.After-move-to-front
+move-to-front-before-slice-known3 c = c .before .before .before .before .before .before
+
 move-to-front-requires : tie.Need-move-to-front-requires
 move-to-front-requires c κs = search needs
 
 -- What is held is as long as its place says.
-abbrev start : tie.After-move-to-front → tie.Start
-start c = c .before .before .before
-
 kept-is : (c : tie.After-move-to-front) → c .move-to-front .result ≡ start c .args .held - start c .args .from
 kept-is c =
     let args = start c .args in
@@ -50,7 +54,7 @@ same-length c = search needs
 
 returns : tie.Need-returns
 returns c =
-    let call = c .before .before .before .before .before .before in (
+    let call = move-to-front-before-slice-known3 c in (
       refl,
       omega arith,
       omega (

@@ -14,6 +14,22 @@ use Rattle.transcript.specs.Playing.{Inside}
 use Rattle.runner.proofs.turn.Statement.{statement}
 use Rattle.runner.proofs.turn.Tie as tie
 
+-- The map of places: what stands before what.
+abbrev slice-known-before-play : tie.After-play → tie.After-slice-known
+slice-known-before-play c = c .before .before .before .before .before .before .before
+
+abbrev start : tie.After-play → tie.Start
+start c = slice-known-before-play c .before
+
+abbrev play-before-else2 : tie.Else2 → tie.After-play
+play-before-else2 c = c .before .before .before .before .before .before .before .before .before .before
+
+abbrev play-before-read-more-arg : tie.After-read-more-arg → tie.After-play
+play-before-read-more-arg c = play-before-else2 (c .before .before)
+
+abbrev play-before-read-more : tie.After-read-more → tie.After-play
+play-before-read-more c = play-before-read-more-arg (c .before)
+
 sub-play : tie.Need-sub-play
 sub-play c = search needs
 
@@ -57,9 +73,6 @@ sub-if3 : tie.Need-sub-if3
 sub-if3 c = search needs
 
 -- What is held after `play`, and that it is short if the program waits.
-abbrev start : tie.After-play → tie.Start
-start c = c .before .before .before .before .before .before .before .before
-
 abbrev held-by : tie.After-play → List ℕ
 held-by c = let progress = start c .args .progress in take (progress .held - progress .from) (drop (progress .from) (start c .args .input .now))
 
@@ -73,12 +86,12 @@ rest-bytes c =
     let progress = start c .args .progress in
     let input = start c .args .input .now in
     bytes-drop (c .play .result .taken) (held-by c)
-    (bytes-take (progress .held - progress .from) (drop (progress .from) input) (bytes-drop (progress .from) input (λ i. omega (arith, c .before .before .before .before .before .before .before .slice-known .given i))))
+    (bytes-take (progress .held - progress .from) (drop (progress .from) input) (bytes-drop (progress .from) input (λ i. omega (arith, slice-known-before-play c .slice-known .given i))))
 
-rest-short : (c : tie.Else2) → (let call = c .before .before .before .before .before .before .before .before .before .before in 1536 ≤ length (start call .args .lines .now) - call .play .result .written)
-    → (let call = c .before .before .before .before .before .before .before .before .before .before in length (held-by call) - call .play .result .taken ≤ 65536)
+rest-short : (c : tie.Else2) → (let call = play-before-else2 c in 1536 ≤ length (start call .args .lines .now) - call .play .result .written)
+    → (let call = play-before-else2 c in length (held-by call) - call .play .result .taken ≤ 65536)
 rest-short c room =
-    let call = c .before .before .before .before .before .before .before .before .before .before in
+    let call = play-before-else2 c in
     let r = call .play .result in
     omega (
       arith,
@@ -89,7 +102,7 @@ rest-short c room =
 
 read-more-requires : tie.Need-read-more-requires
 read-more-requires c κs =
-    let call = c .before .before .before .before .before .before .before .before .before .before .before .before in
+    let call = play-before-read-more-arg c in
     let progress = start call .args .progress in
     let taken = call .play .ensures .plays .taken-inside in (
       omega (arith, taken, held-length call),
@@ -110,7 +123,7 @@ same-length-6 c = search needs
 returns-2 : tie.Need-returns-2
 returns-2 c =
     let more = c .before .before in
-    let call = more .before .before .before .before .before .before .before .before .before .before .before .before .before in
+    let call = play-before-read-more more in
     let kept = call .play .last .1 .1 .0 in (
       subst (λ s. Inside s kept) (sym (more .read-more .ensures .0)) (call .play .ensures .plays .inside),
       more .read-more .ensures .1,

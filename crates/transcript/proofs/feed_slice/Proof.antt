@@ -18,24 +18,64 @@ use Rattle.transcript.proofs.TakingSlice.{FedInto, is-sent, body-stands
 use Rattle.transcript.proofs.feed_slice.Statement.{statement}
 use Rattle.transcript.proofs.feed_slice.Tie as tie
 
+-- The map of places: what stands before what.
+abbrev entry-before-slice-known4 : tie.After-slice-known4 → tie.Start
+entry-before-slice-known4 c = c .before .before .before .before .before
+
+abbrev entry-before-feed-arg : tie.After-feed-arg → tie.Start
+entry-before-feed-arg c = entry-before-slice-known4 (c .before)
+
+abbrev slice-known-before-feed : tie.After-feed → tie.After-slice-known
+slice-known-before-feed c = c .before .before .before .before .before .before .before
+
+abbrev shared-slice-known-before-feed : tie.After-feed → tie.After-shared-slice-known
+shared-slice-known-before-feed c = slice-known-before-feed c .before
+
+abbrev start : tie.After-feed → tie.Start
+start c = shared-slice-known-before-feed c .before
+
+abbrev feed-before-put-number-arg : tie.After-put-number-arg → tie.After-feed
+feed-before-put-number-arg c = c .before .before .before .before .before .before .before
+
+abbrev call : tie.After-count-of → tie.After-feed
+call c = c .before .before .before .before .before .before .before .before .before
+
+abbrev feed-before-new : tie.After-new → tie.After-feed
+feed-before-new c = feed-before-put-number-arg (c .before .before .before .before)
+
+abbrev count-of-before-put-fed-arg3 : tie.After-put-fed-arg3 → tie.After-count-of
+count-of-before-put-fed-arg3 c = c .before .before .before .before .before
+
+abbrev count-of-before-slice-known10 : tie.After-slice-known10 → tie.After-count-of
+count-of-before-slice-known10 c = count-of-before-put-fed-arg3 (c .before .before .before)
+
+abbrev count-of-before-copy-arg : tie.After-copy-arg → tie.After-count-of
+count-of-before-copy-arg c = count-of-before-slice-known10 (c .before)
+
+abbrev count-of-before-copy-arg2 : tie.After-copy-arg2 → tie.After-count-of
+count-of-before-copy-arg2 c = count-of-before-copy-arg (c .before)
+
+abbrev put-fed-before-new2 : tie.After-new2 → tie.After-put-fed
+put-fed-before-new2 c = c .before .before .before .before .before .before .before .before
+
+abbrev count-of-before-new2 : tie.After-new2 → tie.After-count-of
+count-of-before-new2 c = count-of-before-put-fed-arg3 (put-fed-before-new2 c .before)
+
 -- The patch stands inside its bytes.
 inside : (c : tie.Start) → c .args .size ≤ length (c .args .patch .now)
 unfolding Inside
 inside c = c .pre .0 .inside
 
 slice-reshare-prefix-feed : tie.Need-slice-reshare-prefix-feed
-slice-reshare-prefix-feed c = inside (c .before .before .before .before .before)
+slice-reshare-prefix-feed c = inside (entry-before-slice-known4 c)
 
 slice-aggregate-feed : tie.Need-slice-aggregate-feed
-slice-aggregate-feed c = sym (length-take-le _ _ (inside (c .before .before .before .before .before .before)))
+slice-aggregate-feed c = sym (length-take-le _ _ (inside (entry-before-feed-arg c)))
 
 feed-requires : tie.Need-feed-requires
 feed-requires c κs = search needs
 
 -- The feed, 20 aside.
-abbrev start : tie.After-feed → tie.Start
-start c = c .before .before .before .before .before .before .before .before .before
-
 abbrev patch-of : tie.After-feed → List ℕ
 patch-of c = take (start c .args .size) (start c .args .patch .now)
 
@@ -43,10 +83,10 @@ abbrev slice-of : tie.After-feed → List ℕ
 slice-of c = start c .args .file .now
 
 patch-bytes : (c : tie.After-feed) → Bytes (patch-of c)
-patch-bytes c = bytes-take (start c .args .size) (start c .args .patch .now) (λ i. omega (arith, c .before .before .before .before .before .before .before .slice-known .given i))
+patch-bytes c = bytes-take (start c .args .size) (start c .args .patch .now) (λ i. omega (arith, slice-known-before-feed c .slice-known .given i))
 
 slice-bytes : (c : tie.After-feed) → Bytes (slice-of c)
-slice-bytes c = λ i. omega (arith, c .before .before .before .before .before .before .before .before .shared-slice-known .given i)
+slice-bytes c = λ i. omega (arith, shared-slice-known-before-feed c .shared-slice-known .given i)
 
 abbrev output-of : tie.After-feed → List ℕ
 output-of c = c .feed .last .1 .1 .0
@@ -64,7 +104,7 @@ number-is c = ap (λ (a : Fed). a .number) (outcome c .answers)
 
 put-number-requires : tie.Need-put-number-requires
 put-number-requires c κs =
-    let call = c .before .before .before .before .before .before .before in
+    let call = feed-before-put-number-arg c in
     (omega (arith, number-is call, number-short (feed (patch-of call) (slice-of call))), omega (arith, start call .pre .0 .line-room))
 
 new-requires : tie.Need-new-requires
@@ -84,7 +124,7 @@ same-length-4 c = search needs
 
 returns : tie.Need-returns
 returns c =
-    let call = c .before .before .before .before .before .before .before .before .before .before .before in
+    let call = feed-before-new c in
     rw (c .new .ensures)
     (slice-refused _ _ _ _ (λ z. omega (arith, number-is call)) (inside (start call)) (rw (number-is call) at (c .before .before .before .put-number .ensures)))
 
@@ -101,9 +141,6 @@ add-type-end : tie.Need-add-type-end
 add-type-end c = search needs
 
 -- The slice is accepted: what was sent, and where the type ends that is left.
-abbrev call : tie.After-count-of → tie.After-feed
-call c = c .before .before .before .before .before .before .before .before .before
-
 sent : (c : tie.After-count-of)
     → (let f = call c in
     FedInto (patch-of f) (slice-of f) (start f .args .output .now) (start f .args .next .now) (f .feed .result) (output-of f) (patch-left-of f))
@@ -145,7 +182,7 @@ part-put-fed-end-2 c = let n = c .before .before .before in omega (arith, type-c
 
 put-fed-requires : tie.Need-put-fed-requires
 put-fed-requires c κs =
-    let n = c .before .before .before .before .before in (
+    let n = count-of-before-put-fed-arg3 c in (
       omega (arith, ap length (output-field n), sent n .sections .output-short),
       omega (arith, ap length (type-field n), sent n .sections .type-short),
       start (call n) .pre .0 .line-room,
@@ -155,14 +192,14 @@ kept-inside : (c : tie.After-count-of) → call c .feed .result .patch ≤ lengt
 kept-inside c = let s = sent c in omega (arith, s .kept, s .sections .patch-short, s .patch-long, start (call c) .pre .2)
 
 slice-reshare-prefix-copy : tie.Need-slice-reshare-prefix-copy
-slice-reshare-prefix-copy c = kept-inside (c .before .before .before .before .before .before .before .before)
+slice-reshare-prefix-copy c = kept-inside (count-of-before-slice-known10 c)
 
 slice-aggregate-copy : tie.Need-slice-aggregate-copy
-slice-aggregate-copy c = sym (length-take-le _ _ (kept-inside (c .before .before .before .before .before .before .before .before .before)))
+slice-aggregate-copy c = sym (length-take-le _ _ (kept-inside (count-of-before-copy-arg c)))
 
 copy-requires : tie.Need-copy-requires
 copy-requires c κs =
-    let n = c .before .before .before .before .before .before .before .before .before .before in
+    let n = count-of-before-copy-arg2 c in
     omega (arith, ap length (patch-field n), sent n .sections .patch-short, start (call n) .pre .0 .patch-room)
 
 new-requires-2 : tie.Need-new-requires-2
@@ -182,12 +219,12 @@ same-length-8 c = search needs
 
 returns-2 : tie.Need-returns-2
 returns-2 c =
-    let n = c .before .before .before .before .before .before .before .before .before .before .before .before .before .before in
+    let n = count-of-before-new2 c in
     let s = sent n in
     rw (c .new2 .ensures)
     (slice-fed _ _ _ _ (s .written) (s .sections) (s .is-fed) (start (call n) .pre .0 .patch-room) (s .kept)
     (c .before .before .before .copy .ensures ∙ ap (λ l. at-front l (start (call n) .args .patch .now)) (patch-field n))
-    (rw (output-field n, type-field n) at (c .before .before .before .before .before .before .before .before .put-fed .ensures)))
+    (rw (output-field n, type-field n) at (put-fed-before-new2 c .put-fed .ensures)))
 
 pub feed-slice-spec : {M : Type 1} → statement M
 feed-slice-spec =

@@ -17,6 +17,31 @@ Inv-loop input patch₀ out₀ reached₀ taken₀ written₀ patch out reached 
 abbrev μ-loop : tie.MeasureT-loop
 μ-loop input patch₀ out₀ reached₀ taken₀ written₀ patch out reached taken written = length input - taken
 
+-- The map of places: what stands before what.
+abbrev at-loop-before-play-next-arg3 : tie.After-play-next-arg3 Inv-loop μ-loop → tie.At-loop Inv-loop μ-loop
+at-loop-before-play-next-arg3 c = c .before .before .before .before
+
+abbrev entry-before-play-next-arg3 : tie.After-play-next-arg3 Inv-loop μ-loop → tie.Start Inv-loop μ-loop
+entry-before-play-next-arg3 c = at-loop-before-play-next-arg3 c .before .before .before .before
+
+abbrev at-loop-before-play-next : tie.After-play-next Inv-loop μ-loop → tie.At-loop Inv-loop μ-loop
+at-loop-before-play-next c = at-loop-before-play-next-arg3 (c .before)
+
+abbrev start : tie.After-play-next Inv-loop μ-loop → tie.Start Inv-loop μ-loop
+start c = entry-before-play-next-arg3 (c .before)
+
+abbrev play-next-before-struct-known : tie.After-struct-known Inv-loop μ-loop → tie.After-play-next Inv-loop μ-loop
+play-next-before-struct-known c = c .before .before .before .before .before
+
+abbrev play-next-before-struct-known2 : tie.After-struct-known2 Inv-loop μ-loop → tie.After-play-next Inv-loop μ-loop
+play-next-before-struct-known2 c = play-next-before-struct-known (c .before)
+
+abbrev play-next-before-else1 : tie.Else1 Inv-loop μ-loop → tie.After-play-next Inv-loop μ-loop
+play-next-before-else1 c = play-next-before-struct-known2 (c .before .before)
+
+abbrev play-next-before-then1 : tie.Then1 Inv-loop μ-loop → tie.After-play-next Inv-loop μ-loop
+play-next-before-then1 c = play-next-before-struct-known2 (c .before .before)
+
 loop-holds : tie.Need-loop-holds Inv-loop μ-loop
 loop-holds c = plays-none _ _ _ _ (c .before .before .before .pre .0)
 
@@ -47,41 +72,38 @@ part-play-next-end-2 c = omega arith
 
 play-next-requires : tie.Need-play-next-requires Inv-loop μ-loop
 play-next-requires c κs =
-    let so-far = c .before .before .before .before .loop .inv in
+    let so-far = at-loop-before-play-next-arg3 c .loop .inv in
     record {
       inside = so-far .inside;
-      patch-room = omega (arith, so-far .long, c .before .before .before .before .before .before .before .before .pre .1);
+      patch-room = omega (arith, so-far .long, entry-before-play-next-arg3 c .pre .1);
       line-room = omega (arith, room-left (so-far .written), length-kept (so-far .written) (so-far .room));
     }
 
 -- What has been played with the next file.
-abbrev start : tie.After-play-next Inv-loop μ-loop → tie.Start Inv-loop μ-loop
-start c = c .before .before .before .before .before .before .before .before .before
-
 abbrev reached : tie.After-play-next Inv-loop μ-loop → Played
 reached c =
-    let l = c .before .before .before .before .before .loop in
+    let l = at-loop-before-play-next c .loop in
     let r = c .play-next .result in
     record { stage = r .stage; taken = l .taken + r .taken; written = l .written + r .written }
 
 with-next : (c : tie.After-play-next Inv-loop μ-loop)
     → (let begun = start c in
-    let l = c .before .before .before .before .before .loop in
+    let l = at-loop-before-play-next c .loop in
     Plays (begun .args .stage) (begun .args .patch .now) (begun .args .input .now) (begun .args .out .now) (reached c) (c .play-next .last .1 .1 .0)
     (back (l .written) (l .out) (c .play-next .last .1 .1 .1 .0)))
-with-next c = plays-on _ _ _ _ (c .before .before .before .before .before .loop .inv) (c .play-next .ensures .plays)
+with-next c = plays-on _ _ _ _ (at-loop-before-play-next c .loop .inv) (c .play-next .ensures .plays)
 
 add-taken : tie.Need-add-taken Inv-loop μ-loop
-add-taken c = omega (arith, with-next (c .before .before .before .before .before) .taken-inside)
+add-taken c = omega (arith, with-next (play-next-before-struct-known c) .taken-inside)
 
 add-written : tie.Need-add-written Inv-loop μ-loop
-add-written c = omega (arith, with-next (c .before .before .before .before .before .before) .room)
+add-written c = omega (arith, with-next (play-next-before-struct-known2 c) .room)
 
 loop-less : tie.Need-loop-less Inv-loop μ-loop
-loop-less c = omega (arith, with-next (c .before .before .before .before .before .before .before .before) .taken-inside)
+loop-less c = omega (arith, with-next (play-next-before-else1 c) .taken-inside)
 
 loop-again : tie.Need-loop-again Inv-loop μ-loop
-loop-again c = with-next (c .before .before .before .before .before .before .before .before)
+loop-again c = with-next (play-next-before-else1 c)
 
 same-length : tie.Need-same-length Inv-loop μ-loop
 same-length c = c .before .loop .inv .long
@@ -98,15 +120,15 @@ returns c =
     }
 
 same-length-3 : tie.Need-same-length-3 Inv-loop μ-loop
-same-length-3 c = with-next (c .before .before .before .before .before .before .before .before) .long
+same-length-3 c = with-next (play-next-before-then1 c) .long
 
 same-length-4 : tie.Need-same-length-4 Inv-loop μ-loop
-same-length-4 c = let all = with-next (c .before .before .before .before .before .before .before .before) in length-kept (all .written) (all .room)
+same-length-4 c = let all = with-next (play-next-before-then1 c) in length-kept (all .written) (all .room)
 
 returns-2 : tie.Need-returns-2 Inv-loop μ-loop
 returns-2 c =
-    let call = c .before .before .before .before .before .before .before .before in
-    let l = call .before .before .before .before .before .loop in
+    let call = play-next-before-then1 c in
+    let l = at-loop-before-play-next call .loop in
     let input = start call .args .input .now in
     let none : call .play-next .result .taken ≡ 0 = omega arith in
     let place : l .taken ≡ l .taken + call .play-next .result .taken = omega arith in

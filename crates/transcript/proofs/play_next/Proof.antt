@@ -7,6 +7,37 @@ use Rattle.transcript.specs.Playing.Laws.{FirstFile, first-file, no-file
 use Rattle.transcript.proofs.play_next.Statement.{statement}
 use Rattle.transcript.proofs.play_next.Tie as tie
 
+-- The map of places: what stands before what.
+abbrev start : tie.After-end → tie.Start
+start c = c .before .before .before .before .before .before
+
+abbrev entry-before-enum-told : tie.After-enum-told → tie.Start
+entry-before-enum-told c = c .before .before .before .before .before .before
+
+abbrev end-before-take-patch-arg2 : tie.After-take-patch-arg2 → tie.After-end
+end-before-take-patch-arg2 c = c .before .before .before .before .before .before
+
+abbrev end-before-take-slice-arg2 : tie.After-take-slice-arg2 → tie.After-end
+end-before-take-slice-arg2 c = c .before .before .before .before .before .before .before
+
+abbrev take-patch-before-taken : tie.After-taken → tie.After-take-patch
+take-patch-before-taken c = c .before .before .before .before .before
+
+abbrev enum-told2-before-taken : tie.After-taken → tie.After-enum-told2
+enum-told2-before-taken c = take-patch-before-taken c .before .before .before
+
+abbrev end-before-taken : tie.After-taken → tie.After-end
+end-before-taken c = end-before-take-patch-arg2 (take-patch-before-taken c .before)
+
+abbrev take-slice-before-taken2 : tie.After-taken2 → tie.After-take-slice
+take-slice-before-taken2 c = c .before .before .before .before .before
+
+abbrev stage-before-taken2 : tie.After-taken2 → tie.After-stage
+stage-before-taken2 c = take-slice-before-taken2 c .before .before .before .before
+
+abbrev end-before-taken2 : tie.After-taken2 → tie.After-end
+end-before-taken2 c = end-before-take-slice-arg2 (take-slice-before-taken2 c .before)
+
 section-end-requires : tie.Need-section-end-requires
 section-end-requires c κs = search needs
 
@@ -17,9 +48,6 @@ enum-known-end : tie.Need-enum-known-end
 enum-known-end c = search needs
 
 -- The first file is whole.
-abbrev start : tie.After-end → tie.Start
-start c = c .before .before .before .before .before .before
-
 first : (c : tie.After-end) → FirstFile (start c .args .input .now) (c .end .given .0 .0)
 first c = first-file _ _ (sym (c .before .before .section-end .ensures) ∙ c .end .given .1)
 
@@ -38,7 +66,7 @@ enum-told-2 c = search needs
 take-patch-requires : tie.Need-take-patch-requires
 unfolding Inside
 take-patch-requires c κs =
-    let pre = start (c .before .before .before .before .before .before) .pre in record { inside = tt; patch-room = pre .patch-room; line-room = pre .line-room }
+    let pre = start (end-before-take-patch-arg2 c) .pre in record { inside = tt; patch-room = pre .patch-room; line-room = pre .line-room }
 
 taken-requires : tie.Need-taken-requires
 taken-requires c κs = search needs
@@ -48,7 +76,7 @@ enum-known-stage c = search needs
 
 take-slice-requires : tie.Need-take-slice-requires
 take-slice-requires c κs =
-    let begun = start (c .before .before .before .before .before .before .before) in
+    let begun = start (end-before-take-slice-arg2 c) in
     record {
       inside = subst (λ s. Inside s (begun .args .patch .now)) (c .before .before .before .stage .given .1) (begun .pre .inside);
       patch-room = begun .pre .patch-room;
@@ -63,7 +91,7 @@ enum-told-3 c = search needs
 
 returns : tie.Need-returns
 returns c =
-    let begun = c .before .before .before .before .before .before in
+    let begun = entry-before-enum-told c in
     plays-nothing _ _ _ _ (begun .pre .inside) (no-file (no-file-first _ _ (sym (c .before .before .section-end .ensures) ∙ c .enum-told .given .1)))
 
 same-length : tie.Need-same-length
@@ -74,9 +102,9 @@ same-length-2 c = search needs
 
 returns-2 : tie.Need-returns-2
 returns-2 c =
-    let file = c .before .before .before .before .before .before .before .before .before .before .before .before in
-    rw (c .taken .ensures, c .before .before .before .before .before .before .before .before .enum-told2 .given .1)
-    (plays-file _ _ _ _ (first file) (start file .pre .line-room) (c .before .before .before .before .before .take-patch .ensures))
+    let file = end-before-taken c in
+    rw (c .taken .ensures, enum-told2-before-taken c .enum-told2 .given .1)
+    (plays-file _ _ _ _ (first file) (start file .pre .line-room) (take-patch-before-taken c .take-patch .ensures))
 
 same-length-3 : tie.Need-same-length-3
 same-length-3 c = search needs
@@ -86,9 +114,9 @@ same-length-4 c = search needs
 
 returns-3 : tie.Need-returns-3
 returns-3 c =
-    let file = c .before .before .before .before .before .before .before .before .before .before .before .before .before in
-    rw (c .taken2 .ensures, c .before .before .before .before .before .before .before .before .before .stage .given .1)
-    (plays-file _ _ _ _ (first file) (start file .pre .line-room) (c .before .before .before .before .before .take-slice .ensures))
+    let file = end-before-taken2 c in
+    rw (c .taken2 .ensures, stage-before-taken2 c .stage .given .1)
+    (plays-file _ _ _ _ (first file) (start file .pre .line-room) (take-slice-before-taken2 c .take-slice .ensures))
 
 returns-4 : tie.Need-returns-4
 unfolding state-of Inside

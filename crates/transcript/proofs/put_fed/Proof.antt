@@ -12,6 +12,16 @@ use Rattle.transcript.specs.Transcripts.Laws.{hexadecimal-length}
 use Rattle.transcript.proofs.put_fed.Statement.{statement}
 use Rattle.transcript.proofs.put_fed.Tie as tie
 
+-- The map of places: what stands before what.
+abbrev entry-before-put-hexadecimal-arg : tie.After-put-hexadecimal-arg → tie.Start
+entry-before-put-hexadecimal-arg c = c .before .before .before .before
+
+abbrev begin : tie.After-put-hexadecimal → tie.Start
+begin c = entry-before-put-hexadecimal-arg (c .before)
+
+abbrev first : tie.After-put-hexadecimal2 → tie.After-put-hexadecimal
+first c = c .before .before .before .before
+
 slice-write-out : tie.Need-slice-write-out
 slice-write-out c = search needs
 
@@ -33,7 +43,7 @@ part-put-hexadecimal-end c = search needs
 
 put-hexadecimal-requires : tie.Need-put-hexadecimal-requires
 put-hexadecimal-requires c κs =
-    let start = c .before .before .before .before in
+    let start = entry-before-put-hexadecimal-arg c in
     omega (arith, room-left (opened (start .args .out .now) (omega arith)))
 
 mul-middle : tie.Need-mul-middle
@@ -43,9 +53,6 @@ add-middle : tie.Need-add-middle
 add-middle c = search needs
 
 -- The output behind it, and a space.
-abbrev begin : tie.After-put-hexadecimal → tie.Start
-begin c = c .before .before .before .before .before
-
 abbrev middle : tie.After-put-hexadecimal → ℕ
 middle c = 2 + 2 * length (begin c .args .output .now)
 
@@ -91,9 +98,6 @@ add-end-2 : tie.Need-add-end-2
 add-end-2 c = search needs
 
 -- The type behind them, and the line feed.
-abbrev first : tie.After-put-hexadecimal2 → tie.After-put-hexadecimal
-first c = c .before .before .before .before
-
 abbrev end : tie.After-put-hexadecimal2 → ℕ
 end c = middle (first c) + 1 + 2 * length (begin (first c) .args .ty .now)
 

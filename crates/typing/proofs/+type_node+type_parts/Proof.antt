@@ -69,49 +69,166 @@ module _ (t : ℕ) where
     limit-reads.Learnt,
   )
 
+  -- The map of places: what stands before what.
+  abbrev type-node-entry-before-shared-slice-known3 : type-node-lts.After-shared-slice-known3 calls-node node-here type-node.Post
+      → type-node-lts.Start calls-node node-here type-node.Post
+  type-node-entry-before-shared-slice-known3 c = c .before .before .before .before
+
+  abbrev type-node-entry-before-match-keys1 : type-node-lts.At-match-keys1 calls-node node-here type-node.Post
+      → type-node-lts.Start calls-node node-here type-node.Post
+  type-node-entry-before-match-keys1 c = type-node-entry-before-shared-slice-known3 (c .before)
+
+  abbrev type-node-entry-before-match-keys3 : type-node-lts.At-match-keys3 calls-node node-here type-node.Post
+      → type-node-lts.Start calls-node node-here type-node.Post
+  type-node-entry-before-match-keys3 c = type-node-entry-before-shared-slice-known3 (c .before)
+
+  abbrev type-node-entry-before-middle : type-node-lts.After-middle calls-node node-here type-node.Post
+      → type-node-lts.Start calls-node node-here type-node.Post
+  type-node-entry-before-middle c = type-node-entry-before-match-keys3 (c .before)
+
+  abbrev type-node-entry-before-shared-slice-known4 : type-node-lts.After-shared-slice-known4 calls-node node-here type-node.Post
+      → type-node-lts.Start calls-node node-here type-node.Post
+  type-node-entry-before-shared-slice-known4 c = type-node-entry-before-shared-slice-known3 (c .before .before)
+
+  abbrev type-node-entry-before-type-leaf-arg : type-node-lts.After-type-leaf-arg calls-node node-here type-node.Post
+      → type-node-lts.Start calls-node node-here type-node.Post
+  type-node-entry-before-type-leaf-arg c = type-node-entry-before-shared-slice-known3 (c .before .before)
+
+  abbrev type-node-entry-before-type-parts-arg : type-node-lts.After-type-parts-arg calls-node node-here type-node.Post
+      → type-node-lts.Start calls-node node-here type-node.Post
+  type-node-entry-before-type-parts-arg c = type-node-entry-before-match-keys1 (c .before)
+
+  abbrev type-node-entry-before-type-node : type-node-lts.After-type-node calls-node node-here type-node.Post
+      → type-node-lts.Start calls-node node-here type-node.Post
+  type-node-entry-before-type-node c = type-node-entry-before-middle (c .before)
+
+  abbrev type-node-entry-before-else1 : type-node-lts.Else1 calls-node node-here type-node.Post
+      → type-node-lts.Start calls-node node-here type-node.Post
+  type-node-entry-before-else1 c = type-node-entry-before-shared-slice-known4 (c .before)
+
+  abbrev type-node-entry-before-skip-type : type-node-lts.After-skip-type calls-node node-here type-node.Post
+      → type-node-lts.Start calls-node node-here type-node.Post
+  type-node-entry-before-skip-type c = type-node-entry-before-else1 (c .before)
+
+  abbrev type-node-match-keys1-before-slice-known2 : type-node-lts.After-slice-known2 calls-node node-here type-node.Post
+      → type-node-lts.At-match-keys1 calls-node node-here type-node.Post
+  type-node-match-keys1-before-slice-known2 c = c .before .before .before .before
+
+  abbrev type-node-entry-before-type-parts-arg2 : type-node-lts.After-type-parts-arg2 calls-node node-here type-node.Post
+      → type-node-lts.Start calls-node node-here type-node.Post
+  type-node-entry-before-type-parts-arg2 c = type-node-entry-before-skip-type (c .before)
+
+  abbrev type-node-type-node-before-known-told : type-node-lts.After-known-told calls-node node-here type-node.Post
+      → type-node-lts.After-type-node calls-node node-here type-node.Post
+  type-node-type-node-before-known-told c = c .before .before .before .before
+
+  abbrev type-node-type-node-before-middle3 : type-node-lts.After-middle3 calls-node node-here type-node.Post
+      → type-node-lts.After-type-node calls-node node-here type-node.Post
+  type-node-type-node-before-middle3 c = c .before .before .before .before .before
+
+  abbrev type-node-skip-type-before-slice-known3 : type-node-lts.After-slice-known3 calls-node node-here type-node.Post
+      → type-node-lts.After-skip-type calls-node node-here type-node.Post
+  type-node-skip-type-before-slice-known3 c = c .before .before .before .before
+
+  abbrev type-node-else1-before-slice-known3 : type-node-lts.After-slice-known3 calls-node node-here type-node.Post
+      → type-node-lts.Else1 calls-node node-here type-node.Post
+  type-node-else1-before-slice-known3 c = type-node-skip-type-before-slice-known3 c .before
+
+  abbrev type-node-type-node-before-type-node-arg : type-node-lts.After-type-node-arg calls-node node-here type-node.Post
+      → type-node-lts.After-type-node calls-node node-here type-node.Post
+  type-node-type-node-before-type-node-arg c = type-node-type-node-before-middle3 (c .before)
+
+  abbrev type-node-second-before-slice-known4 : type-node-lts.After-slice-known4 calls-node node-here type-node.Post
+      → type-node-lts.After-second calls-node node-here type-node.Post
+  type-node-second-before-slice-known4 c = c .before .before .before .before .before .before
+
+  abbrev type-node-type-node-before-slice-known4 : type-node-lts.After-slice-known4 calls-node node-here type-node.Post
+      → type-node-lts.After-type-node calls-node node-here type-node.Post
+  type-node-type-node-before-slice-known4 c = type-node-type-node-before-type-node-arg (c .before .before .before)
+
+  abbrev type-parts-entry-before-type-node-arg : type-parts-lts.After-type-node-arg calls-parts parts-here type-parts.Post
+      → type-parts-lts.Start calls-parts parts-here type-parts.Post
+  type-parts-entry-before-type-node-arg c = c .before .before .before .before .before .before .before .before .before
+
+  abbrev type-parts-append-kind-before-type-node : type-parts-lts.After-type-node calls-parts parts-here type-parts.Post
+      → type-parts-lts.After-append-kind calls-parts parts-here type-parts.Post
+  type-parts-append-kind-before-type-node c = c .before .before .before .before .before
+
+  abbrev entry : type-parts-lts.After-type-node calls-parts parts-here type-parts.Post
+      → type-parts-lts.Start calls-parts parts-here type-parts.Post
+  entry c = type-parts-entry-before-type-node-arg (c .before)
+
+  abbrev type-parts-type-node-before-known-told : type-parts-lts.After-known-told calls-parts parts-here type-parts.Post
+      → type-parts-lts.After-type-node calls-parts parts-here type-parts.Post
+  type-parts-type-node-before-known-told c = c .before .before .before .before .before
+
+  abbrev answer-given : type-parts-lts.After-known-told2 calls-parts parts-here type-parts.Post
+      → type-parts-lts.After-type-node calls-parts parts-here type-parts.Post
+  answer-given c = c .before .before .before .before .before
+
+  abbrev type-parts-next-before-type-node2 : type-parts-lts.After-type-node2 calls-parts parts-here type-parts.Post
+      → type-parts-lts.After-next calls-parts parts-here type-parts.Post
+  type-parts-next-before-type-node2 c = c .before .before .before .before
+
+  abbrev type-parts-type-node-before-type-node2 : type-parts-lts.After-type-node2 calls-parts parts-here type-parts.Post
+      → type-parts-lts.After-type-node calls-parts parts-here type-parts.Post
+  type-parts-type-node-before-type-node2 c = answer-given (c .before .before .before)
+
+  abbrev type-parts-type-node2-before-known-told3 : type-parts-lts.After-known-told3 calls-parts parts-here type-parts.Post
+      → type-parts-lts.After-type-node2 calls-parts parts-here type-parts.Post
+  type-parts-type-node2-before-known-told3 c = c .before .before .before .before .before
+
+  abbrev type-parts-type-node2-before-known-told4 : type-parts-lts.After-known-told4 calls-parts parts-here type-parts.Post
+      → type-parts-lts.After-type-node2 calls-parts parts-here type-parts.Post
+  type-parts-type-node2-before-known-told4 c = c .before .before .before .before .before
+
+  abbrev type-parts-type-node2-before-limit : type-parts-lts.After-limit calls-parts parts-here type-parts.Post
+      → type-parts-lts.After-type-node2 calls-parts parts-here type-parts.Post
+  type-parts-type-node2-before-limit c = type-parts-type-node2-before-known-told4 (c .before)
+
   type-node-shared-slice-read-match : type-node-lts.Need-shared-slice-read-match calls-node node-here type-node.Post
-  type-node-shared-slice-read-match c = starts-inside (c .before .before .before .before .pre .1 .node-at)
+  type-node-shared-slice-read-match c = starts-inside (type-node-entry-before-shared-slice-known3 c .pre .1 .node-at)
 
   type-node-add-type-parts : type-node-lts.Need-add-type-parts calls-node node-here type-node.Post
-  type-node-add-type-parts c = omega (arith, starts-inside (c .before .before .before .before .before .pre .1 .node-at))
+  type-node-add-type-parts c = omega (arith, starts-inside (type-node-entry-before-match-keys1 c .pre .1 .node-at))
 
   type-node-type-parts-requires : type-node-lts.Need-type-parts-requires calls-node node-here type-node.Post
   type-node-type-parts-requires c κs =
-      let entry = c .before .before .before .before .before .before in
+      let entry = type-node-entry-before-type-parts-arg c in
       (omega (arith, entry .pre .0, starts-inside (entry .pre .1 .node-at)), parts-due both-splits (c .before .match .keys1) (entry .pre .1))
 
   type-node-shared-slice-read-if1 : type-node-lts.Need-shared-slice-read-if1 calls-node node-here type-node.Post
-  type-node-shared-slice-read-if1 c = type-inside (c .before .before .before .before .before .before .pre .1 .type-at)
+  type-node-shared-slice-read-if1 c = type-inside (type-node-entry-before-shared-slice-known4 c .pre .1 .type-at)
 
   type-node-returns : type-node-lts.Need-returns calls-node node-here type-node.Post
   type-node-returns c = then-refused (c .before .before .match .keys2) (c .if1 .taken)
 
   type-node-add-first : type-node-lts.Need-add-first calls-node node-here type-node.Post
-  type-node-add-first c = omega (arith, type-inside (c .before .before .before .before .before .before .before .pre .1 .type-at))
+  type-node-add-first c = omega (arith, type-inside (type-node-entry-before-else1 c .pre .1 .type-at))
 
   type-node-skip-type-requires : type-node-lts.Need-skip-type-requires calls-node node-here type-node.Post
-  type-node-skip-type-requires c κs = sequence-first (c .if1 .left) (c .before .before .before .before .before .before .before .pre .1)
+  type-node-skip-type-requires c κs = sequence-first (c .if1 .left) (type-node-entry-before-else1 c .pre .1)
 
   type-node-add-type-parts-2 : type-node-lts.Need-add-type-parts-2 calls-node node-here type-node.Post
-  type-node-add-type-parts-2 c = omega (arith, starts-inside (c .before .before .before .before .before .before .before .before .pre .1 .node-at))
+  type-node-add-type-parts-2 c = omega (arith, starts-inside (type-node-entry-before-skip-type c .pre .1 .node-at))
 
   type-node-type-parts-requires-2 : type-node-lts.Need-type-parts-requires-2 calls-node node-here type-node.Post
   type-node-type-parts-requires-2 c κs =
-      let entry = c .before .before .before .before .before .before .before .before .before in
+      let entry = type-node-entry-before-type-parts-arg2 c in
       let sequence = c .before .before in (
         omega (arith, entry .pre .0, starts-inside (entry .pre .1 .node-at)),
         parts-due (then-splits (sequence .if1 .left) (c .before .skip-type .ensures)) (sequence .before .before .match .keys2) (entry .pre .1),
       )
 
   type-node-add-type-node : type-node-lts.Need-add-type-node calls-node node-here type-node.Post
-  type-node-add-type-node c = omega (arith, starts-inside (c .before .before .before .before .before .pre .1 .node-at))
+  type-node-add-type-node c = omega (arith, starts-inside (type-node-entry-before-match-keys3 c .pre .1 .node-at))
 
   type-node-slice-aggregate-type-node : type-node-lts.Need-slice-aggregate-type-node calls-node node-here type-node.Post
   type-node-slice-aggregate-type-node c = search needs
 
   type-node-type-node-requires : type-node-lts.Need-type-node-requires calls-node node-here type-node.Post
   type-node-type-node-requires c κs =
-      let entry = c .before .before .before .before .before .before in
+      let entry = type-node-entry-before-middle c in
       (omega (arith, entry .pre .0, starts-inside (entry .pre .1 .node-at)), chain-first (c .before .match .keys3) (entry .pre .1))
 
   type-node-enum-known-fault : type-node-lts.Need-enum-known-fault calls-node node-here type-node.Post
@@ -122,14 +239,14 @@ module _ (t : ℕ) where
 
   type-node-slice-aggregate-type-node-2 : type-node-lts.Need-slice-aggregate-type-node-2 calls-node node-here type-node.Post
   type-node-slice-aggregate-type-node-2 c =
-      let first = c .before .before .before .before .before in
+      let first = type-node-type-node-before-middle3 c in
       sym (middle-kept (first .before .before .match .keys3) (first .type-node .ensures)
-      (first .before .before .before .before .before .before .before .pre .1))
+      (type-node-entry-before-type-node first .pre .1))
 
   type-node-type-node-requires-2 : type-node-lts.Need-type-node-requires-2 calls-node node-here type-node.Post
   type-node-type-node-requires-2 c κs =
-      let first = c .before .before .before .before .before .before in
-      let entry = first .before .before .before .before .before .before .before in
+      let first = type-node-type-node-before-type-node-arg c in
+      let entry = type-node-entry-before-type-node first in
       let gives = c .before .before .before .second .given .1 in (
         omega (
           arith,
@@ -143,26 +260,26 @@ module _ (t : ℕ) where
   type-node-type-leaf-requires : type-node-lts.Need-type-leaf-requires calls-node node-here type-node.Post
   type-node-type-leaf-requires c κs =
       let leaf = c .before .match .rest in
-      (c .before .before .before .before .before .before .pre .1, leaf-arity _ (leaf .0 .0 .1) (leaf .0 .1) (leaf .1))
+      (type-node-entry-before-type-leaf-arg c .pre .1, leaf-arity _ (leaf .0 .0 .1) (leaf .0 .1) (leaf .1))
 
   type-node-same-length : type-node-lts.Need-same-length calls-node node-here type-node.Post
   type-node-same-length c = search needs
 
   type-node-returns-2 : type-node-lts.Need-returns-2 calls-node node-here type-node.Post
-  type-node-returns-2 c = parts-typed both-splits (c .before .before .before .before .match .keys1) (c .before .before .type-parts .ensures)
+  type-node-returns-2 c = parts-typed both-splits (type-node-match-keys1-before-slice-known2 c .match .keys1) (c .before .before .type-parts .ensures)
 
   type-node-same-length-2 : type-node-lts.Need-same-length-2 calls-node node-here type-node.Post
   type-node-same-length-2 c = search needs
 
   type-node-returns-3 : type-node-lts.Need-returns-3 calls-node node-here type-node.Post
   type-node-returns-3 c =
-      let sequence = c .before .before .before .before .before in
-      parts-typed (then-splits (sequence .if1 .left) (c .before .before .before .before .skip-type .ensures)) (sequence .before .before .match .keys2)
+      let sequence = type-node-else1-before-slice-known3 c in
+      parts-typed (then-splits (sequence .if1 .left) (type-node-skip-type-before-slice-known3 c .skip-type .ensures)) (sequence .before .before .match .keys2)
       (c .before .before .type-parts2 .ensures)
 
   type-node-returns-4 : type-node-lts.Need-returns-4 calls-node node-here type-node.Post
   type-node-returns-4 c =
-      let first = c .before .before .before .before in
+      let first = type-node-type-node-before-known-told c in
       chain-failed (first .before .before .match .keys3) (first .type-node .ensures) _ (c .before .fault .given .1)
 
   type-node-same-length-3 : type-node-lts.Need-same-length-3 calls-node node-here type-node.Post
@@ -170,9 +287,9 @@ module _ (t : ℕ) where
 
   type-node-returns-5 : type-node-lts.Need-returns-5 calls-node node-here type-node.Post
   type-node-returns-5 c =
-      let first = c .before .before .before .before .before .before .before .before .before in
+      let first = type-node-type-node-before-slice-known4 c in
       chain-typed (first .before .before .match .keys3) (first .type-node .ensures)
-      (c .before .before .before .before .before .before .second .given .1) refl (c .before .before .type-node2 .ensures)
+      (type-node-second-before-slice-known4 c .second .given .1) refl (c .before .before .type-node2 .ensures)
 
   type-node-same-length-4 : type-node-lts.Need-same-length-4 calls-node node-here type-node.Post
   type-node-same-length-4 c = search needs
@@ -185,16 +302,13 @@ module _ (t : ℕ) where
   abbrev Answered : Type 0
   Answered = type-parts-lts.After-type-node calls-parts parts-here type-parts.Post
 
-  abbrev entry : Answered → type-parts-lts.Start calls-parts parts-here type-parts.Post
-  entry c = c .before .before .before .before .before .before .before .before .before .before
-
   first-answer : (c : Answered)
       → FirstAnswer (entry c .args .kind) (entry c .args .types .now) (entry c .args .first) (entry c .args .nodes .now) (entry c .args .from)
-      (entry c .args .out .now) (c .before .before .before .before .before .append-kind .last .1 .1 .0) (c .type-node .last .1 .1 .1 .1 .0)
-      (c .before .before .before .before .before .append-kind .result) (c .before .before .within .result) (c .type-node .result)
+      (entry c .args .out .now) (type-parts-append-kind-before-type-node c .append-kind .last .1 .1 .0) (c .type-node .last .1 .1 .1 .1 .0)
+      (type-parts-append-kind-before-type-node c .append-kind .result) (c .before .before .within .result) (c .type-node .result)
   first-answer c =
       record {
-        kind-written = c .before .before .before .before .before .append-kind .ensures;
+        kind-written = type-parts-append-kind-before-type-node c .append-kind .ensures;
         starts = c .before .before .within .ensures;
         typed = c .type-node .ensures;
       }
@@ -202,12 +316,9 @@ module _ (t : ℕ) where
   abbrev Given : Type 0
   Given = type-parts-lts.After-known-told2 calls-parts parts-here type-parts.Post
 
-  abbrev answer-given : Given → Answered
-  answer-given c = c .before .before .before .before .before
-
   first-gives : (c : Given)
       → FirstGiven (entry (answer-given c) .args .nodes .now) (entry (answer-given c) .args .from)
-      (answer-given c .before .before .before .before .before .append-kind .result) (c .before .next .given .0 .0) (c .before .next .given .0 .1 .0)
+      (type-parts-append-kind-before-type-node (answer-given c) .append-kind .result) (c .before .next .given .0 .0) (c .before .next .given .0 .1 .0)
   first-gives c = first-given (first-answer (answer-given c)) (c .before .next .given .1) (entry (answer-given c) .pre .1)
 
   type-parts-append-kind-requires : type-parts-lts.Need-append-kind-requires calls-parts parts-here type-parts.Post
@@ -227,7 +338,7 @@ module _ (t : ℕ) where
 
   type-parts-type-node-requires : type-parts-lts.Need-type-node-requires calls-parts parts-here type-parts.Post
   type-parts-type-node-requires c κs =
-      let entry = c .before .before .before .before .before .before .before .before .before in
+      let entry = type-parts-entry-before-type-node-arg c in
       (omega (arith, entry .pre .0), first-due (entry .pre .1))
 
   type-parts-enum-known-fault : type-parts-lts.Need-enum-known-fault calls-parts parts-here type-parts.Post
@@ -254,7 +365,7 @@ module _ (t : ℕ) where
   type-parts-type-node-requires-2 : type-parts-lts.Need-type-node-requires-2 calls-parts parts-here type-parts.Post
   type-parts-type-node-requires-2 c κs =
       let given = c .before .before in
-      let first = given .before .before .before .before .before in (
+      let first = answer-given given in (
         omega (arith, entry first .pre .0, first-gives given),
         second-due (first-answer first) (given .before .next .given .1) (entry first .pre .1),
       )
@@ -267,12 +378,12 @@ module _ (t : ℕ) where
 
   type-parts-add-limit : type-parts-lts.Need-add-limit calls-parts parts-here type-parts.Post
   type-parts-add-limit c =
-      let second = c .before .before .before .before .before in
-      let first = second .before .before .before .before .before .before .before .before in
+      let second = type-parts-type-node2-before-known-told4 c in
+      let first = type-parts-type-node-before-type-node2 second in
       omega (
         arith,
         first-gives (second .before .before .before),
-        second-small (first-answer first) (second .before .before .before .before .next .given .1) (second .before .before .within2 .ensures)
+        second-small (first-answer first) (type-parts-next-before-type-node2 second .next .given .1) (second .before .before .within2 .ensures)
             (second .type-node2 .ensures) (c .before .end .given .1) (entry first .pre .1),
       )
 
@@ -281,41 +392,41 @@ module _ (t : ℕ) where
 
   type-parts-same-length : type-parts-lts.Need-same-length calls-parts parts-here type-parts.Post
   type-parts-same-length c =
-      let first = c .before .before .before .before .before in
+      let first = type-parts-type-node-before-known-told c in
       first-kept (first-answer first) (entry first .pre .1)
 
   type-parts-returns : type-parts-lts.Need-returns calls-parts parts-here type-parts.Post
   type-parts-returns c =
-      let first = c .before .before .before .before .before in
+      let first = type-parts-type-node-before-known-told c in
       first-failed (first-answer first) _ (c .before .fault .given .1)
 
   type-parts-same-length-2 : type-parts-lts.Need-same-length-2 calls-parts parts-here type-parts.Post
   type-parts-same-length-2 c =
-      let second = c .before .before .before .before .before in
-      let first = second .before .before .before .before .before .before .before .before in
-      second-kept (first-answer first) (second .before .before .before .before .next .given .1) (second .before .before .within2 .ensures)
+      let second = type-parts-type-node2-before-known-told3 c in
+      let first = type-parts-type-node-before-type-node2 second in
+      second-kept (first-answer first) (type-parts-next-before-type-node2 second .next .given .1) (second .before .before .within2 .ensures)
       (second .type-node2 .ensures) (entry first .pre .1)
 
   type-parts-returns-2 : type-parts-lts.Need-returns-2 calls-parts parts-here type-parts.Post
   type-parts-returns-2 c =
-      let second = c .before .before .before .before .before in
-      let first = second .before .before .before .before .before .before .before .before in
-      second-failed (first-answer first) (second .before .before .before .before .next .given .1) (second .before .before .within2 .ensures)
+      let second = type-parts-type-node2-before-known-told3 c in
+      let first = type-parts-type-node-before-type-node2 second in
+      second-failed (first-answer first) (type-parts-next-before-type-node2 second .next .given .1) (second .before .before .within2 .ensures)
       (second .type-node2 .ensures) _ (c .before .fault2 .given .1)
 
   type-parts-same-length-3 : type-parts-lts.Need-same-length-3 calls-parts parts-here type-parts.Post
   type-parts-same-length-3 c =
-      let second = c .before .before .before .before .before .before in
-      let first = second .before .before .before .before .before .before .before .before in
-      second-kept (first-answer first) (second .before .before .before .before .next .given .1) (second .before .before .within2 .ensures)
+      let second = type-parts-type-node2-before-limit c in
+      let first = type-parts-type-node-before-type-node2 second in
+      second-kept (first-answer first) (type-parts-next-before-type-node2 second .next .given .1) (second .before .before .within2 .ensures)
       (second .type-node2 .ensures) (entry first .pre .1)
 
   type-parts-returns-3 : type-parts-lts.Need-returns-3 calls-parts parts-here type-parts.Post
   type-parts-returns-3 c =
-      let second = c .before .before .before .before .before .before in
-      let first = second .before .before .before .before .before .before .before .before in
+      let second = type-parts-type-node2-before-limit c in
+      let first = type-parts-type-node-before-type-node2 second in
       rw (c .limit .ensures)
-      (both-given (first-answer first) (second .before .before .before .before .next .given .1) (second .before .before .within2 .ensures)
+      (both-given (first-answer first) (type-parts-next-before-type-node2 second .next .given .1) (second .before .before .within2 .ensures)
       (second .type-node2 .ensures) (c .before .before .end .given .1))
 
 pub +type-node+type-parts-spec : {M : Type 1} → statement M

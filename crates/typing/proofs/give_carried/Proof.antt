@@ -8,6 +8,10 @@ use Rattle.typing.specs.Typing.Laws.{requires-fails, requires-holds}
 use Rattle.typing.proofs.give_carried.Statement.{statement}
 use Rattle.typing.proofs.give_carried.Tie as tie
 
+-- The map of places: what stands before what.
+abbrev skip-type-before-slice-known2 : tie.After-slice-known2 → tie.After-skip-type
+skip-type-before-slice-known2 c = c .before .before .before .before
+
 is-nullable-requires : tie.Need-is-nullable-requires
 is-nullable-requires c κs = search needs
 
@@ -29,7 +33,7 @@ same-length c = search needs
 
 returns-2 : tie.Need-returns-2
 returns-2 c =
-    let skipped = c .before .before .before .before in
+    let skipped = skip-type-before-slice-known2 c in
     let asked = skipped .before .before in
     record {
       each = λ n stands.

@@ -13,6 +13,19 @@ use Rattle.typing.specs.Typing.Laws.{type-taken, answers-written}
 use Rattle.typing.proofs.give_front.Statement.{statement}
 use Rattle.typing.proofs.give_front.Tie as tie
 
+-- The map of places: what stands before what.
+abbrev append-kind-before-append-kind2 : tie.After-append-kind2 → tie.After-append-kind
+append-kind-before-append-kind2 c = c .before .before .before .before
+
+abbrev skip-type-before-slice-known3 : tie.After-slice-known3 → tie.After-skip-type
+skip-type-before-slice-known3 c = append-kind-before-append-kind2 (c .before .before) .before .before
+
+abbrev append-kind2-before-append-arg2 : tie.After-append-arg2 → tie.After-append-kind2
+append-kind2-before-append-arg2 c = c .before .before .before .before
+
+abbrev append-kind2-before-append : tie.After-append → tie.After-append-kind2
+append-kind2-before-append c = append-kind2-before-append-arg2 (c .before)
+
 skip-type-requires : tie.Need-skip-type-requires
 skip-type-requires c κs = search needs
 
@@ -24,7 +37,7 @@ append-kind-requires-2 c κs = search needs
 
 sub-append : tie.Need-sub-append
 sub-append c =
-    let skipped = c .before .before .before .before .before .before .before .before in
+    let skipped = skip-type-before-slice-known3 c in
     let due = skipped .before .before .before .pre in
     omega (arith, skipped .skip-type .ensures .each (due .type) (due .stands))
 
@@ -33,14 +46,14 @@ part-append-start c = sub-append c
 
 part-append-end : tie.Need-part-append-end
 part-append-end c =
-    let skipped = c .before .before .before .before .before .before .before .before in
+    let skipped = skip-type-before-slice-known3 c in
     let due = skipped .before .before .before .pre in
     omega (arith, skipped .skip-type .ensures .each (due .type) (due .stands), ends-inside (due .stands))
 
 append-requires : tie.Need-append-requires
 append-requires c κs =
-    let second = c .before .before .before .before in
-    let first = second .before .before .before .before in
+    let second = append-kind2-before-append-arg2 c in
+    let first = append-kind-before-append-kind2 second in
     let skipped = first .before .before in
     let due = skipped .before .before .before .pre in
     rw (type-taken (due .stands) (skipped .skip-type .ensures))
@@ -63,8 +76,8 @@ returns : tie.Need-returns
 unfolding typing type-bytes
 returns c =
     let copied = c .before .before .before in
-    let second = copied .before .before .before .before .before in
-    let first = second .before .before .before .before in
+    let second = append-kind2-before-append copied in
+    let first = append-kind-before-append-kind2 second in
     let skipped = first .before .before in
     record {
       each = λ t stands.

@@ -11,6 +11,19 @@ use Rattle.typing.specs.Typing.Laws.{requires-fails, requires-holds}
 use Rattle.typing.proofs.give_second.Statement.{statement}
 use Rattle.typing.proofs.give_second.Tie as tie
 
+-- The map of places: what stands before what.
+abbrev entry-before-else1 : tie.Else1 → tie.Start
+entry-before-else1 c = c .before .before .before .before
+
+abbrev entry-before-skip-type : tie.After-skip-type → tie.Start
+entry-before-skip-type c = entry-before-else1 (c .before)
+
+abbrev entry-before-give-type-arg : tie.After-give-type-arg → tie.Start
+entry-before-give-type-arg c = entry-before-skip-type (c .before)
+
+abbrev skip-type-before-slice-known2 : tie.After-slice-known2 → tie.After-skip-type
+skip-type-before-slice-known2 c = c .before .before .before .before
+
 shared-slice-read-if1 : tie.Need-shared-slice-read-if1
 shared-slice-read-if1 c = starts-inside (c .before .before .before .pre .0 .stands)
 
@@ -18,17 +31,17 @@ returns : tie.Need-returns
 returns c = record { each = λ t stands. requires-fails (gives (second-part t)) (other-shape stands (c .if1 .taken)) refl }
 
 add-first : tie.Need-add-first
-add-first c = omega (arith, starts-inside (c .before .before .before .before .pre .0 .stands))
+add-first c = omega (arith, starts-inside (entry-before-else1 c .pre .0 .stands))
 
 skip-type-requires : tie.Need-skip-type-requires
 skip-type-requires c κs =
-    let due = c .before .before .before .before .pre in
+    let due = entry-before-else1 c .pre in
     let stands = due .0 .stands in
     record { type = first-part (due .0 .type); stands = first-at stands (is-fork stands (c .if1 .left) (due .1)) }
 
 give-type-requires : tie.Need-give-type-requires
 give-type-requires c κs =
-    let due = c .before .before .before .before .before .before .pre in
+    let due = entry-before-give-type-arg c .pre in
     let stands = due .0 .stands in
     record {
       type = second-part (due .0 .type);
@@ -40,9 +53,9 @@ same-length c = search needs
 
 returns-2 : tie.Need-returns-2
 returns-2 c =
-    let skipped = c .before .before .before .before in
+    let skipped = skip-type-before-slice-known2 c in
     let same = skipped .before .if1 .left in
-    let fork = skipped .before .before .before .before .before .pre .1 in
+    let fork = entry-before-skip-type skipped .pre .1 in
     record {
       each = λ t stands.
           requires-holds WrongShape (same-shape stands same)

@@ -7,6 +7,10 @@ use Rattle.typing.specs.Typing.Laws.{type-taken, answers-small}
 use Rattle.typing.proofs.give_type.Statement.{statement}
 use Rattle.typing.proofs.give_type.Tie as tie
 
+-- The map of places: what stands before what.
+abbrev skip-type-before-slice-known2 : tie.After-slice-known2 → tie.After-skip-type
+skip-type-before-slice-known2 c = c .before .before .before .before .before
+
 skip-type-requires : tie.Need-skip-type-requires
 skip-type-requires c κs = search needs
 
@@ -34,7 +38,7 @@ returns c =
     record {
       each = λ t stands.
           answers-small t (stands .small) (written-on (nothing-written _) (c .before .before .append .ensures))
-          (type-taken stands (c .before .before .before .before .before .skip-type .ensures));
+          (type-taken stands (skip-type-before-slice-known2 c .skip-type .ensures));
     }
 
 pub give-type-spec : {M : Type 1} → statement M

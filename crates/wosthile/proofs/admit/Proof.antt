@@ -11,22 +11,23 @@ use Rattle.wosthile.proofs.Opening.{type-stops, slice-stops, goes-on}
 use Rattle.wosthile.proofs.admit.Statement.{statement}
 use Rattle.wosthile.proofs.admit.Tie as tie
 
--- The places: the entry, from where the type file has been read; where each file is accepted, and where one is refused.
-
+-- The map of places: what stands before what.
 abbrev entry : tie.After-read-type-file → tie.Start
 entry c = c .before .before .before
 
 abbrev type-told : tie.After-known-told2 → tie.After-read-type-file
 type-told c = c .before .before .before
 
-abbrev slice-told : tie.After-known-told4 → tie.After-read-slice-file
-slice-told c = c .before .before .before
-
 abbrev refused-type : tie.After-refused → tie.After-read-type-file
 refused-type c = c .before .before .before .before
 
+abbrev slice-told : tie.After-known-told4 → tie.After-read-slice-file
+slice-told c = c .before .before .before
+
 abbrev refused-slice : tie.After-refused2 → tie.After-read-slice-file
 refused-slice c = c .before .before .before .before
+
+-- The places: the entry, from where the type file has been read; where each file is accepted, and where one is refused.
 
 read-type-file-requires : tie.Need-read-type-file-requires
 read-type-file-requires c κs = search needs

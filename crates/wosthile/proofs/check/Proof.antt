@@ -15,6 +15,25 @@ use Rattle.wosthile.proofs.CheckOutcome.{not-read, TypeGiven, not-typed
 use Rattle.wosthile.proofs.check.Statement.{statement}
 use Rattle.wosthile.proofs.check.Tie as tie
 
+-- The map of places: what stands before what.
+abbrev read-patch-file-before-refused : tie.After-refused → tie.After-read-patch-file
+read-patch-file-before-refused c = c .before .before .before .before
+
+abbrev read-patch-file-before-type-node : tie.After-type-node → tie.After-read-patch-file
+read-patch-file-before-type-node c = c .before .before .before .before .before
+
+abbrev type-node-before-known-told4 : tie.After-known-told4 → tie.After-type-node
+type-node-before-known-told4 c = c .before .before .before .before
+
+abbrev entry-before-known-told4 : tie.After-known-told4 → tie.Start
+entry-before-known-told4 c = read-patch-file-before-type-node (type-node-before-known-told4 c) .before .before .before
+
+abbrev type-node-before-refused2 : tie.After-refused2 → tie.After-type-node
+type-node-before-refused2 c = c .before .before .before .before .before
+
+abbrev known-told4-before-slice-known2 : tie.After-slice-known2 → tie.After-known-told4
+known-told4-before-slice-known2 c = c .before .before .before .before .before .before
+
 read-patch-file-requires : tie.Need-read-patch-file-requires
 read-patch-file-requires c κs = search needs
 
@@ -58,15 +77,15 @@ enum-known-size c = search needs
 
 -- The second pass gives a type, which stands in the work array.
 type-of : (c : tie.After-known-told4)
-    → (let typed = c .before .before .before .before in
-    TypeGiven (file-of (typed .before .before .before .before .before)) (typed .type-node .last .1 .1 .1 .1 .0) (c .before .size .given .0 .1 .0))
+    → (let typed = type-node-before-known-told4 c in
+    TypeGiven (file-of (read-patch-file-before-type-node typed)) (typed .type-node .last .1 .1 .1 .1 .0) (c .before .size .given .0 .1 .0))
 type-of c =
-    let typed = c .before .before .before .before in
+    let typed = type-node-before-known-told4 c in
     let patch = typed .before .before in
     type-given (patch-of patch) (typed .type-node .ensures .each (due patch)) (omega arith) (c .before .size .given .1)
 
 abbrev out-of : tie.After-known-told4 → List ℕ
-out-of c = c .before .before .before .before .before .before .before .before .before .before .before .before .args .out .now
+out-of c = entry-before-known-told4 c .args .out .now
 
 add-needed : tie.Need-add-needed
 add-needed c = omega (arith, type-of c .small)
@@ -90,13 +109,13 @@ write-section-requires c κs = type-section-due (type-of (c .before .before .bef
 
 returns-2 : tie.Need-returns-2
 returns-2 c =
-    let read = c .before .before .before .before in
+    let read = read-patch-file-before-refused c in
     let e = patch-refused (file-of read) (read .read-patch-file .ensures) _ (c .before .before .fault .given .1) in
     rw (c .refused .ensures) (refusal-keeps _ _ (not-read _ e))
 
 returns-3 : tie.Need-returns-3
 returns-3 c =
-    let typed = c .before .before .before .before .before in
+    let typed = type-node-before-refused2 c in
     let patch = typed .before .before in
     rw (c .refused2 .ensures) (refusal-keeps _ _ (not-typed (patch-of patch) (typed .type-node .ensures .each (due patch)) (c .before .before .fault2 .given .1)))
 
@@ -105,7 +124,7 @@ same-length c = search needs
 
 returns-4 : tie.Need-returns-4
 returns-4 c =
-    let t = type-of (c .before .before .before .before .before .before) in
+    let t = type-of (known-told4-before-slice-known2 c) in
     file-keeps _ (type-file-bytes (t .output)) (t .is-typed) (omega (arith, t .long)) (sym (t .long))
     (type-section-written t _ (c .before .before .write-section .ensures))
 

@@ -14,6 +14,25 @@ use Rattle.wosthile.proofs.FeedOutcome.{refused-keeps, patch-unread, pa
 use Rattle.wosthile.proofs.feed.Statement.{statement}
 use Rattle.wosthile.proofs.feed.Tie as tie
 
+-- The map of places: what stands before what.
+abbrev shared-slice-known-before-read-patch-file : tie.After-read-patch-file → tie.After-shared-slice-known
+shared-slice-known-before-read-patch-file c = c .before .before .before .before
+
+abbrev entry : tie.After-read-patch-file → tie.Start
+entry c = shared-slice-known-before-read-patch-file c .before
+
+abbrev read-patch-file-before-refused : tie.After-refused → tie.After-read-patch-file
+read-patch-file-before-refused c = c .before .before .before .before
+
+abbrev read-of : tie.After-enum-told → tie.After-known-told2
+read-of c = c .before .before .before .before .before
+
+abbrev type-node-before-refused2 : tie.After-refused2 → tie.After-type-node
+type-node-before-refused2 c = c .before .before .before .before .before
+
+abbrev read-slice-file-before-refused3 : tie.After-refused3 → tie.After-read-slice-file
+read-slice-file-before-refused3 c = c .before .before .before .before
+
 read-patch-file-requires : tie.Need-read-patch-file-requires
 read-patch-file-requires c κs = search needs
 
@@ -30,14 +49,11 @@ slice-aggregate-type-node : tie.Need-slice-aggregate-type-node
 slice-aggregate-type-node c = search needs
 
 -- The first pass accepts the patch.
-abbrev entry : tie.After-read-patch-file → tie.Start
-entry c = c .before .before .before .before .before
-
 patch-of : (c : tie.After-known-told2) → AcceptedPatch (entry (c .before .before .before) .args .patch .now) (c .before .place .given .0 .0)
 patch-of c =
     let read = c .before .before .before in
     patch-accepted (entry read .args .patch .now) (read .read-patch-file .ensures)
-    (λ i. omega (arith, read .before .before .before .before .shared-slice-known .given i)) _ (c .before .place .given .1)
+    (λ i. omega (arith, shared-slice-known-before-read-patch-file read .shared-slice-known .given i)) _ (c .before .place .given .1)
 
 abbrev due : (c : tie.After-known-told2)
     → (let file = entry (c .before .before .before) .args .patch .now in
@@ -58,7 +74,7 @@ enum-told c = search needs
 
 read-slice-file-requires : tie.Need-read-slice-file-requires
 read-slice-file-requires c κs =
-    let p = patch-of (c .before .before .before .before .before) in
+    let p = patch-of (read-of c) in
     record { type = p .patch .input; stands = p .type-at }
 
 enum-known-fault-3 : tie.Need-enum-known-fault-3
@@ -71,9 +87,6 @@ enum-known-prefix : tie.Need-enum-known-prefix
 enum-known-prefix c = search needs
 
 -- The second pass gives a type, and the slice is one of the input type.
-abbrev read-of : tie.After-enum-told → tie.After-known-told2
-read-of c = c .before .before .before .before .before
-
 type-of : (c : tie.After-enum-told)
     → (let p = patch-of (read-of c) .patch in
     IsGiven ((read-of c) .before .place .given .0 .0 .nodes + node-width (p .node)) (c .enum-told .given .0 .0) (c .enum-told .given .0 .1 .0) (typing (p .input) (p .node)))
@@ -101,20 +114,20 @@ send-on-requires c κs =
 
 returns : tie.Need-returns
 returns c =
-    let read = c .before .before .before .before in
+    let read = read-patch-file-before-refused c in
     let e = patch-refused (entry read .args .patch .now) (read .read-patch-file .ensures) _ (c .before .before .fault .given .1) in
     rw (c .refused .ensures) (refused-keeps _ _ _ (patch-unread _ _ e))
 
 returns-2 : tie.Need-returns-2
 returns-2 c =
-    let typed = c .before .before .before .before .before in
+    let typed = type-node-before-refused2 c in
     let patch = typed .before .before in
     let e = is-refused _ _ (sym (c .before .before .fault2 .given .1) ∙ typed .type-node .ensures .each (due patch) .answers) in
     rw (c .refused2 .ensures) (refused-keeps _ _ _ (patch-untyped (patch-of patch) _ e))
 
 returns-3 : tie.Need-returns-3
 returns-3 c =
-    let slice = c .before .before .before .before in
+    let slice = read-slice-file-before-refused3 c in
     let told = slice .before in
     let patch = patch-of (read-of told) in
     let e = slice-refused (slice .read-slice-file .ensures) (patch .type-at) _ (c .before .before .fault3 .given .1) in

@@ -25,27 +25,24 @@ use Rattle.wosthile.proofs.join.Statement.{statement}
 use Rattle.wosthile.proofs.join.Tie as tie
 use Rattle.stream.specs.Bounds.{slice-file-limit}
 
--- The places: the entry, from where the type file has been read; what is known of the bytes; where the type file and the first slice
--- file are accepted, and where one is refused; the type left in the work array; where the second slice file is accepted; where the
--- answer has been written.
-
-abbrev entry : tie.After-read-type-file → tie.Start
-entry c = c .before .before .before .before .before
-
+-- The map of places: what stands before what.
 abbrev bytes-known : tie.After-read-type-file → tie.After-shared-slice-known3
 bytes-known c = c .before .before
 
+abbrev entry : tie.After-read-type-file → tie.Start
+entry c = bytes-known c .before .before .before
+
 abbrev type-told : tie.After-known-told2 → tie.After-read-type-file
 type-told c = c .before .before .before
+
+abbrev refused-type : tie.After-refused → tie.After-read-type-file
+refused-type c = c .before .before .before .before
 
 abbrev slice-told : tie.After-known-told4 → tie.After-read-slice-file
 slice-told c = c .before .before .before
 
 abbrev type-read : tie.After-known-told4 → tie.After-known-told2
 type-read c = slice-told c .before
-
-abbrev refused-type : tie.After-refused → tie.After-read-type-file
-refused-type c = c .before .before .before .before
 
 abbrev refused-slice : tie.After-refused2 → tie.After-read-slice-file
 refused-slice c = c .before .before .before .before
@@ -59,11 +56,18 @@ second-told c = c .before .before
 abbrev first-read : tie.After-enum-told → tie.After-known-told4
 first-read c = remainder-left (second-told c .before)
 
+abbrev files-read : tie.After-enum-told → tie.After-read-type-file
+files-read c = type-told (type-read (first-read c))
+
 abbrev refused-second : tie.After-refused3 → tie.After-read-slice-file2
 refused-second c = c .before .before .before .before
 
 abbrev written : tie.After-write-joined-file → tie.After-enum-told
 written c = c .before .before .before .before
+
+-- The places: the entry, from where the type file has been read; what is known of the bytes; where the type file and the first slice
+-- file are accepted, and where one is refused; the type left in the work array; where the second slice file is accepted; where the
+-- answer has been written.
 
 read-type-file-requires : tie.Need-read-type-file-requires
 read-type-file-requires c κs = search needs
@@ -148,9 +152,6 @@ enum-told : tie.Need-enum-told
 enum-told c = search needs
 
 -- The second slice file is accepted: what has to be written, and how long it is.
-
-abbrev files-read : tie.After-enum-told → tie.After-read-type-file
-files-read c = type-told (type-read (first-read c))
 
 second-slice : (c : tie.After-enum-told)
     → AcceptedSlice (remainder-of (first-read c)) (second-file-of (files-read c)) (c .enum-told .given .0 .0)

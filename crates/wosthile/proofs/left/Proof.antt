@@ -18,17 +18,18 @@ use Rattle.wosthile.proofs.Opening.{type-stops, slice-stops, goes-on}
 use Rattle.wosthile.proofs.left.Statement.{statement}
 use Rattle.wosthile.proofs.left.Tie as tie
 
--- The places: the entry, from where the type file has been read; what is known of the bytes; where each file is accepted, and where
--- one is refused; where the answer has been written.
-
-abbrev entry : tie.After-read-type-file → tie.Start
-entry c = c .before .before .before .before
-
+-- The map of places: what stands before what.
 abbrev bytes-known : tie.After-read-type-file → tie.After-shared-slice-known2
 bytes-known c = c .before .before
 
+abbrev entry : tie.After-read-type-file → tie.Start
+entry c = bytes-known c .before .before
+
 abbrev type-told : tie.After-known-told2 → tie.After-read-type-file
 type-told c = c .before .before .before
+
+abbrev refused-type : tie.After-refused → tie.After-read-type-file
+refused-type c = c .before .before .before .before
 
 abbrev slice-told : tie.After-known-told4 → tie.After-read-slice-file
 slice-told c = c .before .before .before
@@ -36,14 +37,14 @@ slice-told c = c .before .before .before
 abbrev type-read : tie.After-known-told4 → tie.After-known-told2
 type-read c = slice-told c .before
 
-abbrev refused-type : tie.After-refused → tie.After-read-type-file
-refused-type c = c .before .before .before .before
-
 abbrev refused-slice : tie.After-refused2 → tie.After-read-slice-file
 refused-slice c = c .before .before .before .before
 
 abbrev written : tie.After-write-left-file → tie.After-known-told4
 written c = c .before .before .before .before
+
+-- The places: the entry, from where the type file has been read; what is known of the bytes; where each file is accepted, and where
+-- one is refused; where the answer has been written.
 
 read-type-file-requires : tie.Need-read-type-file-requires
 read-type-file-requires c κs = search needs

@@ -5,10 +5,11 @@ use Rattle.wosthile.proofs.PatchLeft.{patch-left-written}
 use Rattle.wosthile.proofs.write_patch_left.Statement.{statement}
 use Rattle.wosthile.proofs.write_patch_left.Tie as tie
 
--- The place: from where the section has been written, where the type's file has been.
+-- The map of places: what stands before what.
 abbrev left-file : tie.After-write-section → tie.After-write-left-file
 left-file c = c .before .before .before .before
 
+-- The place: from where the section has been written, where the type's file has been.
 write-left-file-requires : tie.Need-write-left-file-requires
 write-left-file-requires c κs = search needs
 

@@ -45,13 +45,59 @@ module _ (t : ℕ) where
     write-leaf-concat-reads.Learnt,
   )
 
+  -- The map of places: what stands before what.
+  abbrev entry : lts.After-shared-slice-known3 calls here write-concat.Post → lts.Start calls here write-concat.Post
+  entry c = c .before .before .before .before
+
+  abbrev leaf-read : lts.Then2 calls here write-concat.Post → lts.After-shared-slice-known3 calls here write-concat.Post
+  leaf-read c = c .before .before
+
+  abbrev copied-kind : lts.After-copy-prefix2 calls here write-concat.Post → lts.At-match-keys2 calls here write-concat.Post
+  copied-kind c = c .before .before
+
+  abbrev aside-kind : lts.After-write-concat3 calls here write-concat.Post → lts.At-match-keys3 calls here write-concat.Post
+  aside-kind c = c .before .before
+
+  abbrev coming-kind : lts.After-write-concat calls here write-concat.Post → lts.At-match-keys1 calls here write-concat.Post
+  coming-kind c = c .before .before .before
+
+  abbrev behind-copied : lts.After-slice-known4 calls here write-concat.Post → lts.After-copy-prefix2 calls here write-concat.Post
+  behind-copied c = c .before .before
+
+  abbrev coming-part : lts.After-slice-known2 calls here write-concat.Post → lts.After-write-concat calls here write-concat.Post
+  coming-part c = c .before .before
+
+  abbrev leaf-call : lts.After-slice-known8 calls here write-concat.Post → lts.After-write-leaf-concat calls here write-concat.Post
+  leaf-call c = c .before .before
+
+  abbrev aside-part : lts.After-struct-known3 calls here write-concat.Post → lts.After-write-concat3 calls here write-concat.Post
+  aside-part c = c .before .before .before
+
+  abbrev behind-first : lts.After-write-concat2 calls here write-concat.Post → lts.After-copy-prefix2 calls here write-concat.Post
+  behind-first c = behind-copied (c .before .before)
+
+  abbrev crossing-part : lts.After-struct-known calls here write-concat.Post → lts.After-write-concat calls here write-concat.Post
+  crossing-part c = coming-part (c .before .before)
+
+  abbrev both-part : lts.After-write-concat4 calls here write-concat.Post → lts.After-write-concat3 calls here write-concat.Post
+  both-part c = aside-part (c .before .before)
+
+  abbrev behind-call : lts.After-slice-known5 calls here write-concat.Post → lts.After-write-concat2 calls here write-concat.Post
+  behind-call c = c .before .before
+
+  abbrev crossing-begun : lts.After-copy-prefix calls here write-concat.Post → lts.After-struct-known calls here write-concat.Post
+  crossing-begun c = c .before .before
+
+  abbrev both-call : lts.After-slice-known7 calls here write-concat.Post → lts.After-write-concat4 calls here write-concat.Post
+  both-call c = c .before .before
+
+  abbrev crossing-copied : lts.After-struct-known2 calls here write-concat.Post → lts.After-copy-prefix calls here write-concat.Post
+  crossing-copied c = c .before .before .before
+
   -- The places. Every arm begins where the first prefix's kind is read.
 
   abbrev Read : Type 0
   Read = lts.After-shared-slice-known3 calls here write-concat.Post
-
-  abbrev entry : Read → lts.Start calls here write-concat.Post
-  entry c = c .before .before .before .before
 
   -- A first part that is still coming: the call for it; where the second prefix brings the crossing, what it has of the second part
   -- is to be copied, and has been.
@@ -59,62 +105,17 @@ module _ (t : ℕ) where
   abbrev Coming : Type 0
   Coming = lts.After-write-concat calls here write-concat.Post
 
-  abbrev coming-kind : Coming → lts.At-match-keys1 calls here write-concat.Post
-  coming-kind c = c .before .before .before
-
-  abbrev coming-part : lts.After-slice-known2 calls here write-concat.Post → Coming
-  coming-part c = c .before .before
-
-  abbrev crossing-part : lts.After-struct-known calls here write-concat.Post → Coming
-  crossing-part c = coming-part (c .before .before)
-
-  abbrev crossing-copied : lts.After-struct-known2 calls here write-concat.Post → lts.After-copy-prefix calls here write-concat.Post
-  crossing-copied c = c .before .before .before
-
-  abbrev crossing-begun : lts.After-copy-prefix calls here write-concat.Post → lts.After-struct-known calls here write-concat.Post
-  crossing-begun c = c .before .before
-
   -- A first prefix that has crossed: its first part copied; the call for the second.
 
   abbrev Copied : Type 0
   Copied = lts.After-copy-prefix2 calls here write-concat.Post
-
-  abbrev copied-kind : Copied → lts.At-match-keys2 calls here write-concat.Post
-  copied-kind c = c .before .before
-
-  abbrev behind-copied : lts.After-slice-known4 calls here write-concat.Post → Copied
-  behind-copied c = c .before .before
-
-  abbrev behind-call : lts.After-slice-known5 calls here write-concat.Post → lts.After-write-concat2 calls here write-concat.Post
-  behind-call c = c .before .before
-
-  abbrev behind-first : lts.After-write-concat2 calls here write-concat.Post → Copied
-  behind-first c = behind-copied (c .before .before)
 
   -- Two sides: the call for the first; the call for the second.
 
   abbrev Aside : Type 0
   Aside = lts.After-write-concat3 calls here write-concat.Post
 
-  abbrev aside-kind : Aside → lts.At-match-keys3 calls here write-concat.Post
-  aside-kind c = c .before .before
-
-  abbrev aside-part : lts.After-struct-known3 calls here write-concat.Post → Aside
-  aside-part c = c .before .before .before
-
-  abbrev both-call : lts.After-slice-known7 calls here write-concat.Post → lts.After-write-concat4 calls here write-concat.Post
-  both-call c = c .before .before
-
-  abbrev both-part : lts.After-write-concat4 calls here write-concat.Post → Aside
-  both-part c = aside-part (c .before .before)
-
   -- A leaf: the call for it.
-
-  abbrev leaf-read : lts.Then2 calls here write-concat.Post → Read
-  leaf-read c = c .before .before
-
-  abbrev leaf-call : lts.After-slice-known8 calls here write-concat.Post → lts.After-write-leaf-concat calls here write-concat.Post
-  leaf-call c = c .before .before
 
   -- Behind a first piece there is room for the next.
 

@@ -49,72 +49,84 @@ module _ (t : ℕ) where
     write-leaf-left-reads.Learnt,
   )
 
+  -- The map of places: what stands before what.
+  abbrev entry : lts.After-shared-slice-known3 calls here write-derivative.Post → lts.Start calls here write-derivative.Post
+  entry c = c .before .before .before .before
+
+  abbrev other-read : lts.Else1 calls here write-derivative.Post → lts.After-shared-slice-known3 calls here write-derivative.Post
+  other-read c = c .before .before
+
+  abbrev leaf-read : lts.Then1 calls here write-derivative.Post → lts.After-shared-slice-known3 calls here write-derivative.Post
+  leaf-read c = c .before .before
+
+  abbrev crossed-kind : lts.After-skip-prefix calls here write-derivative.Post → lts.At-match-keys2 calls here write-derivative.Post
+  crossed-kind c = c .before .before
+
+  abbrev coming-kind : lts.After-write-derivative calls here write-derivative.Post
+      → lts.At-match-keys1 calls here write-derivative.Post
+  coming-kind c = c .before .before
+
+  abbrev beside-kind : lts.After-write-derivative3 calls here write-derivative.Post
+      → lts.At-match-keys3 calls here write-derivative.Post
+  beside-kind c = c .before .before
+
+  abbrev crossed-places : lts.After-write-derivative2 calls here write-derivative.Post
+      → lts.After-skip-prefix calls here write-derivative.Post
+  crossed-places c = c .before .before
+
+  abbrev leaf-call : lts.After-slice-known7 calls here write-derivative.Post
+      → lts.After-write-leaf-left calls here write-derivative.Post
+  leaf-call c = c .before .before
+
+  abbrev coming-part : lts.After-struct-known calls here write-derivative.Post
+      → lts.After-write-derivative calls here write-derivative.Post
+  coming-part c = c .before .before .before
+
+  abbrev beside-part : lts.After-struct-known2 calls here write-derivative.Post
+      → lts.After-write-derivative3 calls here write-derivative.Post
+  beside-part c = c .before .before .before
+
+  abbrev crossed-call : lts.After-slice-known4 calls here write-derivative.Post
+      → lts.After-write-derivative2 calls here write-derivative.Post
+  crossed-call c = c .before .before
+
+  abbrev copied-part : lts.After-copy-type calls here write-derivative.Post
+      → lts.After-write-derivative calls here write-derivative.Post
+  copied-part c = coming-part (c .before .before)
+
+  abbrev both-part : lts.After-write-derivative4 calls here write-derivative.Post
+      → lts.After-write-derivative3 calls here write-derivative.Post
+  both-part c = beside-part (c .before .before)
+
+  abbrev coming-copied : lts.After-slice-known3 calls here write-derivative.Post
+      → lts.After-copy-type calls here write-derivative.Post
+  coming-copied c = c .before .before
+
+  abbrev both-call : lts.After-slice-known6 calls here write-derivative.Post
+      → lts.After-write-derivative4 calls here write-derivative.Post
+  both-call c = c .before .before
+
   -- The places. Every arm begins where the kind is read.
 
   abbrev Read : Type 0
   Read = lts.After-shared-slice-known3 calls here write-derivative.Post
-
-  abbrev entry : Read → lts.Start calls here write-derivative.Post
-  entry c = c .before .before .before .before
 
   -- A first part that is still coming: the call for it; where the second part is to be copied; where it has been.
 
   abbrev Coming : Type 0
   Coming = lts.After-write-derivative calls here write-derivative.Post
 
-  abbrev coming-kind : Coming → lts.At-match-keys1 calls here write-derivative.Post
-  coming-kind c = c .before .before
-
-  abbrev coming-part : lts.After-struct-known calls here write-derivative.Post → Coming
-  coming-part c = c .before .before .before
-
-  abbrev coming-copied : lts.After-slice-known3 calls here write-derivative.Post → lts.After-copy-type calls here write-derivative.Post
-  coming-copied c = c .before .before
-
-  abbrev copied-part : lts.After-copy-type calls here write-derivative.Post → Coming
-  copied-part c = coming-part (c .before .before)
-
   -- A crossed prefix: where both places behind its first part are known; the call for its second.
-
-  abbrev crossed-kind : lts.After-skip-prefix calls here write-derivative.Post → lts.At-match-keys2 calls here write-derivative.Post
-  crossed-kind c = c .before .before
-
-  abbrev crossed-call : lts.After-slice-known4 calls here write-derivative.Post → lts.After-write-derivative2 calls here write-derivative.Post
-  crossed-call c = c .before .before
-
-  abbrev crossed-places : lts.After-write-derivative2 calls here write-derivative.Post → lts.After-skip-prefix calls here write-derivative.Post
-  crossed-places c = c .before .before
 
   -- Two sides: the call for the first; the call for the second.
 
   abbrev Beside : Type 0
   Beside = lts.After-write-derivative3 calls here write-derivative.Post
 
-  abbrev beside-kind : Beside → lts.At-match-keys3 calls here write-derivative.Post
-  beside-kind c = c .before .before
-
-  abbrev beside-part : lts.After-struct-known2 calls here write-derivative.Post → Beside
-  beside-part c = c .before .before .before
-
   abbrev Both : Type 0
   Both = lts.After-write-derivative4 calls here write-derivative.Post
 
-  abbrev both-part : Both → Beside
-  both-part c = beside-part (c .before .before)
-
-  abbrev both-call : lts.After-slice-known6 calls here write-derivative.Post → Both
-  both-call c = c .before .before
-
   -- A leaf: the call for it.
-
-  abbrev leaf-read : lts.Then1 calls here write-derivative.Post → Read
-  leaf-read c = c .before .before
-
-  abbrev leaf-call : lts.After-slice-known7 calls here write-derivative.Post → lts.After-write-leaf-left calls here write-derivative.Post
-  leaf-call c = c .before .before
-
-  abbrev other-read : lts.Else1 calls here write-derivative.Post → Read
-  other-read c = c .before .before
 
   -- What is known at the entry, and once a first part is written.
 

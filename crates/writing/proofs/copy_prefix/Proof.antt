@@ -12,8 +12,7 @@ use Rattle.writing.specs.Writing.{PrefixDue}
 use Rattle.writing.proofs.copy_prefix.Statement.{statement}
 use Rattle.writing.proofs.copy_prefix.Tie as tie
 
--- The places: the entry; where the prefix is copied; where it has been.
-
+-- The map of places: what stands before what.
 abbrev entry : tie.After-skip-prefix → tie.Start
 entry c = c .before .before .before
 
@@ -22,6 +21,8 @@ copying c = c .before .before
 
 abbrev copied : tie.After-slice-known2 → tie.After-copy
 copied c = c .before .before
+
+-- The places: the entry; where the prefix is copied; where it has been.
 
 -- Where the prefix ends, and which bytes stand before its end.
 

@@ -17,8 +17,7 @@ use Rattle.writing.specs.Writing.Laws.{byte}
 use Rattle.writing.proofs.copy_type.Statement.{statement}
 use Rattle.writing.proofs.copy_type.Tie as tie
 
--- The places: the entry; where the type has one node; where more are copied.
-
+-- The map of places: what stands before what.
 abbrev entry : tie.After-skip-type → tie.Start
 entry c = c .before .before .before
 
@@ -30,6 +29,8 @@ copying c = c .before .before .before
 
 abbrev copied : tie.After-slice-known2 → tie.After-copy
 copied c = c .before .before
+
+-- The places: the entry; where the type has one node; where more are copied.
 
 -- Where the type ends, and which bytes stand before its end.
 

@@ -18,17 +18,15 @@ Inv-loop types at out₀ owed₀ depth₀ next₀ written₀ out owed depth next
 abbrev μ-loop : tie.MeasureT-loop
 μ-loop types at out₀ owed₀ depth₀ next₀ written₀ out owed depth next written = length types - next
 
--- The places: the loop and its entry; the turn that writes, up to where it is known how many parts the empty prefix has; where its
--- byte is written, in either branch.
-
+-- The map of places: what stands before what.
 abbrev entry : tie.At-loop Inv-loop μ-loop → tie.Start Inv-loop μ-loop
 entry c = c .before .before .before
 
-abbrev looped : tie.Then1 Inv-loop μ-loop → tie.At-loop Inv-loop μ-loop
-looped c = c .before .before
-
 abbrev loop-of : tie.Else1 Inv-loop μ-loop → tie.At-loop Inv-loop μ-loop
 loop-of c = c .before .before
+
+abbrev looped : tie.Then1 Inv-loop μ-loop → tie.At-loop Inv-loop μ-loop
+looped c = c .before .before
 
 abbrev writes : tie.After-empty-parts Inv-loop μ-loop → tie.Else1 Inv-loop μ-loop
 writes c = c .before .before
@@ -38,6 +36,9 @@ forks c = c .before
 
 abbrev ended : tie.After-empty-kind2 Inv-loop μ-loop → tie.Else2 Inv-loop μ-loop
 ended c = c .before .before
+
+-- The places: the loop and its entry; the turn that writes, up to where it is known how many parts the empty prefix has; where its
+-- byte is written, in either branch.
 
 -- How many parts the empty prefix has.
 

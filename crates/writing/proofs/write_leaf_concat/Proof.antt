@@ -11,26 +11,27 @@ use Rattle.writing.proofs.JoiningParts.{inside, settled}
 use Rattle.writing.proofs.write_leaf_concat.Statement.{statement}
 use Rattle.writing.proofs.write_leaf_concat.Tie as tie
 
--- The places: the entry, from where the kind is read and from where it was asked about; where a prefix has been copied, in either
--- branch.
-
+-- The map of places: what stands before what.
 abbrev reading : tie.After-shared-slice-known3 → tie.Start
 reading c = c .before .before .before .before
 
 abbrev asked : tie.After-is-unfinished → tie.Start
 asked c = reading (c .before)
 
-abbrev second-copied : tie.After-slice-known2 → tie.After-copy-prefix
-second-copied c = c .before .before
-
 abbrev awaiting : tie.After-copy-prefix → tie.Then1
 awaiting c = c .before .before
+
+abbrev staying : tie.After-copy-prefix2 → tie.Else1
+staying c = c .before .before
+
+abbrev second-copied : tie.After-slice-known2 → tie.After-copy-prefix
+second-copied c = c .before .before
 
 abbrev first-copied : tie.After-slice-known3 → tie.After-copy-prefix2
 first-copied c = c .before .before
 
-abbrev staying : tie.After-copy-prefix2 → tie.Else1
-staying c = c .before .before
+-- The places: the entry, from where the kind is read and from where it was asked about; where a prefix has been copied, in either
+-- branch.
 
 -- What the test says.
 

@@ -10,8 +10,7 @@ use Rattle.writing.proofs.Derivative.{inside, settled, awaited-due, awa
 use Rattle.writing.proofs.write_leaf_left.Statement.{statement}
 use Rattle.writing.proofs.write_leaf_left.Tie as tie
 
--- The places: the entry, from where the kind is read and from where it was asked about; the two branches.
-
+-- The map of places: what stands before what.
 abbrev reading : tie.After-shared-slice-known3 → tie.Start
 reading c = c .before .before .before .before
 
@@ -21,11 +20,13 @@ asked c = reading (c .before)
 abbrev copying : tie.After-copy-type-arg → tie.Then1
 copying c = c .before
 
+abbrev measured : tie.After-root-width → tie.Else1
+measured c = c .before
+
 abbrev copied : tie.After-slice-known2 → tie.After-copy-type
 copied c = c .before .before
 
-abbrev measured : tie.After-root-width → tie.Else1
-measured c = c .before
+-- The places: the entry, from where the kind is read and from where it was asked about; the two branches.
 
 -- What the test says.
 

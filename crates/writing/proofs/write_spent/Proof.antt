@@ -16,8 +16,7 @@ Inv-loop slice place out₀ owed₀ next₀ written₀ out owed next written = (
 abbrev μ-loop : tie.MeasureT-loop
 μ-loop slice place out₀ owed₀ next₀ written₀ out owed next written = length slice - next
 
--- The places: the entry; a turn of the loop, in which the kind is read; the arms of the kinds 6 and 0 to 4, up to their calls.
-
+-- The map of places: what stands before what.
 abbrev entry : tie.At-loop Inv-loop μ-loop → tie.Start Inv-loop μ-loop
 entry c = c .before .before .before
 
@@ -27,11 +26,13 @@ turn c = c .before .before
 abbrev skipped : tie.After-skip-prefix Inv-loop μ-loop → tie.After-shared-slice-known2 Inv-loop μ-loop
 skipped c = c .before .before
 
+abbrev other-read : tie.Else1 Inv-loop μ-loop → tie.After-shared-slice-known2 Inv-loop μ-loop
+other-read c = c .before .before
+
 abbrev leaf-read : tie.Then1 Inv-loop μ-loop → tie.After-shared-slice-known2 Inv-loop μ-loop
 leaf-read c = c .before .before
 
-abbrev other-read : tie.Else1 Inv-loop μ-loop → tie.After-shared-slice-known2 Inv-loop μ-loop
-other-read c = c .before .before
+-- The places: the entry; a turn of the loop, in which the kind is read; the arms of the kinds 6 and 0 to 4, up to their calls.
 
 -- How far the loop has come, where one prefix more is owed.
 

@@ -5,8 +5,7 @@ use Rattle.reading.proofs.NestedSlices.{some, starts-inside, first-insi
 use Rattle.reading.proofs.nested.crossed_in_first.Statement.{statement}
 use Rattle.reading.proofs.nested.crossed_in_first.Tie as tie
 
--- What is read where
-
+-- The map of places: what stands before what.
 abbrev entry : tie.After-shared-slice-known2 → tie.Start
 entry c = c .before .before
 
@@ -15,6 +14,8 @@ come c = c .before .before
 
 abbrev begun : tie.After-shared-slice-known3 → tie.Start
 begun c = entry (come c .before)
+
+-- What is read where
 
 -- What is due
 

@@ -7,8 +7,7 @@ use Rattle.reading.proofs.NestedTypes.{some, no-sequence, root-first, n
 use Rattle.reading.proofs.nested.nested_in_first.Statement.{statement}
 use Rattle.reading.proofs.nested.nested_in_first.Tie as tie
 
--- What is read where
-
+-- The map of places: what stands before what.
 abbrev entry : tie.After-shared-slice-known2 → tie.Start
 entry c = c .before .before
 
@@ -16,10 +15,12 @@ abbrev sequence : tie.After-shared-slice-known3 → tie.Else1
 sequence c = c .before
 
 abbrev nested : tie.Else2 → tie.Else1
-nested c = sequence (c .before)
+nested c = c .before .before
 
 abbrev begun : tie.Else2 → tie.Start
 begun c = entry (nested c .before)
+
+-- What is read where
 
 -- What is due
 

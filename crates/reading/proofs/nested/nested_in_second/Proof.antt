@@ -7,19 +7,20 @@ use Rattle.reading.proofs.NestedTypes.{some, no-sequence, root-first, n
 use Rattle.reading.proofs.nested.nested_in_second.Statement.{statement}
 use Rattle.reading.proofs.nested.nested_in_second.Tie as tie
 
--- What is read where
-
+-- The map of places: what stands before what.
 abbrev entry : tie.After-shared-slice-known2 → tie.Start
 entry c = c .before .before
-
-abbrev skipped : tie.After-shared-slice-known3 → tie.After-skip-type
-skipped c = c .before
 
 abbrev sequence : tie.After-skip-type → tie.Else1
 sequence c = c .before
 
 abbrev begun : tie.After-skip-type → tie.Start
-begun c = entry (sequence c .before)
+begun c = entry (c .before .before)
+
+abbrev skipped : tie.After-shared-slice-known3 → tie.After-skip-type
+skipped c = c .before
+
+-- What is read where
 
 -- What is due
 

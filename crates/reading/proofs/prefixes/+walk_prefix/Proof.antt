@@ -61,23 +61,28 @@ calls t = (
 )
 
 module _ (t : ℕ) where
-  -- The places: the entry, as seen once the slice's byte may be read, and once its kind belongs there; that place, as seen once the
-  -- kind is known to have parts; and that, as seen once the walk through the first part has come to its end.
-  abbrev entry : lts.After-shared-slice-known3 (calls t) (walk-prefix-at t) walk-prefix.Post → lts.Start (calls t) (walk-prefix-at t) walk-prefix.Post
+  -- The map of places: what stands before what.
+  abbrev entry : lts.After-shared-slice-known3 (calls t) (walk-prefix-at t) walk-prefix.Post
+      → lts.Start (calls t) (walk-prefix-at t) walk-prefix.Post
   entry c = c .before .before .before .before
 
-  abbrev tested : lts.Else3 (calls t) (walk-prefix-at t) walk-prefix.Post → lts.After-shared-slice-known3 (calls t) (walk-prefix-at t) walk-prefix.Post
+  abbrev tested : lts.Else3 (calls t) (walk-prefix-at t) walk-prefix.Post
+      → lts.After-shared-slice-known3 (calls t) (walk-prefix-at t) walk-prefix.Post
   tested c = c .before .before .before .before
 
   abbrev start : lts.Else3 (calls t) (walk-prefix-at t) walk-prefix.Post → lts.Start (calls t) (walk-prefix-at t) walk-prefix.Post
   start c = entry (tested c)
 
-  abbrev belonging : lts.After-first-complete (calls t) (walk-prefix-at t) walk-prefix.Post → lts.Else3 (calls t) (walk-prefix-at t) walk-prefix.Post
+  abbrev belonging : lts.After-first-complete (calls t) (walk-prefix-at t) walk-prefix.Post
+      → lts.Else3 (calls t) (walk-prefix-at t) walk-prefix.Post
   belonging c = c .before .before .before
 
-  abbrev forking : lts.After-type-end (calls t) (walk-prefix-at t) walk-prefix.Post → lts.After-first-complete (calls t) (walk-prefix-at t) walk-prefix.Post
+  abbrev forking : lts.After-type-end (calls t) (walk-prefix-at t) walk-prefix.Post
+      → lts.After-first-complete (calls t) (walk-prefix-at t) walk-prefix.Post
   forking c = c .before .before .before
 
+  -- The places: the entry, as seen once the slice's byte may be read, and once its kind belongs there; that place, as seen once the
+  -- kind is known to have parts; and that, as seen once the walk through the first part has come to its end.
   returns : lts.Need-returns (calls t) (walk-prefix-at t) walk-prefix.Post
   returns c = cut-short (c .before .before .before .pre .1 .0 .stands) _ _ _ (c .if1 .taken)
 

@@ -8,6 +8,10 @@ use Rattle.reading.specs.SliceReads.{SumsFit}
 use Rattle.reading.proofs.prefixes.beside.Statement.{statement}
 use Rattle.reading.proofs.prefixes.beside.Tie as tie
 
+-- The map of places: what stands before what.
+abbrev entry-before-joined1 : tie.Joined1 → tie.Start
+entry-before-joined1 c = c .before .before .before .before
+
 enum-known-second : tie.Need-enum-known-second
 enum-known-second c = search needs
 
@@ -15,7 +19,7 @@ enum-known-second-2 : tie.Need-enum-known-second-2
 enum-known-second-2 c = search needs
 
 -- What is asked of the sums, once the second walk is known to have come to its end.
-sums : (c : tie.Joined1) → let g = c .before .before .second2 .given .0 in SumsFit (c .before .before .before .before .args .first) (Past (g .0) (g .1 .0) (g .1 .1 .0))
+sums : (c : tie.Joined1) → let g = c .before .before .second2 .given .0 in SumsFit (entry-before-joined1 c .args .first) (Past (g .0) (g .1 .0) (g .1 .1 .0))
 sums c =
     let second : tie.After-second2 = c .before .before in
     rw (second .second2 .given .1) at (second .before .before .pre)

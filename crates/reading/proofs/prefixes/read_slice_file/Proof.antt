@@ -15,6 +15,25 @@ use Rattle.reading.proofs.SliceFile.{count-missing, section-short, walk
 use Rattle.reading.proofs.prefixes.read_slice_file.Statement.{statement}
 use Rattle.reading.proofs.prefixes.read_slice_file.Tie as tie
 
+-- The map of places: what stands before what.
+abbrev entry-before-then2 : tie.Then2 → tie.Start
+entry-before-then2 c = c .before .before .before .before .before .before .before
+
+abbrev shared-slice-known2-before-walk-prefix : tie.After-walk-prefix → tie.After-shared-slice-known2
+shared-slice-known2-before-walk-prefix c = c .before .before .before .before .before .before .before
+
+abbrev start : tie.After-walk-prefix → tie.Start
+start c = shared-slice-known2-before-walk-prefix c .before .before
+
+abbrev walk-prefix-before-then3 : tie.Then3 → tie.After-walk-prefix
+walk-prefix-before-then3 c = c .before .before .before .before
+
+abbrev walk-prefix-before-else4 : tie.Else4 → tie.After-walk-prefix
+walk-prefix-before-else4 c = c .before .before .before .before .before
+
+abbrev walk-prefix-before-then4 : tie.Then4 → tie.After-walk-prefix
+walk-prefix-before-then4 c = c .before .before .before .before .before
+
 returns : tie.Need-returns
 returns c = count-missing _ (omega arith)
 
@@ -28,7 +47,7 @@ count-of-requires : tie.Need-count-of-requires
 count-of-requires c κs = search needs
 
 returns-2 : tie.Need-returns-2
-returns-2 c = section-short (c .before .before .before .before .before .before .before .args .file .now) (omega (arith, c .before .count-of .ensures .0))
+returns-2 c = section-short (entry-before-then2 c .args .file .now) (omega (arith, c .before .count-of .ensures .0))
 
 add-end : tie.Need-add-end
 add-end c = search needs
@@ -52,14 +71,11 @@ enum-known-prefix-end : tie.Need-enum-known-prefix-end
 enum-known-prefix-end c = search needs
 
 -- What is known once `walk_prefix` has answered.
-abbrev start : tie.After-walk-prefix → tie.Start
-start c = c .before .before .before .before .before .before .before .before .before
-
 abbrev file : tie.After-walk-prefix → List ℕ
 file c = start c .args .file .now
 
 bytes : (c : tie.After-walk-prefix) → Bytes (file c)
-bytes c = λ i. omega (arith, c .before .before .before .before .before .before .before .shared-slice-known2 .given i)
+bytes c = λ i. omega (arith, shared-slice-known2-before-walk-prefix c .shared-slice-known2 .given i)
 
 counted : (c : tie.After-walk-prefix) → c .before .before .before .count-of .result ≡ count (file c)
 counted c = c .before .before .before .count-of .ensures .0
@@ -80,18 +96,18 @@ returns-3 c =
 
 returns-4 : tie.Need-returns-4
 returns-4 c =
-    let a = c .before .before .before .before in
+    let a = walk-prefix-before-then3 c in
     left-inside (file a) (fits a .0) (fits a .1) (bytes a) (walked a (c .before .before .prefix-end .given .1)) (omega (arith, counted a))
 
 returns-5 : tie.Need-returns-5
 returns-5 c =
-    let a = c .before .before .before .before .before in
+    let a = walk-prefix-before-then4 c in
     left-behind (file a) (fits a .0) (fits a .1) (bytes a) (walked a (c .before .before .before .prefix-end .given .1))
     (omega (arith, counted a)) (omega (arith, counted a))
 
 returns-6 : tie.Need-returns-6
 returns-6 c =
-    let a = c .before .before .before .before .before in
+    let a = walk-prefix-before-else4 c in
     file-whole (file a) (fits a .0) (fits a .1) (bytes a) (walked a (c .before .before .before .prefix-end .given .1))
     (omega (arith, counted a)) (omega (arith, counted a))
 

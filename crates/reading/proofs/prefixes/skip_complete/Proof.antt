@@ -8,6 +8,7 @@ use Rattle.reading.specs.SliceReads.Laws.{prefix-inside}
 use Rattle.reading.proofs.prefixes.skip_complete.Statement.{statement}
 use Rattle.reading.proofs.prefixes.skip_complete.Tie as tie
 
+-- The map of places: what stands before what.
 abbrev entry : tie.After-complete-width → tie.Start
 entry c = c .before .before .before
 

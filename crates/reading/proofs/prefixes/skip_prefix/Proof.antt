@@ -17,13 +17,14 @@ Inv-loop slice place owed₀ end₀ owed end = (p : Prefix) → PrefixAt slice p
 abbrev μ-loop : tie.MeasureT-loop
 μ-loop slice place owed₀ end₀ owed end = length slice - end
 
--- Where the turn began, once the kind's parts are known; the function's entry; the kind.
-abbrev turn : tie.After-prefix-arity Inv-loop μ-loop → tie.At-loop Inv-loop μ-loop
-turn c = c .before .before .before
-
+-- The map of places: what stands before what.
 abbrev entry : tie.At-loop Inv-loop μ-loop → tie.Start Inv-loop μ-loop
 entry c = c .before .before
 
+abbrev turn : tie.After-prefix-arity Inv-loop μ-loop → tie.At-loop Inv-loop μ-loop
+turn c = c .before .before .before
+
+-- Where the turn began, once the kind's parts are known; the function's entry; the kind.
 abbrev kind : tie.At-loop Inv-loop μ-loop → ℕ
 kind c = getD (entry c .args .slice .now) (c .loop .end) 0
 

@@ -17,13 +17,14 @@ use Rattle.reading.specs.SliceReads.{is-unfinished, stood-on, leaf-walke
 use Rattle.reading.proofs.prefixes.walk_leaf.Statement.{statement}
 use Rattle.reading.proofs.prefixes.walk_leaf.Tie as tie
 
--- The function's entry; the leaf's kind.
+-- The map of places: what stands before what.
 abbrev entry : tie.After-root-width → tie.Start
 entry c = c .before .before .before .before
 
 abbrev judged : tie.After-is-unfinished → tie.After-root-width
 judged c = c .before .before
 
+-- The function's entry; the leaf's kind.
 abbrev kind : tie.After-root-width → ℕ
 kind c = getD (entry c .args .slice .now) (entry c .args .place) 0
 

@@ -7,6 +7,13 @@ use Rattle.reading.specs.Sections.Laws.{count-missing, section-short, se
 use Rattle.reading.proofs.sections.section_end.Statement.{statement}
 use Rattle.reading.proofs.sections.section_end.Tie as tie
 
+-- The map of places: what stands before what.
+abbrev entry-before-else2 : tie.Else2 → tie.Start
+entry-before-else2 c = c .before .before .before .before .before .before
+
+abbrev entry-before-then2 : tie.Then2 → tie.Start
+entry-before-then2 c = c .before .before .before .before .before .before
+
 returns : tie.Need-returns
 returns c = sym (count-missing any-bytes (c .before .before .args .bytes .now) (omega arith))
 
@@ -20,7 +27,7 @@ count-of-requires : tie.Need-count-of-requires
 count-of-requires c κs = search needs
 
 returns-2 : tie.Need-returns-2
-returns-2 c = sym (section-short any-bytes (c .before .before .before .before .before .before .args .bytes .now) (omega arith))
+returns-2 c = sym (section-short any-bytes (entry-before-then2 c .args .bytes .now) (omega arith))
 
 add-t10 : tie.Need-add-t10
 add-t10 c = search needs
@@ -28,7 +35,7 @@ add-t10 c = search needs
 returns-3 : tie.Need-returns-3
 returns-3 c =
     rw (c .before .count-of .ensures .0)
-    (sym (section-there (c .before .before .before .before .before .before .args .bytes .now) (omega arith) (omega (arith, c .before .count-of .ensures .0))))
+    (sym (section-there (entry-before-else2 c .args .bytes .now) (omega arith) (omega (arith, c .before .count-of .ensures .0))))
 
 pub section-end-spec : {M : Type 1} → statement M
 section-end-spec =

@@ -18,6 +18,13 @@ Inv-loop types at owed₀ end₀ owed end = Nullables types at owed end
 abbrev μ-loop : tie.MeasureT-loop
 μ-loop types at owed₀ end₀ owed end = length types - end
 
+-- The map of places: what stands before what.
+abbrev at-loop-before-type-arity : tie.After-type-arity Inv-loop μ-loop → tie.At-loop Inv-loop μ-loop
+at-loop-before-type-arity c = c .before .before .before .before
+
+abbrev at-loop-before-then2 : tie.Then2 Inv-loop μ-loop → tie.At-loop Inv-loop μ-loop
+at-loop-before-then2 c = c .before .before .before .before
+
 loop-holds : tie.Need-loop-holds Inv-loop μ-loop
 loop-holds c = begins (c .before .pre)
 
@@ -26,7 +33,7 @@ shared-slice-read-kind c = omega (arith, inside (c .before .before .loop .inv .p
 
 returns : tie.Need-returns Inv-loop μ-loop
 returns c =
-    other-kind (c .before .before .before .before .loop .inv) (omega arith) (c .before .if1 .taken) (eqb-false _ 4 (not-true _ (c .if2 .taken)))
+    other-kind (at-loop-before-then2 c .loop .inv) (omega arith) (c .before .if1 .taken) (eqb-false _ 4 (not-true _ (c .if2 .taken)))
 
 sub-owed : tie.Need-sub-owed Inv-loop μ-loop
 sub-owed c = omega arith
@@ -36,19 +43,19 @@ type-arity-requires c κs = search needs
 
 add-owed : tie.Need-add-owed Inv-loop μ-loop
 add-owed c =
-    let l = c .before .before .before .before in
+    let l = at-loop-before-type-arity c in
     omega (arith, limit-is, few (l .loop .inv .passing), arity-small (getD (l .before .before .args .types .now) (l .loop .end) 0), c .type-arity .ensures)
 
 add-end : tie.Need-add-end Inv-loop μ-loop
-add-end c = omega (arith, inside (c .before .before .before .before .loop .inv .passing) (omega arith))
+add-end c = omega (arith, inside (at-loop-before-type-arity c .loop .inv .passing) (omega arith))
 
 loop-less : tie.Need-loop-less Inv-loop μ-loop
-loop-less c = omega (arith, inside (c .before .before .before .before .loop .inv .passing) (omega arith))
+loop-less c = omega (arith, inside (at-loop-before-type-arity c .loop .inv .passing) (omega arith))
 
 loop-again : tie.Need-loop-again Inv-loop μ-loop
 loop-again c =
     rw (c .type-arity .ensures)
-    (nullable-kind (c .before .before .before .before .loop .inv) (omega arith)
+    (nullable-kind (at-loop-before-type-arity c .loop .inv) (omega arith)
     (⊎-elim (λ w. inr (eqb-true _ 4 (not-false _ (w .1 .left)))) (λ w. inl (w .left)) (c .before .if1 .came)))
 
 returns-2 : tie.Need-returns-2 Inv-loop μ-loop

@@ -16,6 +16,13 @@ Inv-loop types at pairs₀ end₀ pairs end = Passing types at (2 * pairs) end
 abbrev μ-loop : tie.MeasureT-loop
 μ-loop types at pairs₀ end₀ pairs end = length types - end
 
+-- The map of places: what stands before what.
+abbrev at-loop-before-shared-slice-known4 : tie.After-shared-slice-known4 Inv-loop μ-loop → tie.At-loop Inv-loop μ-loop
+at-loop-before-shared-slice-known4 c = c .before .before .before .before
+
+abbrev at-loop-before-type-arity3 : tie.After-type-arity3 Inv-loop μ-loop → tie.At-loop Inv-loop μ-loop
+at-loop-before-type-arity3 c = at-loop-before-shared-slice-known4 (c .before)
+
 shared-slice-read-type-arity : tie.Need-shared-slice-read-type-arity Inv-loop μ-loop
 shared-slice-read-type-arity c = starts-inside (c .before .before .pre .stands)
 
@@ -44,24 +51,24 @@ add-type-arity : tie.Need-add-type-arity Inv-loop μ-loop
 add-type-arity c = omega (arith, inside (c .before .before .before .loop .inv) (omega arith))
 
 shared-slice-read-type-arity-3 : tie.Need-shared-slice-read-type-arity-3 Inv-loop μ-loop
-shared-slice-read-type-arity-3 c = omega (arith, inside (c .before .before .before .before .loop .inv) (omega arith))
+shared-slice-read-type-arity-3 c = omega (arith, inside (at-loop-before-shared-slice-known4 c .loop .inv) (omega arith))
 
 type-arity-requires-3 : tie.Need-type-arity-requires-3 Inv-loop μ-loop
 type-arity-requires-3 c κs = search needs
 
 add-pairs-2 : tie.Need-add-pairs-2 Inv-loop μ-loop
 add-pairs-2 c =
-    let sum = few (pair-passed (c .before .before .before .before .before .loop .inv) (omega arith)) in
+    let sum = few (pair-passed (at-loop-before-type-arity3 c .loop .inv) (omega arith)) in
     omega (arith, limit-is, sum, c .type-arity3 .ensures, c .before .before .type-arity2 .ensures)
 
 add-end-2 : tie.Need-add-end-2 Inv-loop μ-loop
-add-end-2 c = omega (arith, inside (c .before .before .before .before .before .loop .inv) (omega arith))
+add-end-2 c = omega (arith, inside (at-loop-before-type-arity3 c .loop .inv) (omega arith))
 
 loop-less : tie.Need-loop-less Inv-loop μ-loop
-loop-less c = omega (arith, inside (c .before .before .before .before .before .loop .inv) (omega arith))
+loop-less c = omega (arith, inside (at-loop-before-type-arity3 c .loop .inv) (omega arith))
 
 loop-again : tie.Need-loop-again Inv-loop μ-loop
-loop-again c = rw (c .type-arity3 .ensures, c .before .before .type-arity2 .ensures) (pair-passed (c .before .before .before .before .before .loop .inv) (omega arith))
+loop-again c = rw (c .type-arity3 .ensures, c .before .before .type-arity2 .ensures) (pair-passed (at-loop-before-type-arity3 c .loop .inv) (omega arith))
 
 returns : tie.Need-returns Inv-loop μ-loop
 returns c = ends (c .before .loop .inv) (omega arith)

@@ -21,6 +21,13 @@ Inv-loop bytes owed₀ at₀ owed at = Walked TypeTooLarge type-root type-limit 
 abbrev μ-loop : tie.MeasureT-loop
 μ-loop bytes owed₀ at₀ owed at = type-limit - at
 
+-- The map of places: what stands before what.
+abbrev at-loop-before-then3 : tie.Then3 Inv-loop μ-loop → tie.At-loop Inv-loop μ-loop
+at-loop-before-then3 c = c .before .before .before .before .before
+
+abbrev at-loop-before-type-arity : tie.After-type-arity Inv-loop μ-loop → tie.At-loop Inv-loop μ-loop
+at-loop-before-type-arity c = c .before .before .before .before .before .before
+
 loop-holds : tie.Need-loop-holds Inv-loop μ-loop
 loop-holds c = starts TypeTooLarge type-root type-limit makes-one _
 
@@ -39,7 +46,7 @@ shared-slice-read-kind c = omega arith
 returns-3 : tie.Need-returns-3 Inv-loop μ-loop
 unfolding read-type
 returns-3 c =
-    let l = c .before .before .before .before .before in
+    let l = at-loop-before-then3 c in
     sym (stops (l .loop .inv) (omega arith) (omega (arith, limit-is)) Unlisted
     (unlisted-at (l .before .before .args .bytes .now) (l .loop .at) (omega arith) (omega arith)))
 
@@ -51,7 +58,7 @@ type-arity-requires c κs = search needs
 
 add-owed : tie.Need-add-owed Inv-loop μ-loop
 add-owed c =
-    let l = c .before .before .before .before .before .before in
+    let l = at-loop-before-type-arity c in
     omega (arith, limit-is, arity-small (getD (l .before .before .args .bytes .now) (l .loop .at) 0), c .type-arity .ensures)
 
 add-at : tie.Need-add-at Inv-loop μ-loop
@@ -62,7 +69,7 @@ loop-less c = omega (arith, limit-is)
 
 loop-again : tie.Need-loop-again Inv-loop μ-loop
 loop-again c =
-    let l = c .before .before .before .before .before .before in
+    let l = at-loop-before-type-arity c in
     let bytes = l .before .before .args .bytes .now in
     rw (c .type-arity .ensures)
     (goes-on (l .loop .inv) (omega arith) (omega (arith, limit-is)) _ (l .loop .at + 1) (arity-small (getD bytes (l .loop .at) 0)) (omega arith)

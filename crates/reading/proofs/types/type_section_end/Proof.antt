@@ -13,6 +13,10 @@ use Rattle.reading.specs.TypeReads.Laws.{read-type-within}
 use Rattle.reading.proofs.types.type_section_end.Statement.{statement}
 use Rattle.reading.proofs.types.type_section_end.Tie as tie
 
+-- The map of places: what stands before what.
+abbrev end-before-fill : tie.After-fill → tie.After-end
+end-before-fill c = c .before .before .before .before
+
 section-end-requires : tie.Need-section-end-requires
 section-end-requires c κs = search needs
 
@@ -56,7 +60,7 @@ returns c =
 returns-2 : tie.Need-returns-2
 unfolding type-section
 returns-2 c =
-    let e = c .before .before .before .before in
+    let e = end-before-fill c in
     let a = e .before .before in
     c .fill .ensures
     ∙ ap (filled _) (c .before .type-end .ensures)

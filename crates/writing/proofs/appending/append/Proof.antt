@@ -4,6 +4,10 @@ use Rattle.writing.proofs.RoomBehind.{appended, not-appended}
 use Rattle.writing.proofs.appending.append.Statement.{statement}
 use Rattle.writing.proofs.appending.append.Tie as tie
 
+-- The map of places: what stands before what.
+abbrev then1-before-slice-known2 : tie.After-slice-known2 → tie.Then1
+then1-before-slice-known2 c = c .before .before .before .before
+
 add-end : tie.Need-add-end
 add-end c = search needs
 
@@ -23,7 +27,7 @@ same-length : tie.Need-same-length
 same-length c = search needs
 
 returns : tie.Need-returns
-returns c = appended _ (c .before .before .before .before .if1 .taken) (c .before .before .copy .ensures)
+returns c = appended _ (then1-before-slice-known2 c .if1 .taken) (c .before .before .copy .ensures)
 
 returns-2 : tie.Need-returns-2
 returns-2 c = not-appended _ _ _ (c .if1 .left)

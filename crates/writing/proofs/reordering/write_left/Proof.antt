@@ -10,25 +10,26 @@ use Rattle.writing.specs.Appending.Laws.{nothing-written, written-on, pa
 use Rattle.writing.proofs.reordering.write_left.Statement.{statement}
 use Rattle.writing.proofs.reordering.write_left.Tie as tie
 
--- What is written before what
-
+-- The map of places: what stands before what.
 abbrev entry : tie.After-append-kind → tie.Start
 entry c = c .before .before .before .before
 
 abbrev outer : tie.After-append-kind-arg2 → tie.After-append-kind
 outer c = c .before .before .before
 
+abbrev begun : tie.After-append-kind2 → tie.Start
+begun c = entry (outer (c .before))
+
 abbrev inner : tie.After-append-part-arg → tie.After-append-kind2
 inner c = c .before .before .before
+
+abbrev first : tie.After-append-part-arg2 → tie.After-append-part
+first c = c .before .before .before
 
 abbrev rest : tie.After-slice-known5 → tie.After-append-part2
 rest c = c .before .before
 
-abbrev begun : tie.After-append-kind2 → tie.Start
-begun c = entry (outer (c .before))
-
-abbrev first : tie.After-append-part-arg2 → tie.After-append-part
-first c = c .before .before .before
+-- What is written before what
 
 -- How many bytes there are at each of them
 

@@ -10,8 +10,7 @@ use Rattle.writing.specs.Appending.Laws.{nothing-written, written-on, pa
 use Rattle.writing.proofs.reordering.write_right.Statement.{statement}
 use Rattle.writing.proofs.reordering.write_right.Tie as tie
 
--- What is written before what
-
+-- The map of places: what stands before what.
 abbrev entry : tie.After-append-kind → tie.Start
 entry c = c .before .before .before .before
 
@@ -26,6 +25,8 @@ inner c = c .before .before .before
 
 abbrev rest : tie.After-slice-known5 → tie.After-append-part2
 rest c = c .before .before
+
+-- What is written before what
 
 -- How many bytes there are at each of them
 

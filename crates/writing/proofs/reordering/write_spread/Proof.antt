@@ -10,28 +10,36 @@ use Rattle.writing.specs.Reordering.{ReorderDue}
 use Rattle.writing.proofs.reordering.write_spread.Statement.{statement}
 use Rattle.writing.proofs.reordering.write_spread.Tie as tie
 
--- What is written before what
-
+-- The map of places: what stands before what.
 abbrev entry : tie.After-append-kind → tie.Start
 entry c = c .before .before .before .before
 
 abbrev outer : tie.After-append-kind-arg2 → tie.After-append-kind
 outer c = c .before .before .before
 
-abbrev inner : tie.After-append-part-arg → tie.After-append-kind2
-inner c = c .before .before .before
-
 abbrev begun : tie.After-append-kind2 → tie.Start
 begun c = entry (outer (c .before))
+
+abbrev inner : tie.After-append-part-arg → tie.After-append-kind2
+inner c = c .before .before .before
 
 abbrev first : tie.After-append-part-arg2 → tie.After-append-part
 first c = c .before .before .before
 
+abbrev before-second : tie.After-append-part2 → tie.After-append-part
+before-second c = first (c .before)
+
 abbrev second : tie.After-append-kind-arg3 → tie.After-append-part2
 second c = c .before .before .before
 
+abbrev before-again : tie.After-append-kind3 → tie.After-append-part
+before-again c = before-second (second (c .before))
+
 abbrev again : tie.After-append-part-arg3 → tie.After-append-kind3
 again c = c .before .before .before
+
+abbrev before-twice : tie.After-append-part3 → tie.After-append-part
+before-twice c = before-again (again (c .before))
 
 abbrev twice : tie.After-append-part-arg4 → tie.After-append-part3
 twice c = c .before .before .before
@@ -39,19 +47,12 @@ twice c = c .before .before .before
 abbrev third : tie.After-slice-known8 → tie.After-append-part4
 third c = c .before .before
 
+-- What is written before what
+
 -- What was asked, seen from each of them
 
 abbrev due-first : (c : tie.After-append-part) → ReorderDue (begun (inner (c .before)) .args .source .now) (begun (inner (c .before)) .args .places)
 due-first c = begun (inner (c .before)) .pre
-
-abbrev before-second : tie.After-append-part2 → tie.After-append-part
-before-second c = first (c .before)
-
-abbrev before-again : tie.After-append-kind3 → tie.After-append-part
-before-again c = before-second (second (c .before))
-
-abbrev before-twice : tie.After-append-part3 → tie.After-append-part
-before-twice c = before-again (again (c .before))
 
 -- How many bytes there are at each of them
 
