@@ -1,9 +1,7 @@
 pub mod TypeWalk
-pub mod SectionFile
 pub mod TypeSkip
 pub mod PrefixWalk
-pub mod SliceWalk
-pub mod SliceFile
 pub mod CompleteWidth
 pub mod NestedTypes
 pub mod NestedSlices
+pub mod InputParts

@@ -11,8 +11,9 @@ use Rattle.stream.specs.TypeFiles.{type-bytes}
 use Rattle.stream.specs.Types.Kinds.{type-arity}
 use Rattle.reading.specs.declared.nested.Pieces.{Pieces}
 use Rattle.reading.specs.declared.nested.Shaped.the-variants.{Nested, Other}
-use Rattle.reading.specs.TypeReads.{TypeAt, SomeTypeAt, TypeEnds}
-use Rattle.reading.specs.TypeReads.Laws.{fork-size, first-at, second-at, second-behind}
+use Rattle.reading.specs.declared.types.TypePlace.{TypePlace}
+use Rattle.reading.specs.TypeReads.{TypeAt, SomeTypeAt, TypeIn, TypeEnds}
+use Rattle.reading.specs.TypeReads.Laws.{fork-size, first-at, second-at, second-in}
 use Rattle.reading.specs.Nesting.{Piece, PiecesAt, Nesting, first-nested, second-nested, is-nested, TypeCut, other-type, nested-type, Told, told-other, told-nested, TypesBehind, two-types, PiecesDue, PiecesFound}
 use Rattle.reading.specs.Nesting.Laws.{other-shape, same-shape, is-fork, type-piece}
 
@@ -24,88 +25,103 @@ moved e stands = rw e stands
 
 -- t and r
 
-module _ {types : List ℕ} {second : ℕ} where
-  pub one-behind : {t r : List ℕ} → TypesBehind types second t r → SomeTypeAt types second
+module _ {types : List ℕ} {second end : ℕ} where
+  pub one-behind : {t r : List ℕ} → TypesBehind types second end t r → SomeTypeAt types second
   one-behind (two-types one two) = some one
 
-  pub two-behind : {t r : List ℕ} {third : ℕ} → TypesBehind types second t r → TypeEnds types second third → SomeTypeAt types third
-  two-behind (two-types {t = t} one two) ends = some (moved (ends .each t one) two)
-
-  pub pieces-behind : {k first gap third end : ℕ} {s t r : List ℕ} → Piece types first gap s → TypesBehind types second t r
-      → TypeEnds types second third → TypeEnds types third end
+  pub pieces-behind : {k first gap third : ℕ} {s t r : List ℕ} → Piece types first gap s → TypesBehind types second end t r
+      → TypeEnds types second third
       → PiecesAt types (record { kind = k; first = first; gap = gap; second = second; third = third; end = end }) k s t r
-  pieces-behind head (two-types {t = t} {r = r} one two) one-ends two-ends =
-      let behind = moved (one-ends .each t one) two in
-      record { kind = refl; first = head; second = type-piece one (one-ends .each t one); third = type-piece behind (two-ends .each r behind) }
+  pieces-behind head (two-types {t = t} one two) ends =
+      let behind = ends .each t one in
+      record {
+        kind = refl;
+        first = head;
+        second = type-piece one behind;
+        third = type-piece (moved behind (two .stands)) (omega (arith, two .ends));
+      }
 
 -- It is the first part that forks, or the second, if both tests of the shape hold.
 
-module _ {types : List ℕ} {at : ℕ} {u : Ty} (stands : TypeAt types at u) where
-  pub no-sequence : {n : Nesting} {k : ℕ} → (getD types at 0 ≡ 3 → ⊥) → Told (TypeCut n k) types u Other
-  no-sequence other = told-other (other-type {u = u} (rw (other-shape stands other)))
+module _ {types : List ℕ} {place : TypePlace} {u : Ty} (here : TypeIn types place u) where
+  pub no-sequence : {n : Nesting} {k : ℕ} → (getD types (place .start) 0 ≡ 3 → ⊥) → Told (TypeCut n k) types u Other
+  no-sequence other = told-other (other-type {u = u} (rw (other-shape (here .stands) other)))
 
-  module _ (sequence : getD types at 0 ≡ 3) where
+  module _ (sequence : getD types (place .start) 0 ≡ 3) where
     forks : 3 ≤ kind u
-    forks = is-fork stands sequence refl
+    forks = is-fork (here .stands) sequence refl
 
-    pub root-first : TypeAt types (at + 1) (first-part u)
-    root-first = first-at stands forks
+    pub root-first : TypeAt types (place .start + 1) (first-part u)
+    root-first = first-at (here .stands) forks
 
-    -- The part at `place` is of another kind, or of the kind k.
+    -- The part at `at` is of another kind, or of the kind k.
 
-    pub no-fork : (n : Nesting) {k place : ℕ} → TypeAt types place (n .part u) → (getD types place 0 ≡ k → ⊥)
+    pub no-fork : (n : Nesting) {k at : ℕ} → TypeAt types at (n .part u) → (getD types at 0 ≡ k → ⊥)
         → Told (TypeCut n k) types u Other
     no-fork n below other = told-other (other-type {u = u} (rw (other-shape below other) (and-false (has-kind 3 u))))
 
-    fork : (n : Nesting) {k place : ℕ} {places : Pieces} → TypeAt types place (n .part u) → getD types place 0 ≡ k
+    fork : (n : Nesting) {k at : ℕ} {places : Pieces} → TypeAt types at (n .part u) → getD types at 0 ≡ k
         → PiecesAt types places k (type-bytes (n .s u) []) (type-bytes (n .t u) []) (type-bytes (n .r u) [])
         → Told (TypeCut n k) types u (Nested places)
-    fork n below same pieces = told-nested (nested-type (and-both (same-shape stands sequence) (same-shape below same))) pieces
+    fork n below same pieces = told-nested (nested-type (and-both (same-shape (here .stands) sequence) (same-shape below same))) pieces
 
-    module _ (first-sequence : getD types (at + 1) 0 ≡ 3) where
+    module _ (first-sequence : getD types (place .start + 1) 0 ≡ 3) where
       first-forks : 3 ≤ kind (first-part u)
       first-forks = is-fork root-first first-sequence refl
 
-      pub below-first : TypeAt types (at + 2) (first-part (first-part u))
+      pub below-first : TypeAt types (place .start + 2) (first-part (first-part u))
       below-first = moved (omega arith) (first-at root-first first-forks)
 
-      module _ {second : ℕ} (skipped : TypeEnds types (at + 2) second) where
-        pub first-due : PiecesDue (TypesBehind types second) types (at + 2) second
+      module _ {second : ℕ} (skipped : TypeEnds types (place .start + 2) second) where
+        pub first-due : PiecesDue (TypesBehind types second (place .end)) types (place .start + 2) second
         first-due =
             let end = skipped .each (first-part (first-part u)) below-first in
-            let two = moved {b = second + size (second-part (first-part u))} (omega (arith, fork-size (first-part u) first-forks)) (second-at stands forks) in
+            let inner = fork-size (first-part u) first-forks in
             record {
               s = type-bytes (first-part (first-part u)) [];
               t = type-bytes (second-part (first-part u)) [];
               r = type-bytes (second-part u) [];
               head = type-piece below-first end;
-              behind = two-types (moved (omega arith) (second-at root-first first-forks)) two;
+              behind =
+                  two-types (moved (omega arith) (second-at root-first first-forks))
+                  (record {
+                    stands = moved (omega arith) (second-at (here .stands) forks);
+                    ends = omega (arith, here .ends, fork-size u forks);
+                  });
             }
 
-        pub first-told : {places : Pieces} → PiecesFound 3 (TypesBehind types second) types (at + 2) second places
+        pub first-told : {places : Pieces} → PiecesFound 3 (TypesBehind types second (place .end)) types (place .start + 2) second places
             → Told (TypeCut first-nested 3) types u (Nested places)
         unfolding first-due
         first-told found = fork first-nested root-first first-sequence (found .each first-due)
 
-    module _ {gap : ℕ} (skipped : TypeEnds types (at + 1) gap) where
+    module _ {gap : ℕ} (skipped : TypeEnds types (place .start + 1) gap) where
+      root-second-in : TypeIn types (record { start = gap; end = place .end }) (second-part u)
+      root-second-in = second-in here forks skipped
+
       pub root-second : TypeAt types gap (second-part u)
-      root-second = second-behind stands forks skipped
+      root-second = root-second-in .stands
 
       module _ {k : ℕ} (same : getD types gap 0 ≡ k) (two : type-arity k ≡ 2) where
         second-forks : 3 ≤ kind (second-part u)
         second-forks = is-fork root-second same two
 
-        pub second-due : PiecesDue (TypesBehind types (gap + 1)) types (at + 1) gap
+        pub second-due : PiecesDue (TypesBehind types (gap + 1) (place .end)) types (place .start + 1) gap
         second-due =
             record {
               s = type-bytes (first-part u) [];
               t = type-bytes (first-part (second-part u)) [];
               r = type-bytes (second-part (second-part u)) [];
               head = type-piece root-first (skipped .each (first-part u) root-first);
-              behind = two-types (first-at root-second second-forks) (second-at root-second second-forks);
+              behind =
+                  two-types (first-at root-second second-forks)
+                  (record {
+                    stands = second-at root-second second-forks;
+                    ends = omega (arith, root-second-in .ends, fork-size (second-part u) second-forks);
+                  });
             }
 
-        pub second-told : {places : Pieces} → PiecesFound k (TypesBehind types (gap + 1)) types (at + 1) gap places
+        pub second-told : {places : Pieces} → PiecesFound k (TypesBehind types (gap + 1) (place .end)) types (place .start + 1) gap places
             → Told (TypeCut second-nested k) types u (Nested places)
         unfolding second-due
         second-told found = fork second-nested root-second same (found .each second-due)

@@ -13,7 +13,8 @@ use Rattle.stream.specs.Types.Laws.{size-positive}
 use Rattle.stream.specs.TypeFiles.{type-bytes}
 use Rattle.stream.specs.TypeFiles.Laws.{type-length}
 use Rattle.stream.specs.Types.Kinds.{type-arity, type-parts, type-parts-many, sizes, size-by-parts}
-use Rattle.reading.specs.TypeReads.{TypeAt, SomeTypeAt, TypeEnds, NullableIs}
+use Rattle.reading.specs.declared.types.NullableEnd.the-variants.{At, Other}
+use Rattle.reading.specs.TypeReads.{TypeAt, SomeTypeAt, TypeEnds, nullable-end, NullableEnds}
 use Rattle.reading.specs.TypeReads.Laws.{arity-paired, kind-at, same-type}
 
 -- The bytes of several types, and then r.
@@ -179,16 +180,22 @@ begins some =
     record { passing = starts some; same = λ t h. ap nullable (same-type h (some .stands)) ∙ sym (and-true (nullable (some .type))) }
 
 module _ {bytes : List ℕ} {at owed end : ℕ} (nullables : Nullables bytes at owed end) where
-  pub all-passed : owed ≡ 0 → NullableIs bytes at true
-  all-passed z = record { each = λ t h. sym (nullables .same t h ∙ ap all-nullable (none (nullables .passing) z)) }
+  pub all-passed : owed ≡ 0 → NullableEnds bytes at (At end)
+  unfolding nullable-end
+  all-passed z =
+      record {
+        each = λ t h.
+            rw (nullables .same t h ∙ ap all-nullable (none (nullables .passing) z), ← ends (nullables .passing) z .each t h);
+      }
 
   module _ (wanted : 0 < owed) where
-    pub other-kind : (getD bytes end 0 ≡ 0 → ⊥) → (getD bytes end 0 ≡ 4 → ⊥) → NullableIs bytes at false
+    pub other-kind : (getD bytes end 0 ≡ 0 → ⊥) → (getD bytes end 0 ≡ 4 → ⊥) → NullableEnds bytes at Other
+    unfolding nullable-end
     other-kind h k =
         let p = nullables .passing in
         let e = kind-at (stands p wanted) in
         let n = not-nullable (first p wanted) (λ z. h (e ∙ z)) (λ z. k (e ∙ z)) in
-        record { each = λ t s. sym (nullables .same t s ∙ ap all-nullable (split p wanted) ∙ rw n) }
+        record { each = λ t s. rw (nullables .same t s ∙ ap all-nullable (split p wanted), n) }
 
     pub nullable-kind : (getD bytes end 0 ≡ 0) ⊎ (getD bytes end 0 ≡ 4) → Nullables bytes at (owed - 1 + type-arity (getD bytes end 0)) (end + 1)
     unfolding passed

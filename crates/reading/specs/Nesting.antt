@@ -12,8 +12,9 @@ use Rattle.stream.specs.SliceFiles.{prefix-bytes}
 use Rattle.reading.specs.declared.nested.Pieces.{Pieces}
 use Rattle.reading.specs.declared.nested.Shaped.{Shaped}
 use Rattle.reading.specs.declared.nested.Shaped.the-variants.{Nested, Other}
-use Rattle.reading.specs.TypeReads.{TypeAt}
-use Rattle.reading.specs.SliceReads.{PrefixAt, prefix-width}
+use Rattle.reading.specs.declared.prefixes.PrefixPlace.{PrefixPlace}
+use Rattle.reading.specs.TypeReads.{TypeAt, TypeIn}
+use Rattle.reading.specs.SliceReads.{PrefixAt, PrefixIn, prefix-width}
 pub mod Laws
 
 -- Where the pieces are
@@ -76,14 +77,14 @@ pub data SecondCut : Prefix → Cut → Type 0 where
   second-sides : {b q r : Prefix} → SecondCut (crossed b (beside q r)) (cut 7 (prefix-bytes b []) (prefix-bytes q []) (prefix-bytes r []))  -- 6 b 7 q r
 
 -- A prefix that is cut in one of these ways.
-pub record SliceAt (Cuts : Prefix → Cut → Type 0) (bytes : List ℕ) (at : ℕ) (p : Prefix) : Type 0 where
-  pub stands : PrefixAt bytes at p
+pub record SliceIn (Cuts : Prefix → Cut → Type 0) (bytes : List ℕ) (place : PrefixPlace) (p : Prefix) : Type 0 where
+  pub here : PrefixIn bytes place p
   pub how : Cut
   pub is-cut : Cuts p how
 
-pub record SomeSlice (Cuts : Prefix → Cut → Type 0) (bytes : List ℕ) (at : ℕ) : Type 0 where
+pub record SomeSlice (Cuts : Prefix → Cut → Type 0) (bytes : List ℕ) (place : PrefixPlace) : Type 0 where
   pub prefix : Prefix
-  pub slice : SliceAt Cuts bytes at prefix
+  pub slice : SliceIn Cuts bytes place prefix
 
 -- What is found
 
@@ -91,19 +92,21 @@ pub data Told {Tree : Type 0} (Cuts : Tree → Cut → Type 0) (bytes : List ℕ
   told-other : Cuts tree uncut → Told Cuts bytes tree Other
   told-nested : {k : ℕ} {s t r : List ℕ} {places : Pieces} → Cuts tree (cut k s t r) → PiecesAt bytes places k s t r → Told Cuts bytes tree (Nested places)
 
--- The answer, whichever tree stands at `at`.
-pub record Shapes {Tree : Type 0} (At : List ℕ → ℕ → Tree → Type 0) (Cuts : Tree → Cut → Type 0) (bytes : List ℕ) (at : ℕ) (answer : Shaped) : Type 0 where
-  pub each : (tree : Tree) → At bytes at tree → Told Cuts bytes tree answer
+-- The answer, whichever tree stands in `place`.
+pub record Shapes {Place Tree : Type 0} (In : List ℕ → Place → Tree → Type 0) (Cuts : Tree → Cut → Type 0) (bytes : List ℕ) (place : Place) (answer : Shaped) : Type 0 where
+  pub each : (tree : Tree) → In bytes place tree → Told Cuts bytes tree answer
 
--- What stands at `second`: two types; or two prefixes, of which the second is not there yet if k is 5.
+-- What stands from `second` up to `end`: two types; or two prefixes, of which the second is not there yet if k is 5.
 
-pub data TypesBehind (types : List ℕ) (second : ℕ) : List ℕ → List ℕ → Type 0 where
-  two-types : {t r : Ty} → TypeAt types second t → TypeAt types (second + size t) r → TypesBehind types second (type-bytes t []) (type-bytes r [])
+pub data TypesBehind (types : List ℕ) (second end : ℕ) : List ℕ → List ℕ → Type 0 where
+  two-types : {t r : Ty} → TypeAt types second t → TypeIn types (record { start = second + size t; end = end }) r
+      → TypesBehind types second end (type-bytes t []) (type-bytes r [])
 
-pub data PrefixesBehind (k : ℕ) (slice : List ℕ) (second : ℕ) : List ℕ → List ℕ → Type 0 where
-  one-prefix : {q : Prefix} → k ≡ 5 → PrefixAt slice second q → PrefixesBehind k slice second (prefix-bytes q []) []
-  two-prefixes : {c q : Prefix} → (k ≡ 5 → ⊥) → PrefixAt slice second c → PrefixAt slice (second + prefix-width c) q
-      → PrefixesBehind k slice second (prefix-bytes c []) (prefix-bytes q [])
+pub data PrefixesBehind (k : ℕ) (slice : List ℕ) (second end : ℕ) : List ℕ → List ℕ → Type 0 where
+  one-prefix : {q : Prefix} → k ≡ 5 → PrefixIn slice (record { start = second; end = end }) q
+      → PrefixesBehind k slice second end (prefix-bytes q []) []
+  two-prefixes : {c q : Prefix} → (k ≡ 5 → ⊥) → PrefixAt slice second c → PrefixIn slice (record { start = second + prefix-width c; end = end }) q
+      → PrefixesBehind k slice second end (prefix-bytes c []) (prefix-bytes q [])
 
 -- s is found, and t and r are looked for.
 pub record PiecesDue (Behind : List ℕ → List ℕ → Type 0) (bytes : List ℕ) (first gap : ℕ) : Type 0 where

@@ -6,6 +6,7 @@ use Prim.Native.Nat.{ℕ, suc, _+_, _-_, _≤_, _<_}
 use lib.Dec.{eqb, leb}
 use lib.ListN.{length, getD, drop}
 use Rattle.stream.specs.declared.Fault.the-variants.{SliceCutShort}
+use Rattle.reading.specs.declared.prefixes.PrefixPlace.{PrefixPlace}
 use Rattle.reading.specs.declared.prefixes.Known.{Known}
 use Rattle.reading.specs.declared.prefixes.Walk.{Walk}
 use Rattle.reading.specs.declared.prefixes.Walk.the-variants.{Past, Failed}
@@ -65,6 +66,11 @@ pub record PrefixAt (bytes : List ℕ) (place : ℕ) (p : Prefix) : Type 0 where
 pub record SomePrefixAt (bytes : List ℕ) (place : ℕ) : Type 0 where
   pub prefix : Prefix
   pub stands : PrefixAt bytes place prefix
+
+-- The same with where it ends.
+pub record PrefixIn (bytes : List ℕ) (place : PrefixPlace) (p : Prefix) : Type 0 where
+  pub stands : PrefixAt bytes (place .start) p
+  pub ends : place .end ≡ place .start + prefix-width p
 
 -- `end` is where the prefix at `place` ends, whichever it is.
 pub record PrefixEnds (bytes : List ℕ) (place end : ℕ) : Type 0 where

@@ -1,11 +1,15 @@
 // Trees with a fork in one of their parts, which regroup and spread take apart: s, t and r, in a type, and in a slice once s has
 // come whole.
+//
+// The place that is handed in says where the whole ends, and so where the last piece does.
+use crate::prefixes::PrefixPlace;
 use crate::prefixes::skip_prefix;
+use crate::types::TypePlace;
 use crate::types::skip_type;
 ghost use mathlib.Core.Path.{_≡_};
 ghost use Rattle.stream.specs.Types.Kinds.{type-arity};
-ghost use Rattle.reading.specs.TypeReads.{TypeAt, SomeTypeAt};
-ghost use Rattle.reading.specs.Nesting.{first-nested, second-nested, TypeCut, FirstCut, SecondCut, SliceAt, SomeSlice, Shapes, TypesBehind, PrefixesBehind, PiecesDue, PiecesFound};
+ghost use Rattle.reading.specs.TypeReads.{TypeIn, SomeTypeIn};
+ghost use Rattle.reading.specs.Nesting.{first-nested, second-nested, TypeCut, FirstCut, SecondCut, SliceIn, SomeSlice, Shapes, TypesBehind, PrefixesBehind, PiecesDue, PiecesFound};
 
 // Where the three are: s from `first` up to `gap`, t from `second` up to `third`, r from there up to `end`. `kind` is the kind of t
 // and r as one tree behind s.
@@ -39,21 +43,28 @@ pub enum Shaped {
     Other,
 }
 
-// The pieces of a type, of which t begins at `second`.
-fn types_behind(kind: u8, types: &[u8], first: usize, gap: usize, second: usize) -> Pieces
-    requires { ⌜ PiecesDue (TypesBehind (now types) second) (now types) first gap ⌝ }
-    ensures { λ r. ⌜ PiecesFound kind (TypesBehind (now (types .entry)) second) (now (types .entry)) first gap r ⌝ }
+// The pieces of a type, of which t begins at `second` and r ends at `end`.
+fn types_behind(
+    kind: u8,
+    types: &[u8],
+    first: usize,
+    gap: usize,
+    second: usize,
+    end: usize,
+) -> Pieces
+    requires { ⌜ PiecesDue (TypesBehind (now types) second end) (now types) first gap ⌝ }
+    ensures { λ r. ⌜ PiecesFound kind (TypesBehind (now (types .entry)) second end) (now (types .entry)) first gap r ⌝ }
 {
     let third = skip_type(types, second);
-    let end = skip_type(types, third);
     Pieces::new(kind, first, gap, second, third, end)
 }
 
 // The pieces of (s, t), r: 3 3 s t r.
-pub fn nested_in_first(types: &[u8], at: usize) -> Shaped
-    requires { ⌜ SomeTypeAt (now types) at ⌝ }
-    ensures { λ r. ⌜ Shapes TypeAt (TypeCut first-nested 3) (now (types .entry)) at r ⌝ }
+pub fn nested_in_first(types: &[u8], place: TypePlace) -> Shaped
+    requires { ⌜ SomeTypeIn (now types) place ⌝ }
+    ensures { λ r. ⌜ Shapes TypeIn (TypeCut first-nested 3) (now (types .entry)) place r ⌝ }
 {
+    let at = place.start;
     if types[at] != 3 {
         return Shaped::Other;
     }
@@ -62,14 +73,15 @@ pub fn nested_in_first(types: &[u8], at: usize) -> Shaped
     }
     let first = at + 2;
     let second = skip_type(types, first);
-    Shaped::Nested(types_behind(3, types, first, second, second))
+    Shaped::Nested(types_behind(3, types, first, second, second, place.end))
 }
 
 // The pieces of s and then t and r, which are the parts of a type of the kind `kind`: 3 s `kind` t r.
-pub fn nested_in_second(kind: u8, types: &[u8], at: usize) -> Shaped
-    requires { ⌜ SomeTypeAt (now types) at × (type-arity kind ≡ 2) ⌝ }
-    ensures { λ r. ⌜ Shapes TypeAt (TypeCut second-nested kind) (now (types .entry)) at r ⌝ }
+pub fn nested_in_second(kind: u8, types: &[u8], place: TypePlace) -> Shaped
+    requires { ⌜ SomeTypeIn (now types) place × (type-arity kind ≡ 2) ⌝ }
+    ensures { λ r. ⌜ Shapes TypeIn (TypeCut second-nested kind) (now (types .entry)) place r ⌝ }
 {
+    let at = place.start;
     if types[at] != 3 {
         return Shaped::Other;
     }
@@ -78,46 +90,54 @@ pub fn nested_in_second(kind: u8, types: &[u8], at: usize) -> Shaped
     if types[gap] != kind {
         return Shaped::Other;
     }
-    Shaped::Nested(types_behind(kind, types, first, gap, gap + 1))
+    Shaped::Nested(types_behind(kind, types, first, gap, gap + 1, place.end))
 }
 
-// The pieces of a slice, of which t begins at `second`; nothing has come of r if `kind` is 5.
-fn prefixes_behind(kind: u8, slice: &[u8], first: usize, gap: usize, second: usize) -> Pieces
-    requires { ⌜ PiecesDue (PrefixesBehind kind (now slice) second) (now slice) first gap ⌝ }
-    ensures { λ r. ⌜ PiecesFound kind (PrefixesBehind kind (now (slice .entry)) second) (now (slice .entry)) first gap r ⌝ }
+// The pieces of a slice, of which t begins at `second` and the last ends at `end`: t if `kind` is 5, as nothing has come of r.
+fn prefixes_behind(
+    kind: u8,
+    slice: &[u8],
+    first: usize,
+    gap: usize,
+    second: usize,
+    end: usize,
+) -> Pieces
+    requires { ⌜ PiecesDue (PrefixesBehind kind (now slice) second end) (now slice) first gap ⌝ }
+    ensures { λ r. ⌜ PiecesFound kind (PrefixesBehind kind (now (slice .entry)) second end) (now (slice .entry)) first gap r ⌝ }
 {
-    let third = skip_prefix(slice, second);
     if kind == 5 {
-        return Pieces::new(kind, first, gap, second, third, third);
+        return Pieces::new(kind, first, gap, second, end, end);
     }
-    let end = skip_prefix(slice, third);
+    let third = skip_prefix(slice, second);
     Pieces::new(kind, first, gap, second, third, end)
 }
 
 // The pieces of a slice of (s, t), r, if s has come: 5 6 s t and 6 6 s t r.
-pub fn crossed_in_first(slice: &[u8], place: usize) -> Shaped
+pub fn crossed_in_first(slice: &[u8], place: PrefixPlace) -> Shaped
     requires { ⌜ SomeSlice FirstCut (now slice) place ⌝ }
-    ensures { λ r. ⌜ Shapes (SliceAt FirstCut) FirstCut (now (slice .entry)) place r ⌝ }
+    ensures { λ r. ⌜ Shapes (SliceIn FirstCut) FirstCut (now (slice .entry)) place r ⌝ }
 {
-    if slice[place + 1] == 5 {
+    let at = place.start;
+    if slice[at + 1] == 5 {
         return Shaped::Other;
     }
-    let first = place + 2;
+    let first = at + 2;
     let second = skip_prefix(slice, first);
-    let kind = slice[place];
-    Shaped::Nested(prefixes_behind(kind, slice, first, second, second))
+    let kind = slice[at];
+    Shaped::Nested(prefixes_behind(kind, slice, first, second, second, place.end))
 }
 
 // The pieces of a slice of s and then t and r, if s has come: 6 s 5 t, 6 s 6 t r and 6 s 7 t r.
-pub fn crossed_in_second(slice: &[u8], place: usize) -> Shaped
+pub fn crossed_in_second(slice: &[u8], place: PrefixPlace) -> Shaped
     requires { ⌜ SomeSlice SecondCut (now slice) place ⌝ }
-    ensures { λ r. ⌜ Shapes (SliceAt SecondCut) SecondCut (now (slice .entry)) place r ⌝ }
+    ensures { λ r. ⌜ Shapes (SliceIn SecondCut) SecondCut (now (slice .entry)) place r ⌝ }
 {
-    if slice[place] == 5 {
+    let at = place.start;
+    if slice[at] == 5 {
         return Shaped::Other;
     }
-    let first = place + 1;
+    let first = at + 1;
     let gap = skip_prefix(slice, first);
     let kind = slice[gap];
-    Shaped::Nested(prefixes_behind(kind, slice, first, gap, gap + 1))
+    Shaped::Nested(prefixes_behind(kind, slice, first, gap, gap + 1, place.end))
 }

@@ -1,20 +1,31 @@
 // Slices as bytes: whether a file is a slice of a type, and what Left and Join have to know of one.
-use crate::sections::count_of;
-use crate::types::skip_type;
 use stream::Fault;
 ghost use mathlib.Core.Path.{_≡_};
-ghost use Prim.Native.Nat.{_+_, _≤_, _<_};
-ghost use lib.ListN.{length};
+ghost use Prim.Native.Nat.{_+_, _<_};
 ghost use Rattle.stream.specs.Types.{type-limit};
 ghost use Rattle.stream.specs.Prefixes.Kinds.{prefix-arity, root-width};
-ghost use Rattle.reading.specs.TypeReads.{SomeTypeAt};
-ghost use Rattle.reading.specs.SliceReads.{type-kind-of, is-unfinished, belongs-at, first-complete, SomePrefixAt, PrefixEnds, TypeSpans, CompleteWide, CompleteAt, CompleteEnds, WalksLeaf, first-known, crossed-known, both-known, combined, SumsFit, Walks, ReadsSlice};
+ghost use Rattle.reading.specs.SliceReads.{type-kind-of, is-unfinished, belongs-at, first-complete, SomePrefixAt, PrefixEnds, TypeSpans, CompleteWide, CompleteAt, CompleteEnds, first-known, crossed-known, both-known, combined, SumsFit};
 
 // No slice file is longer: the count, a byte for each of 255 nodes, and two for each of at most 128 levels.
 pub const MAX_SLICE_FILE: usize = 513;
 
 // How many bytes a level's value takes.
 pub const VALUE_WIDTH: usize = 2;
+
+// Where a prefix stands in some bytes: from `start` up to, not including, `end`.
+pub struct PrefixPlace {
+    pub start: usize,
+    pub end: usize,
+}
+
+impl PrefixPlace {
+    // Only the place: that a prefix stands there is for whoever made it to know.
+    pub fn new(start: usize, end: usize) -> PrefixPlace
+        ensures { λ r. ⌜ r ≡ record { start = start; end = end } ⌝ }
+    {
+        PrefixPlace { start, end }
+    }
+}
 
 // What is known of a prefix that was read against its type: whether it is complete, how many nodes the type has that it
 // leaves, and by how many bytes its join with a later prefix is shorter than the two. The lengths stand apart: side by side
@@ -100,7 +111,7 @@ pub fn root_width(kind: u8) -> usize
 }
 
 // Whether a slice's kind may stand where a prefix of a type of kind `ty` is owed, `complete` if it has to be.
-fn belongs(ty: u8, kind: u8, complete: bool) -> bool
+pub fn belongs(ty: u8, kind: u8, complete: bool) -> bool
     ensures { λ r. ⌜ r ≡ belongs-at ty kind complete ⌝ }
 {
     if ty != type_kind_of(kind) {
@@ -162,36 +173,8 @@ pub fn skip_complete(types: &[u8], at: usize, end: usize, slice: &[u8], place: u
     place + complete_width(types, at, end)
 }
 
-// A leaf, whose kind belongs there. One that is still awaited stands on a whole type and leaves it as it is; one that has come
-// stands on one node and leaves the empty type.
-fn walk_leaf(types: &[u8], at: usize, slice: &[u8], place: usize) -> Walk
-    requires { ⌜ SomeTypeAt (now types) at ⌝ }
-    requires { ⌜ place < length (now slice) ⌝ }
-    ensures { λ r. ⌜ WalksLeaf (now (types .entry)) at (now (slice .entry)) place r ⌝ }
-{
-    let kind = slice[place];
-    let width = root_width(kind);
-    if slice.len() - place < width {
-        return Walk::Failed(Fault::SliceCutShort);
-    }
-    let awaited = is_unfinished(kind);
-    let mut end = at + 1;
-    if awaited {
-        end = skip_type(types, at);
-    }
-    Walk::Past(
-        end,
-        place + width,
-        Known {
-            complete: !awaited,
-            remains: end - at,
-            overlap: 1,
-        },
-    )
-}
-
 // Of a sequence whose first part is still coming, from that part and from the size `second` of the second part's type.
-fn in_first(first: Known, second: usize) -> Known
+pub fn in_first(first: Known, second: usize) -> Known
     requires { ⌜ first .remains + second < type-limit ⌝ }
     requires { ⌜ first .overlap < type-limit ⌝ }
     ensures { λ r. ⌜ r ≡ first-known first second ⌝ }
@@ -205,7 +188,7 @@ fn in_first(first: Known, second: usize) -> Known
 
 // Of a sequence whose first part was crossed, from that part and from how the walk through the second ended: a join leaves the
 // first part as it is, so what is known of the second is known of both.
-fn crossed(first: Known, second: Walk) -> Walk
+pub fn crossed(first: Known, second: Walk) -> Walk
     ensures { λ r. ⌜ r ≡ combined crossed-known first second ⌝ }
 {
     match second {
@@ -223,7 +206,7 @@ fn crossed(first: Known, second: Walk) -> Walk
 }
 
 // Of two prefixes side by side, from the first and from how the walk through the second ended.
-fn beside(first: Known, second: Walk) -> Walk
+pub fn beside(first: Known, second: Walk) -> Walk
     requires { ⌜ SumsFit first second ⌝ }
     ensures { λ r. ⌜ r ≡ combined both-known first second ⌝ }
 {
@@ -242,7 +225,7 @@ fn beside(first: Known, second: Walk) -> Walk
 }
 
 // Whether the first part under a slice's kind has to be complete: a crossed one has, one that is still coming need not.
-fn first_complete(kind: u8, complete: bool) -> bool
+pub fn first_complete(kind: u8, complete: bool) -> bool
     ensures { λ r. ⌜ r ≡ first-complete kind complete ⌝ }
 {
     match kind {
@@ -253,76 +236,5 @@ fn first_complete(kind: u8, complete: bool) -> bool
         7 => complete,
         // No slice's kind.
         8..=255 => complete,
-    }
-}
-
-// Walks through the type at `at` and the prefix of it at `place`, to the end of both or to the first fault.
-// `complete` says whether the prefix has to be.
-fn walk_prefix(types: &[u8], at: usize, slice: &[u8], place: usize, complete: bool) -> Walk
-    requires { ⌜ SomeTypeAt (now types) at ⌝ }
-    requires { ⌜ place ≤ length (now slice) ⌝ }
-    ensures { λ r. ⌜ Walks (now (types .entry)) at (now (slice .entry)) place complete r ⌝ }
-{
-    if place == slice.len() {
-        return Walk::Failed(Fault::SliceCutShort);
-    }
-    let kind = slice[place];
-    if 7 < kind {
-        return Walk::Failed(Fault::SliceUnlisted);
-    }
-    if !belongs(types[at], kind, complete) {
-        return Walk::Failed(Fault::SliceMisplaced);
-    }
-    if prefix_arity(kind) == 0 {
-        return walk_leaf(types, at, slice, place);
-    }
-    let complete_first = first_complete(kind, complete);
-    match walk_prefix(types, at + 1, slice, place + 1, complete_first) {
-        Walk::Failed(fault) => Walk::Failed(fault),
-        Walk::Past(type_end, prefix_end, prefix) => match kind {
-            5 => {
-                let end = skip_type(types, type_end);
-                Walk::Past(end, prefix_end, in_first(prefix, end - type_end))
-            }
-            6 => crossed(
-                prefix,
-                walk_prefix(types, type_end, slice, prefix_end, complete),
-            ),
-            7 => beside(
-                prefix,
-                walk_prefix(types, type_end, slice, prefix_end, complete),
-            ),
-            // These have no parts, or are no slice's kinds: both were told above.
-            0..=4 => Walk::Failed(Fault::SliceMisplaced),
-            8..=255 => Walk::Failed(Fault::SliceUnlisted),
-        },
-    }
-}
-
-// Whether the bytes are the file of a prefix of the type at `at`; otherwise the first fault. Any bytes may be handed in.
-pub fn read_slice_file(types: &[u8], at: usize, file: &[u8]) -> SliceRead
-    requires { ⌜ SomeTypeAt (now types) at ⌝ }
-    ensures { λ r. ⌜ ReadsSlice (now (types .entry)) at (now (file .entry)) r ⌝ }
-{
-    let length = file.len();
-    if length < 2 {
-        return SliceRead::Refused(Fault::SliceCutShort);
-    }
-    let count = count_of(file[0], file[1]);
-    if length - 2 < count {
-        return SliceRead::Refused(Fault::SliceCutShort);
-    }
-    let end = 2 + count;
-    match walk_prefix(types, at, &file[2..end], 0, false) {
-        Walk::Failed(fault) => SliceRead::Refused(fault),
-        Walk::Past(_, prefix_end, prefix) => {
-            if prefix_end < count {
-                SliceRead::Refused(Fault::SliceLeftOver)
-            } else if end < length {
-                SliceRead::Refused(Fault::SliceLeftOver)
-            } else {
-                SliceRead::Whole(prefix)
-            }
-        }
     }
 }

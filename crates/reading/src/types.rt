@@ -8,7 +8,7 @@ ghost use lib.ListN.{length};
 ghost use Rattle.stream.specs.TypeFiles.{read-type, type-section, type-file};
 ghost use Rattle.stream.specs.Types.Kinds.{type-arity};
 ghost use Rattle.reading.specs.Sections.{end-of};
-ghost use Rattle.reading.specs.TypeReads.{type-read, SomeTypeAt, TypeEnds, NullableIs};
+ghost use Rattle.reading.specs.TypeReads.{type-read, SomeTypeAt, TypeEnds, NullableEnds};
 
 // Where a type stands in some bytes: from `start` up to, not including, `end`.
 pub struct TypePlace {
@@ -114,20 +114,26 @@ pub fn skip_type(types: &[u8], at: usize) -> usize
     end
 }
 
-// Whether the type that stands at `at` is nullable: only kinds 0 and 4 stand in one that is.
-pub fn is_nullable(types: &[u8], at: usize) -> bool
+// What is found at a type: where it ends if it is nullable, or that it is not.
+pub enum NullableEnd {
+    At(usize),
+    Other,
+}
+
+// Where the type that stands at `at` ends if it is nullable, in one pass: only kinds 0 and 4 stand in one that is.
+pub fn nullable_end(types: &[u8], at: usize) -> NullableEnd
     requires { ⌜ SomeTypeAt (now types) at ⌝ }
-    ensures { λ r. ⌜ NullableIs (now (types .entry)) at r ⌝ }
+    ensures { λ r. ⌜ NullableEnds (now (types .entry)) at r ⌝ }
 {
     let mut owed: usize = 1;
     let mut end = at;
     while 0 < owed {
         let kind = types[end];
         if kind != 0 && kind != 4 {
-            return false;
+            return NullableEnd::Other;
         }
         owed = owed - 1 + type_arity(kind);
         end += 1;
     }
-    true
+    NullableEnd::At(end)
 }

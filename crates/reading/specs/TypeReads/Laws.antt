@@ -1,4 +1,5 @@
 -- A type that stands at a place of some bytes: its kind byte, its parts, and where it ends.
+use mathlib.Core.Bool.{Bool, true, false, cond}
 use mathlib.Core.Path.{_≡_, refl, sym, ap, _∙_}
 use mathlib.Core.List.{List, [], _∷_, _++_}
 use Prim.Native.Nat.{ℕ, suc, _+_, _*_, _/_, _-_, _≤_, _<_}
@@ -8,7 +9,7 @@ use lib.ListN.{length, getD, take, drop, length-drop}
 use lib.Seq.{getD-drop, drop-drop, take-at, length-take-le}
 use Rattle.stream.specs.declared.Fault.the-variants.{Unlisted, TypeTooLarge}
 use Rattle.reading.specs.declared.sections.TreeEnd.the-variants.{At}
-use Rattle.stream.specs.Types.{Ty, empty, cue, level, seq, par, size, kind, first-part, second-part, type-limit}
+use Rattle.stream.specs.Types.{Ty, empty, cue, level, seq, par, nullable, size, kind, first-part, second-part, type-limit}
 use Rattle.stream.specs.Types.Laws.{size-positive}
 use Rattle.stream.specs.Reading.{Bytes, read, fault}
 use Rattle.stream.specs.Reading.Laws.{bytes-drop, bytes-take, _&_, past, every}
@@ -17,7 +18,10 @@ use Rattle.stream.specs.TypeFiles.Laws.{type-length, read-type-reads, read-type
 use Rattle.stream.specs.Types.Kinds.{type-arities, type-arity}
 use Rattle.reading.specs.Sections.{end-of}
 use Rattle.reading.specs.Sections.Laws.{inside, section-ended, Within, tree-within}
-use Rattle.reading.specs.TypeReads.{TypeAt, TypeEnds}
+use Rattle.reading.specs.declared.types.TypePlace.{TypePlace}
+use Rattle.reading.specs.declared.types.NullableEnd.{NullableEnd}
+use Rattle.reading.specs.declared.types.NullableEnd.the-variants.{At as NullableAt, Other}
+use Rattle.reading.specs.TypeReads.{TypeAt, TypeIn, TypeEnds, nullable-end, NullableEnds}
 
 -- No kind has more than two parts, and parts come in pairs.
 pub arity-small : (k : ℕ) → type-arity k ≤ 2
@@ -123,12 +127,48 @@ module _ {bytes : List ℕ} {at : ℕ} {t : Ty} (stands : TypeAt bytes at t) whe
     pub second-behind : {second : ℕ} → TypeEnds bytes (at + 1) second → TypeAt bytes second (second-part t)
     second-behind ends = rw (ends .each (first-part t) first-at) second-at
 
+-- Where the first part ends the second begins, and it ends where the whole does.
+module _ {bytes : List ℕ} {place : TypePlace} {t : Ty} (here : TypeIn bytes place t) (fork : 3 ≤ kind t)
+    {second : ℕ} (ends : TypeEnds bytes (place .start + 1) second) where
+  pub first-in : TypeIn bytes (record { start = place .start + 1; end = second }) (first-part t)
+  first-in = let first = first-at (here .stands) fork in record { stands = first; ends = ends .each (first-part t) first }
+
+  pub second-in : TypeIn bytes (record { start = second; end = place .end }) (second-part t)
+  second-in =
+      record {
+        stands = second-behind (here .stands) fork ends;
+        ends = omega (arith, here .ends, first-in .ends, fork-size t fork);
+      }
+
 -- At most one type stands at a place.
 pub same-type : {bytes : List ℕ} {at : ℕ} {s t : Ty} → TypeAt bytes at s → TypeAt bytes at t → s ≡ t
 same-type {s = s} {t = t} h k =
     let e : read s (h .rest) ≡ read t (k .rest)
     = sym (read-type-reads s (h .rest) (h .small)) ∙ rw (← h .here) (rw (k .here) (read-type-reads t (k .rest) (k .small))) in
     cc
+
+-- What is told of where a nullable type ends says that it is one, or that it is not.
+
+pub record EndsNullable (at end : ℕ) (t : Ty) : Type 0 where
+  pub is-nullable : nullable t ≡ true
+  pub ends : end ≡ at + size t
+
+module _ {bytes : List ℕ} {at : ℕ} {answer : NullableEnd} (told : NullableEnds bytes at answer) {t : Ty} (stands : TypeAt bytes at t) where
+  pub ends-nullable : {end : ℕ} → answer ≡ NullableAt end → EndsNullable at end t
+  unfolding nullable-end
+  ends-nullable {end} is-end = go (nullable t) refl (sym is-end ∙ told .each t stands)
+    where
+      go : (b : Bool) → nullable t ≡ b → NullableAt end ≡ cond b (NullableAt (at + size t)) Other → EndsNullable at end t
+      go true is e = record { is-nullable = is; ends = cc }
+      go false is e = let z : _≡_ {A = ℕ} 0 1 = cc in absurd (omega arith)
+
+  pub other-than-nullable : answer ≡ Other → nullable t ≡ false
+  unfolding nullable-end
+  other-than-nullable is-other = go (nullable t) (sym is-other ∙ told .each t stands)
+    where
+      go : (b : Bool) → Other ≡ cond b (NullableAt (at + size t)) Other → b ≡ false
+      go true e = let z : _≡_ {A = ℕ} 0 1 = cc in absurd (omega arith)
+      go false e = refl
 
 -- A type leaves no more bytes than there were.
 root-within : (w : Unit {0}) (s : List ℕ) → Within s (type-root w s)

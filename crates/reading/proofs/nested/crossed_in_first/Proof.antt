@@ -35,7 +35,7 @@ skip-prefix-requires : tie.Need-skip-prefix-requires
 skip-prefix-requires c κs = first-begins (c .if1 .left) (entry (c .before) .pre .slice)
 
 shared-slice-read-kind : tie.Need-shared-slice-read-kind
-shared-slice-read-kind c = starts-inside (some (begun c .pre .slice .stands))
+shared-slice-read-kind c = starts-inside (some (begun c .pre .slice .here .stands))
 
 prefixes-behind-requires : tie.Need-prefixes-behind-requires
 prefixes-behind-requires c κs = first-found (come c .if1 .left) (c .before .skip-prefix .ensures) (begun c .pre .slice) .due

@@ -20,7 +20,7 @@ begun c = entry (come c .before)
 -- What is due
 
 shared-slice-read-if1 : tie.Need-shared-slice-read-if1
-shared-slice-read-if1 c = starts-inside (some (entry c .pre .slice .stands))
+shared-slice-read-if1 c = starts-inside (some (entry c .pre .slice .here .stands))
 
 returns : tie.Need-returns
 returns c = record { each = λ p at. second-waits at (c .if1 .taken) }

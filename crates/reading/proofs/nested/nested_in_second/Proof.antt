@@ -25,45 +25,45 @@ skipped c = c .before
 -- What is due
 
 shared-slice-read-if1 : tie.Need-shared-slice-read-if1
-shared-slice-read-if1 c = starts-inside (entry c .pre .0 .stands)
+shared-slice-read-if1 c = starts-inside (entry c .pre .0 .here .stands)
 
 returns : tie.Need-returns
-returns c = record { each = λ u stands. no-sequence stands (c .if1 .taken) }
+returns c = record { each = λ u here. no-sequence here (c .if1 .taken) }
 
 add-first : tie.Need-add-first
-add-first c = omega (arith, starts-inside (entry (c .before) .pre .0 .stands))
+add-first c = omega (arith, starts-inside (entry (c .before) .pre .0 .here .stands))
 
 skip-type-requires : tie.Need-skip-type-requires
-skip-type-requires c κs = some (root-first (entry (c .before) .pre .0 .stands) (c .if1 .left))
+skip-type-requires c κs = some (root-first (entry (c .before) .pre .0 .here) (c .if1 .left))
 
 shared-slice-read-if2 : tie.Need-shared-slice-read-if2
 shared-slice-read-if2 c =
     let past = skipped c in
-    starts-inside (root-second (begun past .pre .0 .stands) (sequence past .if1 .left) (past .skip-type .ensures))
+    starts-inside (root-second (begun past .pre .0 .here) (sequence past .if1 .left) (past .skip-type .ensures))
 
 returns-2 : tie.Need-returns-2
 returns-2 c =
     let past = skipped (c .before) in
     let same = sequence past .if1 .left in
-    record { each = λ u stands. no-fork stands same second-nested (root-second stands same (past .skip-type .ensures)) (c .if2 .taken) }
+    record { each = λ u here. no-fork here same second-nested (root-second here same (past .skip-type .ensures)) (c .if2 .taken) }
 
 add-types-behind : tie.Need-add-types-behind
 add-types-behind c =
     let past = skipped (c .before) in
-    omega (arith, starts-inside (root-second (begun past .pre .0 .stands) (sequence past .if1 .left) (past .skip-type .ensures)))
+    omega (arith, starts-inside (root-second (begun past .pre .0 .here) (sequence past .if1 .left) (past .skip-type .ensures)))
 
 types-behind-requires : tie.Need-types-behind-requires
 types-behind-requires c κs =
     let past = skipped (c .before) in
-    second-due (begun past .pre .0 .stands) (sequence past .if1 .left) (past .skip-type .ensures) (c .if2 .left) (begun past .pre .1)
+    second-due (begun past .pre .0 .here) (sequence past .if1 .left) (past .skip-type .ensures) (c .if2 .left) (begun past .pre .1)
 
 returns-3 : tie.Need-returns-3
 returns-3 c =
     let forks = c .before in
     let past = skipped (forks .before) in
     record {
-      each = λ u stands.
-          second-told stands (sequence past .if1 .left) (past .skip-type .ensures) (forks .if2 .left) (begun past .pre .1) (c .types-behind .ensures);
+      each = λ u here.
+          second-told here (sequence past .if1 .left) (past .skip-type .ensures) (forks .if2 .left) (begun past .pre .1) (c .types-behind .ensures);
     }
 
 pub nested-in-second-spec : {M : Type 1} → statement M

@@ -1,5 +1,5 @@
--- `is_nullable` meets its contract: while the kinds passed are 0 and 4, the type is nullable if those still to be passed are
--- (`Nullables`), and another kind is never nullable.
+-- `nullable_end` meets its contract: while the kinds passed are 0 and 4, the type is nullable if those still to be passed are
+-- (`Nullables`), and once all are passed it ends there; another kind is never nullable.
 use borrow.Author.Needs.{needs}
 use borrow.Author.Tests.{eqb-true, eqb-false, not-true, not-false}
 use native.Mathlib.Omega.{arith}
@@ -9,8 +9,8 @@ use lib.ListN.{length, getD}
 use Rattle.stream.specs.Types.Laws.{limit-is}
 use Rattle.reading.specs.TypeReads.Laws.{arity-small}
 use Rattle.reading.proofs.TypeSkip.{few, inside, Nullables, begins, all-passed, other-kind, nullable-kind}
-use Rattle.reading.proofs.types.is_nullable.Statement.{statement}
-use Rattle.reading.proofs.types.is_nullable.Tie as tie
+use Rattle.reading.proofs.types.nullable_end.Statement.{statement}
+use Rattle.reading.proofs.types.nullable_end.Tie as tie
 
 abbrev Inv-loop : tie.InvT-loop
 Inv-loop types at owed₀ end₀ owed end = Nullables types at owed end
@@ -61,8 +61,8 @@ loop-again c =
 returns-2 : tie.Need-returns-2 Inv-loop μ-loop
 returns-2 c = all-passed (c .before .loop .inv) (omega arith)
 
-pub is-nullable-spec : {M : Type 1} → statement M
-is-nullable-spec =
+pub nullable-end-spec : {M : Type 1} → statement M
+nullable-end-spec =
     tie.close
     (tie.spec
     Inv-loop

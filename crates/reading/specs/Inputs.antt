@@ -1,0 +1,59 @@
+-- A type and a prefix of it in their bytes, and the parts of both: contracts inside the library, which no demand rests on.
+use mathlib.Core.List.{List}
+use Prim.Native.Nat.{ℕ, _+_}
+use mir.Val.{Fits}
+use mir.Syntax.{w64}
+use Rattle.stream.specs.Types.{Ty, seq}
+use Rattle.stream.specs.Prefixes.{Prefix, in-first, IsPrefix}
+use Rattle.reading.specs.declared.inputs.Input.{Input}
+use Rattle.reading.specs.declared.inputs.Halves.{Halves}
+use Rattle.reading.specs.TypeReads.{TypeIn}
+use Rattle.reading.specs.SliceReads.{PrefixIn}
+pub mod Laws
+
+pub record InputAt (types slice : List ℕ) (input : Input) (t : Ty) (p : Prefix) : Type 0 where
+  pub type-in : TypeIn types (input .ty) t
+  pub prefix-in : PrefixIn slice (input .prefix) p
+  pub is-prefix : IsPrefix t p
+
+-- Both begin with a byte in front of their parts, whose places can be counted.
+pub record CutDue (input : Input) : Type 0 where
+  pub type-counted : Fits w64 (input .ty .start + 1)
+  pub prefix-counted : Fits w64 (input .prefix .start + 1)
+
+abbrev pub cut-at : Input → (end stop : ℕ) → Halves
+cut-at input end stop =
+    record {
+      first = record { ty = record { start = input .ty .start + 1; end = end }; prefix = record { start = input .prefix .start + 1; end = stop } };
+      second = record { ty = record { start = end; end = input .ty .end }; prefix = record { start = stop; end = input .prefix .end } };
+    }
+
+-- Two parts each: of a type by `joins`, of a prefix of it by `meets`.
+pub record HalvesDue (joins : Ty → Ty → Ty) (meets : Prefix → Prefix → Prefix) (types slice : List ℕ) (input : Input) : Type 0 where
+  pub first-type : Ty
+  pub second-type : Ty
+  pub first-prefix : Prefix
+  pub second-prefix : Prefix
+  pub stands : InputAt types slice input (joins first-type second-type) (meets first-prefix second-prefix)
+
+pub record HalvesAt (types slice : List ℕ) (halves : Halves) (t r : Ty) (p q : Prefix) : Type 0 where
+  pub first : InputAt types slice (halves .first) t p
+  pub second : InputAt types slice (halves .second) r q
+
+pub record HalvesFound (joins : Ty → Ty → Ty) (meets : Prefix → Prefix → Prefix) (types slice : List ℕ) (input : Input) (halves : Halves) : Type 0 where
+  pub each : (due : HalvesDue joins meets types slice input)
+      → HalvesAt types slice halves (due .first-type) (due .second-type) (due .first-prefix) (due .second-prefix)
+
+-- A sequence whose first part is still coming: its prefix has one part.
+pub record ComingDue (types : List ℕ) (input : Input) : Type 0 where
+  pub first-type : Ty
+  pub second-type : Ty
+  pub type-in : TypeIn types (input .ty) (seq first-type second-type)
+  pub counted : CutDue input
+
+pub record ComingAt (types slice : List ℕ) (input part : Input) (t r : Ty) (p : Prefix) : Type 0 where
+  pub first : InputAt types slice part t p
+  pub second : TypeIn types (record { start = part .ty .end; end = input .ty .end }) r
+
+pub record ComingFound (types : List ℕ) (input part : Input) : Type 0 where
+  pub each : (slice : List ℕ) (t r : Ty) (p : Prefix) → InputAt types slice input (seq t r) (in-first p) → ComingAt types slice input part t r p

@@ -1,0 +1,82 @@
+// A type and a prefix of it, each with where it ends: what a node is fed. Whoever has the whole knows where its last part ends, so that
+// only the ends between parts are looked for.
+use crate::prefixes::PrefixPlace;
+use crate::prefixes::skip_complete;
+use crate::prefixes::skip_prefix;
+use crate::types::TypePlace;
+use crate::types::skip_type;
+ghost use mathlib.Core.Path.{_≡_};
+ghost use Rattle.stream.specs.Types.{seq, par};
+ghost use Rattle.stream.specs.Prefixes.{crossed, beside};
+ghost use Rattle.reading.specs.Inputs.{CutDue, cut-at, HalvesDue, HalvesFound, ComingDue, ComingFound};
+
+pub struct Input {
+    pub ty: TypePlace,
+    pub prefix: PrefixPlace,
+}
+
+impl Input {
+    // Only the place: that a type and a prefix of it stand there is for whoever made it to know.
+    pub fn new(ty: TypePlace, prefix: PrefixPlace) -> Input
+        ensures { λ r. ⌜ r ≡ record { ty = ty; prefix = prefix } ⌝ }
+    {
+        Input { ty, prefix }
+    }
+}
+
+// Two parts of a type, each with a prefix of it.
+pub struct Halves {
+    pub first: Input,
+    pub second: Input,
+}
+
+// The parts of an input, of which the first end at `end` and at `stop`.
+fn cut(input: Input, end: usize, stop: usize) -> Halves
+    requires { ⌜ CutDue input ⌝ }
+    ensures { λ r. ⌜ r ≡ cut-at input end stop ⌝ }
+{
+    Halves {
+        first: Input::new(
+            TypePlace::new(input.ty.start + 1, end),
+            PrefixPlace::new(input.prefix.start + 1, stop),
+        ),
+        second: Input::new(
+            TypePlace::new(end, input.ty.end),
+            PrefixPlace::new(stop, input.prefix.end),
+        ),
+    }
+}
+
+// The two sides, of a type of the kind 4.
+pub fn sides(types: &[u8], slice: &[u8], input: Input) -> Halves
+    requires { ⌜ HalvesDue par beside (now types) (now slice) input ⌝ }
+    ensures { λ r. ⌜ HalvesFound par beside (now (types .entry)) (now (slice .entry)) input r ⌝ }
+{
+    let end = skip_type(types, input.ty.start + 1);
+    let stop = skip_prefix(slice, input.prefix.start + 1);
+    cut(input, end, stop)
+}
+
+// The two parts of a sequence of which the first was crossed.
+pub fn crossed_parts(types: &[u8], slice: &[u8], input: Input) -> Halves
+    requires { ⌜ HalvesDue seq crossed (now types) (now slice) input ⌝ }
+    ensures { λ r. ⌜ HalvesFound seq crossed (now (types .entry)) (now (slice .entry)) input r ⌝ }
+{
+    let first = input.ty.start + 1;
+    let end = skip_type(types, first);
+    let stop = skip_complete(types, first, end, slice, input.prefix.start + 1);
+    cut(input, end, stop)
+}
+
+// The first part of a sequence that is still coming. The second part of the type stands behind it.
+pub fn coming_part(types: &[u8], input: Input) -> Input
+    requires { ⌜ ComingDue (now types) input ⌝ }
+    ensures { λ r. ⌜ ComingFound (now (types .entry)) input r ⌝ }
+{
+    let first = input.ty.start + 1;
+    let end = skip_type(types, first);
+    Input::new(
+        TypePlace::new(first, end),
+        PrefixPlace::new(input.prefix.start + 1, input.prefix.end),
+    )
+}
