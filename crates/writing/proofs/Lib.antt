@@ -1,9 +1,12 @@
 pub mod PrefixKinds
-pub mod Derivative
-pub mod LeftFile
 pub mod JoiningLeaf
 pub mod JoiningParts
 pub mod JoinedFile
 pub mod RoomBehind
+pub mod SectionFile
+pub mod SliceWalk
+pub mod SliceLeft
+pub mod SliceFile
 pub mod EmptyWalk
 pub mod SpentWalk
+pub mod Silence

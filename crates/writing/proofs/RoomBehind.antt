@@ -4,8 +4,8 @@ use mathlib.Core.List.{List, [], _∷_, append-nil}
 use Prim.Native.Nat.{ℕ, _+_, _-_, _≤_, _<_}
 use native.Mathlib.Omega.{arith}
 use native.Mathlib.Numerals.{add-one}
-use lib.ListN.{length, drop, set, length-append, length-drop, drop-of-length-le}
-use lib.Seq.{drop-drop, set-split}
+use lib.ListN.{length, getD, take, drop, set, length-append, length-drop, drop-of-length-le}
+use lib.Seq.{drop-cons, drop-drop, set-split}
 use Rattle.stream.specs.Buffers.{at-front}
 use Rattle.writing.specs.Writing.Laws.{part, back, part-is, front-length}
 use Rattle.writing.specs.Appending.{Appends}
@@ -41,3 +41,8 @@ set-back x i k h =
 
 pub appended-byte : (now : List ℕ) (written k : ℕ) → written < length now → Appends (k ∷ []) written now (set now written k) (written + 1)
 appended-byte now written k room = rw (set-back now written k room) (appended written (omega arith) refl)
+
+-- A part of one byte is that byte.
+pub appended-one : (source : List ℕ) (from to : ℕ) {now after : List ℕ} {written end : ℕ} → from < length source → to - from ≡ 1
+    → Appends (getD source from 0 ∷ []) written now after end → Appends (take (to - from) (drop from source)) written now after end
+appended-one source from to inside one written-kind = rw (one, drop-cons source from 0 inside) written-kind

@@ -1,3 +1,4 @@
 pub mod Writing
 pub mod Appending
 pub mod Reordering
+pub mod Leaving

@@ -4,12 +4,12 @@ use mathlib.Core.List.{List, [], _∷_}
 use Prim.Native.Nat.{ℕ, _+_, _≤_}
 use lib.ListN.{length, getD}
 use Rattle.writing.specs.declared.Moved.{Moved}
-use Rattle.stream.specs.Types.{Ty, size}
+use Rattle.stream.specs.Types.{Ty, Nullable, size}
 use Rattle.stream.specs.Buffers.{at-front}
 use Rattle.stream.specs.Prefixes.{Prefix, Complete, IsPrefix, empty-prefix, derivative}
 use Rattle.stream.specs.Prefixes.Functions.{concat}
 use Rattle.stream.specs.Prefixes.Kinds.{prefix-arity}
-use Rattle.stream.specs.TypeFiles.{type-bytes, type-file-bytes}
+use Rattle.stream.specs.TypeFiles.{type-bytes}
 use Rattle.stream.specs.SliceFiles.{prefix-bytes, slice-file-bytes}
 use Rattle.reading.specs.TypeReads.{TypeAt}
 use Rattle.reading.specs.SliceReads.{prefix-width, PrefixAt}
@@ -30,55 +30,12 @@ pub record PrefixDue (slice : List ℕ) (place : ℕ) (lent : List ℕ) : Type 0
 pub record PrefixWritten (slice : List ℕ) (place : ℕ) (lent lent-after : List ℕ) (written : ℕ) : Type 0 where
   pub each : (due : PrefixDue slice place lent) → (written ≡ prefix-width (due .prefix)) × (lent-after ≡ at-front (prefix-bytes (due .prefix) []) lent)
 
--- The type at `at` likewise.
-pub record TypeDue (types : List ℕ) (at : ℕ) (lent : List ℕ) : Type 0 where
-  pub type : Ty
-  pub stands : TypeAt types at type
-  pub room : size type ≤ length lent
-
-pub record TypeWritten (types : List ℕ) (at : ℕ) (lent lent-after : List ℕ) (written : ℕ) : Type 0 where
-  pub each : (due : TypeDue types at lent) → (written ≡ size (due .type)) × (lent-after ≡ at-front (type-bytes (due .type) []) lent)
-
--- A type and a prefix of it, in their bytes.
-pub record Stands (types : List ℕ) (at : ℕ) (slice : List ℕ) (place : ℕ) (t : Ty) (p : Prefix) : Type 0 where
-  pub type-at : TypeAt types at t
-  pub prefix-at : PrefixAt slice place p
-  pub is-prefix : IsPrefix t p
-
--- What the prefix leaves of the type is to be written on `lent`, which has room for it.
-pub record DerivativeDue (types : List ℕ) (at : ℕ) (slice : List ℕ) (place : ℕ) (lent : List ℕ) : Type 0 where
-  pub type : Ty
-  pub prefix : Prefix
-  pub stands : Stands types at slice place type prefix
-  pub room : size (derivative type prefix) ≤ length lent
-
--- The same where the prefix is a leaf.
-pub record LeafLeftDue (types : List ℕ) (at : ℕ) (slice : List ℕ) (place : ℕ) (lent : List ℕ) : Type 0 where
-  pub due : DerivativeDue types at slice place lent
-  pub leaf : prefix-arity (getD slice place 0) ≡ 0
-
 -- Where both end, how many bytes were written, and which.
 pub record Moves (first-end second-end : ℕ) (bytes lent lent-after : List ℕ) (moved : Moved) : Type 0 where
   pub first : moved .first ≡ first-end
   pub second : moved .second ≡ second-end
   pub written : moved .written ≡ length bytes
   pub buffer : lent-after ≡ at-front bytes lent
-
-pub record DerivativeWritten (types : List ℕ) (at : ℕ) (slice : List ℕ) (place : ℕ) (lent lent-after : List ℕ) (moved : Moved) : Type 0 where
-  pub each : (due : DerivativeDue types at slice place lent)
-      → Moves (at + size (due .type)) (place + prefix-width (due .prefix)) (type-bytes (derivative (due .type) (due .prefix)) []) lent lent-after moved
-
--- The same for a slice file, whose tree stands behind the two bytes of its count, and with a count before what is written;
--- `remains` is how many nodes the type left has.
-pub record LeftFileDue (types : List ℕ) (at : ℕ) (slice : List ℕ) (remains : ℕ) (lent : List ℕ) : Type 0 where
-  pub type : Ty
-  pub prefix : Prefix
-  pub stands : Stands types at slice 2 type prefix
-  pub measured : remains ≡ size (derivative type prefix)
-  pub room : 2 + remains ≤ length lent
-
-pub record LeftFileWritten (types : List ℕ) (at : ℕ) (slice : List ℕ) (remains : ℕ) (lent lent-after : List ℕ) : Type 0 where
-  pub each : (due : LeftFileDue types at slice remains lent) → lent-after ≡ at-front (type-file-bytes (derivative (due .type) (due .prefix))) lent
 
 -- A prefix, and one of what it leaves, in their bytes.
 pub record Follows (first : List ℕ) (first-place : ℕ) (second : List ℕ) (second-place : ℕ) (t : Ty) (p q : Prefix) : Type 0 where
@@ -130,6 +87,16 @@ pub record EmptyDue (types : List ℕ) (at : ℕ) (lent : List ℕ) : Type 0 whe
 pub record EmptyWritten (types : List ℕ) (at : ℕ) (lent lent-after : List ℕ) (written : ℕ) : Type 0 where
   pub each : (due : EmptyDue types at lent)
       → (written ≡ prefix-width (empty-prefix (due .type))) × (lent-after ≡ at-front (prefix-bytes (empty-prefix (due .type)) []) lent)
+
+-- The empty prefix of a nullable type, which `source` holds and nothing else, is to be written on `lent`, which has room for it.
+pub record SilenceDue (source lent : List ℕ) : Type 0 where
+  pub type : Ty
+  pub is-nullable : Nullable type
+  pub bytes : source ≡ type-bytes type []
+  pub room : length source ≤ length lent
+
+pub record SilenceWritten (source lent lent-after : List ℕ) : Type 0 where
+  pub each : (due : SilenceDue source lent) → lent-after ≡ at-front (prefix-bytes (empty-prefix (due .type)) []) lent
 
 -- What the complete prefix at `place` leaves of a type is to be written on `lent`, which has room for it.
 pub record SpentDue (slice : List ℕ) (place : ℕ) (lent : List ℕ) : Type 0 where

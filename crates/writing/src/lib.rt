@@ -13,10 +13,11 @@ ghost use mir.Syntax.{w64};
 ghost use Rattle.stream.specs.Reading.{section-bytes};
 ghost use Rattle.stream.specs.Buffers.{at-front};
 ghost use Rattle.stream.specs.Prefixes.Kinds.{prefix-arity};
-ghost use Rattle.writing.specs.Writing.{PrefixDue, PrefixWritten, TypeDue, TypeWritten, LeafLeftDue, DerivativeDue, DerivativeWritten, LeftFileDue, LeftFileWritten, LeafConcatDue, ConcatDue, ConcatWritten, JoinedFileDue, JoinedFileWritten, empty-kind, EmptyDue, EmptyWritten, SpentDue, SpentWritten};
+ghost use Rattle.writing.specs.Writing.{PrefixDue, PrefixWritten, LeafConcatDue, ConcatDue, ConcatWritten, JoinedFileDue, JoinedFileWritten, empty-kind, EmptyDue, EmptyWritten, SilenceDue, SilenceWritten, SpentDue, SpentWritten};
 
 pub mod appending;
 pub mod reordering;
+pub mod slices;
 
 // How far a writer has come: where the two trees that it goes through end, and how many bytes it has written.
 pub struct Moved {
@@ -74,83 +75,6 @@ pub fn copy_prefix(slice: &[u8], place: usize, out: &mut [u8]) -> usize
     let end = skip_prefix(slice, place);
     copy(&slice[place..end], out);
     end - place
-}
-
-// Copies the type at `at`, and says how many bytes it has. Most have one, for which no loop is begun.
-fn copy_type(types: &[u8], at: usize, out: &mut [u8]) -> usize
-    requires { ⌜ TypeDue (now types) at (now out) ⌝ }
-    ensures { λ r. ⌜ TypeWritten (now (types .entry)) at (now (out .entry)) (now (out .exit)) r ⌝ }
-{
-    let end = skip_type(types, at);
-    if end - at == 1 {
-        out[0] = types[at];
-        return 1;
-    }
-    copy(&types[at..end], out);
-    end - at
-}
-
-// What a leaf of a slice leaves: one still awaited the whole type under it, one that has come the empty type for the one node
-// under it.
-fn write_leaf_left(types: &[u8], at: usize, slice: &[u8], place: usize, out: &mut [u8]) -> Moved
-    requires { ⌜ LeafLeftDue (now types) at (now slice) place (now out) ⌝ }
-    ensures { λ r. ⌜ DerivativeWritten (now (types .entry)) at (now (slice .entry)) place (now (out .entry)) (now (out .exit)) r ⌝ }
-{
-    let kind = slice[place];
-    if is_unfinished(kind) {
-        let written = copy_type(types, at, out);
-        Moved::new(at + written, place + 1, written)
-    } else {
-        out[0] = 0;
-        Moved::new(at + 1, place + root_width(kind), 1)
-    }
-}
-
-// Writes what the prefix at `place` leaves of the type at `at`. No slice has a kind above 7.
-pub fn write_derivative(
-    types: &[u8],
-    at: usize,
-    slice: &[u8],
-    place: usize,
-    out: &mut [u8],
-) -> Moved
-    requires { ⌜ DerivativeDue (now types) at (now slice) place (now out) ⌝ }
-    ensures { λ r. ⌜ DerivativeWritten (now (types .entry)) at (now (slice .entry)) place (now (out .entry)) (now (out .exit)) r ⌝ }
-{
-    match slice[place] {
-        0..=4 => write_leaf_left(types, at, slice, place, out),
-        5 => {
-            out[0] = 3;
-            let part = write_derivative(types, at + 1, slice, place + 1, &mut out[1..]);
-            let second = part.first;
-            let written = 1 + part.written;
-            let copied = copy_type(types, second, &mut out[written..]);
-            Moved::new(second + copied, part.second, written + copied)
-        }
-        6 => {
-            let second = skip_type(types, at + 1);
-            let rest = skip_prefix(slice, place + 1);
-            write_derivative(types, second, slice, rest, out)
-        }
-        7 => {
-            out[0] = 4;
-            let part = write_derivative(types, at + 1, slice, place + 1, &mut out[1..]);
-            let written = 1 + part.written;
-            let rest = write_derivative(types, part.first, slice, part.second, &mut out[written..]);
-            onward(rest, written)
-        }
-        8..=255 => Moved::new(at, place, 0),
-    }
-}
-
-// Writes the file of what the slice file's prefix leaves of the type at `at`: a type of `remains` nodes. In a file of one section
-// the tree stands behind the two bytes of the count.
-pub fn write_left_file(types: &[u8], at: usize, slice: &[u8], remains: usize, out: &mut [u8])
-    requires { ⌜ LeftFileDue (now types) at (now slice) remains (now out) ⌝ }
-    ensures { λ _. ⌜ LeftFileWritten (now (types .entry)) at (now (slice .entry)) remains (now (out .entry)) (now (out .exit)) ⌝ }
-{
-    put_count(remains, out);
-    write_derivative(types, at, slice, 2, &mut out[2..]);
 }
 
 // The join where the first prefix is a leaf: a leaf still awaited gives way to the second prefix, one that has come stays.
@@ -312,6 +236,19 @@ pub fn write_empty(types: &[u8], at: usize, out: &mut [u8]) -> usize
         }
     }
     written
+}
+
+// Writes the empty prefix of the nullable type whose bytes are all of `source`. Only 0 and 4 stand in it, which give way to 0 and 7:
+// no branch, so that a processor does many bytes in one turn.
+pub fn write_silence(source: &[u8], out: &mut [u8])
+    requires { ⌜ SilenceDue (now source) (now out) ⌝ }
+    ensures { λ _. ⌜ SilenceWritten (now (source .entry)) (now (out .entry)) (now (out .exit)) ⌝ }
+{
+    let mut at = 0;
+    while at < source.len() {
+        out[at] = source[at] / 4 * 7;
+        at += 1;
+    }
 }
 
 // Writes the type that the complete prefix at `place` leaves, and says how many nodes it has. What a complete prefix leaves is

@@ -4,7 +4,9 @@ use mathlib.Core.Path.{_≡_, refl, sym, ap, _∙_}
 use mathlib.Core.List.{List, [], append-nil}
 use Prim.Native.Nat.{ℕ, _+_, _-_, _≤_}
 use native.Mathlib.Omega.{arith}
-use lib.ListN.{length, drop}
+use native.Mathlib.Nat.{le-trans}
+use lib.ListN.{length, take, drop}
+use lib.Seq.{length-take-le}
 use Rattle.stream.specs.declared.Fault.{Fault}
 use Rattle.reading.specs.declared.types.TypePlace.{TypePlace}
 use Rattle.reading.specs.declared.types.TypeRead.{TypeRead}
@@ -12,7 +14,8 @@ use Rattle.reading.specs.declared.types.TypeRead.the-variants.{Whole as WholeTy
 use Rattle.reading.specs.declared.prefixes.Known.{Known}
 use Rattle.reading.specs.declared.prefixes.SliceRead.{SliceRead}
 use Rattle.reading.specs.declared.prefixes.SliceRead.the-variants.{Whole, Refused}
-use Rattle.stream.specs.Types.{Ty, size, type-limit, Small}
+use Rattle.stream.specs.Types.{Ty, size, Small}
+use Rattle.stream.specs.Types.Laws.{limit-is}
 use Rattle.stream.specs.Prefixes.{Prefix, derivative}
 use Rattle.stream.specs.Prefixes.Functions.{complete, concat}
 use Rattle.stream.specs.Prefixes.Laws.{derivative-size, concat-is-prefix}
@@ -22,11 +25,13 @@ use Rattle.stream.specs.TypeFiles.Laws.{type-length, type-file-sound}
 use Rattle.stream.specs.SliceFiles.{prefix-bytes, slice-file-bytes, slice-file}
 use Rattle.stream.specs.SliceFiles.Laws.{prefix-short, slice-length, slice-file-sound}
 use Rattle.reading.specs.TypeReads.{type-read, TypeAt, AcceptedType}
-use Rattle.reading.specs.TypeReads.Laws.{type-before}
+use Rattle.reading.specs.TypeReads.Laws.{type-before, type-width, bytes-at}
 use Rattle.reading.specs.SliceReads.{prefix-width, known, slice-read, ReadsSlice, AcceptedSlice}
 use Rattle.reading.specs.SliceReads.Laws.{prefix-bytes-length, overlap-within, concat-width}
 use Rattle.stream.specs.Buffers.{at-front}
-use Rattle.writing.specs.Writing.{Stands, DerivativeDue, LeftFileDue, JoinedFileDue}
+use Rattle.writing.specs.Appending.{Holds}
+use Rattle.writing.specs.Leaving.{ReadsSliceLeaving}
+use Rattle.writing.specs.Writing.{JoinedFileDue}
 use Rattle.stream.specs.Bounds.{slice-file-limit}
 
 -- Behind the two bytes of the count stands the tree.
@@ -108,6 +113,47 @@ module _ {types : List ℕ} {at : ℕ} {file : List ℕ} {answer : SliceRead} (t
 pub written-stands : (t : Ty) (lent : List ℕ) {bytes : List ℕ} → bytes ≡ at-front (type-bytes t []) lent → Small t → TypeAt bytes 0 t
 written-stands t lent e small = record { rest = drop (length (type-bytes t [])) lent; here = e ∙ sym (type-before t _); small = small }
 
+-- A type of `many` nodes, at the front of work bytes.
+pub record TypeHeld (t : Ty) (held : List ℕ) (many : ℕ) : Type 0 where
+  pub sized : many ≡ size t
+  pub small : many ≤ 255
+  pub inside : many ≤ length held
+  pub stands : TypeAt held 0 t
+  pub bytes : take many held ≡ type-bytes t []
+
+-- Work bytes of 255 have room for every type.
+pub type-held : (t : Ty) → Small t → {lent held : List ℕ} → 255 ≤ length lent → Holds (type-bytes t []) lent held → (many : ℕ) → many ≡ size t
+    → TypeHeld t held many
+type-held t small {lent} room holds many sized =
+    let stands = written-stands t lent (holds .in-front (omega (arith, type-width t, small, limit-is))) small in
+    record {
+      sized = sized;
+      small = omega (arith, small, limit-is);
+      inside = omega (arith, holds .long, small, limit-is);
+      stands = stands;
+      bytes = rw sized (bytes-at stands);
+    }
+
+-- The section of its bytes is its file.
+module _ {t : Ty} {held : List ℕ} {many : ℕ} (type : TypeHeld t held many) where
+  pub section-due : (out : List ℕ) → 2 + many ≤ length out → (length (take many held) ≤ 65535) × (2 + length (take many held) ≤ length out)
+  section-due out room =
+      let long : length (take many held) ≡ many = length-take-le many held (type .inside) in
+      (omega (arith, long, type .small), omega (arith, long))
+
+  pub section-written : (out : List ℕ) {out-after : List ℕ} → out-after ≡ at-front (section-bytes (take many held) []) out
+      → out-after ≡ at-front (type-file-bytes t) out
+  unfolding type-file-bytes
+  section-written out e = e ∙ ap (λ body. at-front (section-bytes body []) out) (type .bytes)
+
+-- What an accepted slice file leaves, on work bytes that its reader was lent.
+pub left-held : {types : List ℕ} {at : ℕ} {file lent held : List ℕ} {answer : SliceRead} → ReadsSliceLeaving types at file lent held answer
+    → {t : Ty} → TypeAt types at t → {about : Known} (p : AcceptedSlice t file about) → 255 ≤ length lent
+    → TypeHeld (derivative t (p .prefix)) held (about .remains)
+left-held read {t} stands {about} p room =
+    type-held (derivative t (p .prefix)) (le-trans (derivative-size (p .is-prefix)) (stands .small)) room
+    (read .left t stands (p .prefix) (p .is-accepted)) (about .remains) (p .remains)
+
 -- An accepted slice file is no longer than any.
 pub slice-short : {t : Ty} {file : List ℕ} {about : Known} → Small t → AcceptedSlice t file about → length file ≤ slice-file-limit
 slice-short small p =
@@ -117,22 +163,7 @@ slice-short small p =
 pub overlap-less : {t : Ty} {file : List ℕ} {about : Known} → AcceptedSlice t file about → about .overlap ≤ length file - 2
 overlap-less p = omega (arith, p .fills, p .overlap, overlap-within (p .prefix))
 
--- What the writers ask for, once the readers have accepted.
-module _ {types file : List ℕ} {start : ℕ} {about : Known} (t : AcceptedType types start) (p : AcceptedSlice (t .type) file about) where
-  pub left-small : about .remains ≤ 255
-  unfolding type-limit
-  left-small = omega (arith, p .remains, derivative-size (p .is-prefix), t .stands .small)
-
-  abbrev both-stand : Stands types start file 2 (t .type) (p .prefix)
-  both-stand = record { type-at = t .stands; prefix-at = p .stands; is-prefix = p .is-prefix }
-
-  abbrev pub derivative-due : (lent : List ℕ) → 255 ≤ length lent → DerivativeDue types start file 2 lent
-  derivative-due lent room =
-      record { type = t .type; prefix = p .prefix; stands = both-stand; room = omega (arith, left-small, p .remains) }
-
-  abbrev pub left-file-due : (lent : List ℕ) → 2 + about .remains ≤ length lent → LeftFileDue types start file (about .remains) lent
-  left-file-due lent room = record { type = t .type; prefix = p .prefix; stands = both-stand; measured = p .remains; room = room }
-
+-- What the writer of a join asks for, once the readers have accepted.
 module _ {t : Ty} {first second : List ℕ} {one other : Known}
     (p : AcceptedSlice t first one) (q : AcceptedSlice (derivative t (p .prefix)) second other) where
   -- A join has as many bytes as the two without their overlap.
