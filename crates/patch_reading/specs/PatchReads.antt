@@ -3,7 +3,7 @@ use mathlib.Core.Path.{_≡_}
 use mathlib.Core.List.{List, []}
 use Prim.Native.Nat.{ℕ, _+_, _≤_}
 use lib.ListN.{length, drop}
-use Rattle.reading.specs.TypeReads.{in-file, TypeAt}
+use Rattle.reading.specs.TypeReads.{in-file, TypeIn}
 use Rattle.stream.specs.Types.{size}
 use Rattle.stream.specs.Reading.{Result, accepted, refused}
 use Rattle.node.specs.Nodes.{Node, Patch, count, node-limit, Few}
@@ -38,6 +38,6 @@ pub record NodeAt (bytes : List ℕ) (at : ℕ) (n : Node) : Type 0 where
 pub record AcceptedPatch (file : List ℕ) (place : PatchPlace) : Type 0 where
   pub patch : Patch
   pub is-accepted : first-pass file ≡ accepted patch
-  pub type-at : TypeAt file (place .input .start) (patch .input)
+  pub type-in : TypeIn file (place .input) (patch .input)
   pub node-at : NodeAt file (place .nodes) (patch .node)
   pub few : Few (patch .node)

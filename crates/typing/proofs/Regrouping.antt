@@ -12,7 +12,8 @@ use Rattle.stream.specs.Reading.{Result, require}
 use Rattle.stream.specs.TypeFiles.{type-bytes}
 use Rattle.reading.specs.declared.nested.Pieces.{Pieces}
 use Rattle.reading.specs.declared.nested.Shaped.the-variants.{Nested, Other}
-use Rattle.reading.specs.TypeReads.{TypeAt}
+use Rattle.reading.specs.declared.types.TypePlace.{TypePlace}
+use Rattle.reading.specs.TypeReads.{TypeIn}
 use Rattle.reading.specs.TypeReads.Laws.{type-before, type-width}
 use Rattle.reading.specs.Nesting.{Nesting, first-nested, second-nested, is-nested, TypeCut, other-type, nested-type, Told, told-other, told-nested, Shapes}
 use Rattle.writing.specs.Reordering.{ReorderDue, Reordered, regrouped-right, regrouped-left, spread-out}
@@ -46,23 +47,23 @@ second-sized k fork u e =
 abbrev pub shaped : Nesting → ℕ → (Ty → Ty → Ty → Ty) → Ty → Result Ty
 shaped n k make u = require (is-nested n k u) WrongShape (gives (make (n .s u) (n .t u) (n .r u)))
 
-module _ (n : Nesting) (k : ℕ) (sized : Sized n k) {types : List ℕ} {at : ℕ} where
+module _ (n : Nesting) (k : ℕ) (sized : Sized n k) {types : List ℕ} {place : TypePlace} where
   -- Its pieces can be written.
-  pub reorder-due : {u : Ty} {places : Pieces} → TypeAt types at u → Told (TypeCut n k) types u (Nested places) → ReorderDue types places
-  reorder-due stands (told-nested (nested-type {u = u} e) pieces) =
+  pub reorder-due : {u : Ty} {places : Pieces} → TypeIn types place u → Told (TypeCut n k) types u (Nested places) → ReorderDue types places
+  reorder-due here (told-nested (nested-type {u = u} e) pieces) =
       record {
         kind = k;
         s = type-bytes (n .s u) [];
         t = type-bytes (n .t u) [];
         r = type-bytes (n .r u) [];
         pieces = pieces;
-        few = omega (arith, type-width (n .s u), type-width (n .t u), type-width (n .r u), sized u e, stands .small, limit-is);
+        few = omega (arith, type-width (n .s u), type-width (n .t u), type-width (n .r u), sized u e, here .stands .small, limit-is);
       }
 
   module _ (make : Ty → Ty → Ty → Ty) {end : ℕ} where
     -- 7 if it has another shape.
-    pub refuses : {lent : List ℕ} → Shapes TypeAt (TypeCut n k) types at Other → Given (shaped n k make) types at end lent lent (Failed WrongShape)
-    refuses {lent} shapes = record { each = λ u stands. fails (shapes .each u stands) }
+    pub refuses : {lent : List ℕ} → Shapes TypeIn (TypeCut n k) types place Other → Given (shaped n k make) types place end lent lent (Failed WrongShape)
+    refuses {lent} shapes = record { each = λ u here. fails (shapes .each u here) }
       where
         fails : {u : Ty} → Told (TypeCut n k) types u Other → Answers end (shaped n k make u) lent lent (Failed WrongShape)
         fails (told-other (other-type {u = u} e)) = requires-fails (gives (make (n .s u) (n .t u) (n .r u))) e refl
@@ -70,22 +71,22 @@ module _ (n : Nesting) (k : ℕ) (sized : Sized n k) {types : List ℕ} {at : �
     -- The order in which they are written makes it.
     module _ (order : List ℕ → List ℕ → List ℕ → List ℕ)
         (made : (s t r : Ty) → order (type-bytes s []) (type-bytes t []) (type-bytes r []) ≡ type-bytes (make s t r) [])
-        {places : Pieces} (shapes : Shapes TypeAt (TypeCut n k) types at (Nested places))
+        {places : Pieces} (shapes : Shapes TypeIn (TypeCut n k) types place (Nested places))
         {lent now : List ℕ} {many : ℕ} (written : Reordered order types places lent now many) where
-      pub gives-made : Given (shaped n k make) types at end lent now (limited end many)
-      gives-made = record { each = λ u stands. holds (shapes .each u stands) }
+      pub gives-made : Given (shaped n k make) types place end lent now (limited end many)
+      gives-made = record { each = λ u here. holds (shapes .each u here) }
         where
           holds : {u : Ty} → Told (TypeCut n k) types u (Nested places) → Answers end (shaped n k make u) lent now (limited end many)
           holds (told-nested (nested-type {u = u} e) pieces) =
               requires-holds WrongShape e (answers-written (make (n .s u) (n .t u) (n .r u)) (written .each _ _ _ _ pieces) (made (n .s u) (n .t u) (n .r u)))
 
       -- It is not larger than the type itself if it has as many nodes.
-      pub gives-as-many : ((s t r : Ty) → size (make s t r) ≡ 2 + (size s + size t + size r)) → Given (shaped n k make) types at end lent now (Gives end many)
+      pub gives-as-many : ((s t r : Ty) → size (make s t r) ≡ 2 + (size s + size t + size r)) → Given (shaped n k make) types place end lent now (Gives end many)
       gives-as-many as-many =
-          record { each = λ u stands. rw (← limited-small end {n = many} (few stands (shapes .each u stands))) (gives-made .each u stands) }
+          record { each = λ u here. rw (← limited-small end {n = many} (few here (shapes .each u here))) (gives-made .each u here) }
         where
-          few : {u : Ty} → TypeAt types at u → Told (TypeCut n k) types u (Nested places) → many ≤ type-limit
-          few stands (told-nested (nested-type {u = u} e) pieces) =
+          few : {u : Ty} → TypeIn types place u → Told (TypeCut n k) types u (Nested places) → many ≤ type-limit
+          few here (told-nested (nested-type {u = u} e) pieces) =
               omega (
                 arith,
                 written .each _ _ _ _ pieces .long,
@@ -93,7 +94,7 @@ module _ (n : Nesting) (k : ℕ) (sized : Sized n k) {types : List ℕ} {at : �
                 type-width (make (n .s u) (n .t u) (n .r u)),
                 as-many (n .s u) (n .t u) (n .r u),
                 sized u e,
-                stands .small,
+                here .stands .small,
                 limit-is,
               )
 

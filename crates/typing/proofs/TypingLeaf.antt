@@ -9,7 +9,8 @@ use Rattle.stream.specs.Levels.{value-width}
 use Rattle.stream.specs.Levels.Laws.{value-length}
 use Rattle.stream.specs.Reading.{Result}
 use Rattle.stream.specs.TypeFiles.{type-bytes}
-use Rattle.reading.specs.TypeReads.{TypeAt, SomeTypeAt}
+use Rattle.reading.specs.declared.types.TypePlace.{TypePlace}
+use Rattle.reading.specs.TypeReads.{TypeIn, SomeTypeAt}
 use Rattle.node.specs.Checking.{gives, typing}
 use Rattle.node.specs.PatchFiles.{node-bytes}
 use Rattle.typing.specs.declared.Typed.{Typed}
@@ -25,35 +26,35 @@ use Rattle.typing.specs.Typing.Laws.{answers-small}
 abbrev pub Leaf : ℕ → (Ty → Result Ty) → ℕ → Type 0
 Leaf wide outcome k = Case (λ n. (node-width n ≡ wide) × ((t : Ty) → typing t n ≡ outcome t)) k
 
-module _ {types : List ℕ} {at : ℕ} {nodes : List ℕ} {from : ℕ} where
+module _ {types : List ℕ} {place : TypePlace} {nodes : List ℕ} {from : ℕ} where
   pub leaf-typed : {lent after : List ℕ} {answer : Typed} {k : ℕ} {outcome : Ty → Result Ty} (wide : ℕ) → getD nodes from 0 ≡ k → Leaf wide outcome k
-      → ((t : Ty) → TypeAt types at t → Answers (from + wide) (outcome t) lent after answer)
-      → TypesNode types at nodes from lent after answer
+      → ((t : Ty) → TypeIn types place t → Answers (from + wide) (outcome t) lent after answer)
+      → TypesNode types place nodes from lent after answer
   leaf-typed {lent} {after} {answer} {k} {outcome} wide e leaf given = record { each = each }
     where
-      each : (due : TypingDue types at nodes from)
+      each : (due : TypingDue types place nodes from)
           → Answers (from + node-width (due .node)) (typing (due .type) (due .node)) lent after answer
       each due =
           let is = by-byte (λ n. (node-width n ≡ wide) × ((t : Ty) → typing t n ≡ outcome t)) (due .node-at) e leaf in
-          rw (is .0, is .1 (due .type)) (given (due .type) (due .type-at))
+          rw (is .0, is .1 (due .type)) (given (due .type) (due .type-in))
 
   -- Cue and level give a type of one byte.
   pub emitter-typed : {lent after : List ℕ} {k size : ℕ} (wide : ℕ) (t : Ty) → getD nodes from 0 ≡ k → Leaf wide (λ s. gives t) k → Small t
-      → Appends (type-bytes t []) 0 lent after size → TypesNode types at nodes from lent after (Gives (from + wide) size)
+      → Appends (type-bytes t []) 0 lent after size → TypesNode types place nodes from lent after (Gives (from + wide) size)
   emitter-typed {lent} wide t e leaf small appended =
-      leaf-typed wide e leaf (λ s stands. answers-small t small (written-on (nothing-written lent) appended) refl)
+      leaf-typed wide e leaf (λ s here. answers-small t small (written-on (nothing-written lent) appended) refl)
 
   -- Silent gives the type that it carries.
   module _ (e : getD nodes from 0 ≡ 1) where
-    pub carried-type : TypingDue types at nodes from → SomeTypeAt nodes (from + 1)
+    pub carried-type : TypingDue types place nodes from → SomeTypeAt nodes (from + 1)
     carried-type due = let silent = silent-at e (due .node-at) in record { type = silent .type; stands = silent .type-at }
 
     pub silent-typed : {lent after : List ℕ} {answer : Typed} → GivenCarried nodes (from + 1) lent after answer
-        → TypesNode types at nodes from lent after answer
+        → TypesNode types place nodes from lent after answer
     unfolding typing
     silent-typed {lent} {after} {answer} given = record { each = each }
       where
-        each : (due : TypingDue types at nodes from)
+        each : (due : TypingDue types place nodes from)
             → Answers (from + node-width (due .node)) (typing (due .type) (due .node)) lent after answer
         each due =
             let silent = silent-at e (due .node-at) in
@@ -61,7 +62,7 @@ module _ {types : List ℕ} {at : ℕ} {nodes : List ℕ} {from : ℕ} where
             rw (end, ap (typing (due .type)) (silent .made)) (given .each (silent .type) (silent .type-at))
 
   -- A level's value stands behind its kind byte.
-  pub level-inside : TypingDue types at nodes from → getD nodes from 0 ≡ 3 → from + suc value-width ≤ length nodes
+  pub level-inside : TypingDue types place nodes from → getD nodes from 0 ≡ 3 → from + suc value-width ≤ length nodes
   unfolding node-bytes
   level-inside due e =
       let wide = by-byte (λ n. node-width n ≡ suc value-width) (due .node-at) e (λ v. ap suc (value-length v [])) in

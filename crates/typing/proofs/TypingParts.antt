@@ -10,8 +10,9 @@ use Rattle.stream.specs.declared.Fault.the-variants.{WrongShape}
 use Rattle.stream.specs.Types.{Ty, size, type-limit, kind, first-part, second-part, Small}
 use Rattle.stream.specs.Reading.{Result, accepted, refused, go-on}
 use Rattle.stream.specs.TypeFiles.{type-bytes}
-use Rattle.reading.specs.TypeReads.{TypeAt, SomeTypeAt, TypeEnds}
-use Rattle.reading.specs.TypeReads.Laws.{type-before, type-width, first-at, second-behind}
+use Rattle.reading.specs.declared.types.TypePlace.{TypePlace}
+use Rattle.reading.specs.TypeReads.{SomeTypeAt, TypeIn, TypeEnds}
+use Rattle.reading.specs.TypeReads.Laws.{type-before, type-width, first-at, first-in, second-in}
 use Rattle.reading.specs.Nesting.Laws.{other-shape, same-shape, is-fork}
 use Rattle.writing.specs.Writing.Laws.{part, back}
 use Rattle.writing.specs.Writing.Standing.{written-stands}
@@ -35,7 +36,7 @@ fork-bytes t r forks =
     ⊎-elim (λ three. rw three (ap (λ l. 3 ∷ l) parts)) (λ four. rw four (ap (λ l. 4 ∷ l) parts)) forks
 
 -- What the first part has answered: its type is written behind the kind byte, on the part of the buffer from `start` on.
-pub record FirstAnswer (kind : ℕ) (types : List ℕ) (first : ℕ) (nodes : List ℕ) (from : ℕ) (lent now y : List ℕ) (before start : ℕ)
+pub record FirstAnswer (kind : ℕ) (types : List ℕ) (first : TypePlace) (nodes : List ℕ) (from : ℕ) (lent now y : List ℕ) (before start : ℕ)
     (answer : Typed) : Type 0 where
   pub kind-written : Appends (kind ∷ []) 0 lent now before
   pub starts : Within before (length now) start
@@ -50,9 +51,9 @@ pub record FirstGiven (nodes : List ℕ) (from before next many : ℕ) : Type 0 
 
 -- Both parts of a type, written one behind the other
 
-module _ {kind : ℕ} {types : List ℕ} {first second : ℕ} {nodes : List ℕ} {from : ℕ} where
+module _ {kind : ℕ} {types : List ℕ} {first second : TypePlace} {nodes : List ℕ} {from : ℕ} where
   abbrev pub first-due : TypePartsDue kind types first second nodes from → TypingDue types first nodes from
-  first-due due = record { type = due .first-type; node = due .first-node; type-at = due .first-type-at; node-at = due .first-node-at }
+  first-due due = record { type = due .first-type; node = due .first-node; type-in = due .first-type-in; node-at = due .first-node-at }
 
   module _ {lent now y : List ℕ} {before start : ℕ} {answer : Typed}
       (answered : FirstAnswer kind types first nodes from lent now y before start answer) where
@@ -107,7 +108,7 @@ module _ {kind : ℕ} {types : List ℕ} {first second : ℕ} {nodes : List ℕ}
 
       abbrev pub second-due : TypePartsDue kind types first second nodes from → TypingDue types second nodes next
       second-due due =
-          record { type = due .second-type; node = due .second-node; type-at = due .second-type-at; node-at = second-node-at due }
+          record { type = due .second-type; node = due .second-node; type-in = due .second-type-in; node-at = second-node-at due }
 
       module _ {z : List ℕ} {rest : ℕ} {other : Typed} (rests : Within (before + many) (length (back start now y)) rest)
           (second-typed : TypesNode types second nodes next (part rest (back start now y)) z other) where
@@ -152,19 +153,19 @@ module _ {kind : ℕ} {types : List ℕ} {first second : ℕ} {nodes : List ℕ}
                   (written-part (f .written) rests (a .writes (g .type) (g .given)) (g .sized ∙ sym (type-width (g .type))))
                   (fork-bytes (f .type) (g .type) (due .forks)))
 
--- Both and then: how a node of the kind k, at a type that stands at `at`, hands types to its parts, and what kind of type
+-- Both and then: how a node of the kind k, at a type in `place`, hands types to its parts, and what kind of type
 -- the parts give together.
-pub record Splits (k fork-kind : ℕ) (types : List ℕ) (at first second : ℕ) : Type 1 where
+pub record Splits (k fork-kind : ℕ) (types : List ℕ) (place first second : TypePlace) : Type 1 where
   make : Node → Node → Node
   forks : Forks k make
   gives-fork : (fork-kind ≡ 3) ⊎ (fork-kind ≡ 4)
   one : Ty → Ty
   other : Ty → Ty
-  one-at : {t : Ty} → TypeAt types at t → TypeAt types first (one t)
-  other-at : {t : Ty} → TypeAt types at t → TypeAt types second (other t)
-  outcome : {t : Ty} → TypeAt types at t → (n m : Node) → typing t (make n m) ≡ parts-typing fork-kind (one t) (other t) n m
+  one-in : {t : Ty} → TypeIn types place t → TypeIn types first (one t)
+  other-in : {t : Ty} → TypeIn types place t → TypeIn types second (other t)
+  outcome : {t : Ty} → TypeIn types place t → (n m : Node) → typing t (make n m) ≡ parts-typing fork-kind (one t) (other t) n m
 
-pub both-splits : {types : List ℕ} {at : ℕ} → Splits 4 4 types at at at
+pub both-splits : {types : List ℕ} {place : TypePlace} → Splits 4 4 types place place place
 unfolding typing
 both-splits =
     record {
@@ -173,35 +174,37 @@ both-splits =
       gives-fork = inr refl;
       one = λ t. t;
       other = λ t. t;
-      one-at = λ h. h;
-      other-at = λ h. h;
+      one-in = λ h. h;
+      other-in = λ h. h;
       outcome = λ h n m. refl;
     }
 
-module _ {types : List ℕ} {at : ℕ} (sequence : getD types at 0 ≡ 3) where
-  forked : {t : Ty} → TypeAt types at t → 3 ≤ kind t
-  forked h = is-fork h sequence refl
+module _ {types : List ℕ} {place : TypePlace} (sequence : getD types (place .start) 0 ≡ 3) where
+  forked : {t : Ty} → TypeIn types place t → 3 ≤ kind t
+  forked h = is-fork (h .stands) sequence refl
 
-  pub sequence-first : {nodes : List ℕ} {from : ℕ} → TypingDue types at nodes from → SomeTypeAt types (at + 1)
-  sequence-first due = record { type = first-part (due .type); stands = first-at (due .type-at) (forked (due .type-at)) }
+  pub sequence-first : {nodes : List ℕ} {from : ℕ} → TypingDue types place nodes from → SomeTypeAt types (place .start + 1)
+  sequence-first due = record { type = first-part (due .type); stands = first-at (due .type-in .stands) (forked (due .type-in)) }
 
-  pub then-splits : {place : ℕ} → TypeEnds types (at + 1) place → Splits 9 3 types at (at + 1) place
+  pub then-splits : {middle : ℕ} {first second : TypePlace} → TypeEnds types (place .start + 1) middle
+      → first ≡ record { start = place .start + 1; end = middle } → second ≡ record { start = middle; end = place .end }
+      → Splits 9 3 types place first second
   unfolding typing
-  then-splits ends =
+  then-splits ends is-first is-second =
       record {
         make = then;
         forks = then-forks;
         gives-fork = inl refl;
         one = first-part;
         other = second-part;
-        one-at = λ h. first-at h (forked h);
-        other-at = λ h. second-behind h (forked h) ends;
-        outcome = λ h n m. rw (same-shape h sequence);
+        one-in = λ h. rw is-first (first-in h (forked h) ends);
+        other-in = λ h. rw is-second (second-in h (forked h) ends);
+        outcome = λ h n m. rw (same-shape (h .stands) sequence);
       }
 
-module _ {k fork-kind : ℕ} {types : List ℕ} {at first second : ℕ} (splits : Splits k fork-kind types at first second)
+module _ {k fork-kind : ℕ} {types : List ℕ} {place first second : TypePlace} (splits : Splits k fork-kind types place first second)
     {nodes : List ℕ} {from : ℕ} (byte : getD nodes from 0 ≡ k) where
-  abbrev pub parts-due : TypingDue types at nodes from → TypePartsDue fork-kind types first second nodes (from + 1)
+  abbrev pub parts-due : TypingDue types place nodes from → TypePartsDue fork-kind types first second nodes (from + 1)
   parts-due due =
       let parts = parts-at (splits .forks) byte (due .node-at) in
       record {
@@ -210,35 +213,35 @@ module _ {k fork-kind : ℕ} {types : List ℕ} {at first second : ℕ} (splits 
         second-type = splits .other (due .type);
         first-node = parts .first;
         second-node = parts .second;
-        first-type-at = splits .one-at (due .type-at);
-        second-type-at = splits .other-at (due .type-at);
+        first-type-in = splits .one-in (due .type-in);
+        second-type-in = splits .other-in (due .type-in);
         first-node-at = parts .first-at;
         second-node-at = parts .second-at;
       }
 
   pub parts-typed : {lent after : List ℕ} {answer : Typed} → TypesParts fork-kind types first second nodes (from + 1) lent after answer
-      → TypesNode types at nodes from lent after answer
+      → TypesNode types place nodes from lent after answer
   parts-typed {lent} {after} {answer} typed = record { each = each }
     where
-      each : (due : TypingDue types at nodes from) → Answers (from + node-width (due .node)) (typing (due .type) (due .node)) lent after answer
+      each : (due : TypingDue types place nodes from) → Answers (from + node-width (due .node)) (typing (due .type) (due .node)) lent after answer
       each due =
           let parts = parts-at (splits .forks) byte (due .node-at) in
           let ends : from + node-width (due .node) ≡ from + 1 + node-width (parts .first) + node-width (parts .second) = omega (arith, parts .wide) in
-          rw (ends, ap (typing (due .type)) (parts .made) ∙ splits .outcome (due .type-at) (parts .first) (parts .second))
+          rw (ends, ap (typing (due .type)) (parts .made) ∙ splits .outcome (due .type-in) (parts .first) (parts .second))
           (typed .each (parts-due due))
 
 -- Then at a type that is no sequence.
-pub then-refused : {types : List ℕ} {at : ℕ} {nodes : List ℕ} {from : ℕ} {lent : List ℕ} → getD nodes from 0 ≡ 9 → (getD types at 0 ≡ 3 → ⊥)
-    → TypesNode types at nodes from lent lent (Failed WrongShape)
+pub then-refused : {types : List ℕ} {place : TypePlace} {nodes : List ℕ} {from : ℕ} {lent : List ℕ} → getD nodes from 0 ≡ 9 → (getD types (place .start) 0 ≡ 3 → ⊥)
+    → TypesNode types place nodes from lent lent (Failed WrongShape)
 unfolding typing
-then-refused {types} {at} {nodes} {from} {lent} byte other = record { each = each }
+then-refused {types} {place} {nodes} {from} {lent} byte other = record { each = each }
   where
-    each : (due : TypingDue types at nodes from)
+    each : (due : TypingDue types place nodes from)
         → Answers (from + node-width (due .node)) (typing (due .type) (due .node)) lent lent (Failed WrongShape)
     each due =
         let parts = parts-at then-forks byte (due .node-at) in
         rw (ap (typing (due .type)) (parts .made))
-        (requires-fails (parts-typing 3 (first-part (due .type)) (second-part (due .type)) (parts .first) (parts .second)) (other-shape (due .type-at) other) refl)
+        (requires-fails (parts-typing 3 (first-part (due .type)) (second-part (due .type)) (parts .first) (parts .second)) (other-shape (due .type-in .stands) other) refl)
 
 -- Chain: what the first part gives stands in the middle, and the second part takes it.
 
@@ -249,68 +252,75 @@ given-again t n carries = go (typing t n) refl
     go (accepted r) e = gives-small (typing-small t n carries e)
     go (refused fault) e = refl
 
-module _ {types : List ℕ} {at : ℕ} {nodes : List ℕ} {from : ℕ} (byte : getD nodes from 0 ≡ 10) where
-  abbrev pub chained : (due : TypingDue types at nodes from) → Parts chain nodes from (due .node)
+module _ {types : List ℕ} {place : TypePlace} {nodes : List ℕ} {from : ℕ} (byte : getD nodes from 0 ≡ 10) where
+  abbrev pub chained : (due : TypingDue types place nodes from) → Parts chain nodes from (due .node)
   chained due = parts-at chain-forks byte (due .node-at)
 
-  abbrev pub chain-first : TypingDue types at nodes from → TypingDue types at nodes (from + 1)
-  chain-first due = record { type = due .type; node = chained due .first; type-at = due .type-at; node-at = chained due .first-at }
+  abbrev pub chain-first : TypingDue types place nodes from → TypingDue types place nodes (from + 1)
+  chain-first due = record { type = due .type; node = chained due .first; type-in = due .type-in; node-at = chained due .first-at }
 
-  chain-is : (due : TypingDue types at nodes from)
+  chain-is : (due : TypingDue types place nodes from)
       → typing (due .type) (due .node)
       ≡ go-on (typing (due .type) (chained due .first)) (λ t. go-on (typing t (chained due .second)) (λ r. gives r))
   unfolding typing
   chain-is due = ap (typing (due .type)) (chained due .made)
 
-  module _ {middle middle-after : List ℕ} {answer : Typed} (first-typed : TypesNode types at nodes (from + 1) middle middle-after answer) where
-    pub chain-failed : {lent : List ℕ} (fault : Fault) → answer ≡ Failed fault → TypesNode types at nodes from lent lent (Failed fault)
+  module _ {middle middle-after : List ℕ} {answer : Typed} (first-typed : TypesNode types place nodes (from + 1) middle middle-after answer) where
+    pub chain-failed : {lent : List ℕ} (fault : Fault) → answer ≡ Failed fault → TypesNode types place nodes from lent lent (Failed fault)
     chain-failed {lent} fault e = record { each = each }
       where
-        each : (due : TypingDue types at nodes from)
+        each : (due : TypingDue types place nodes from)
             → Answers (from + node-width (due .node)) (typing (due .type) (due .node)) lent lent (Failed fault)
         each due = rw (chain-is due, is-refused _ _ (sym e ∙ first-typed .each (chain-first due) .answers)) (answers-refused refl)
 
-    pub middle-kept : TypingDue types at nodes from → length middle-after ≡ length middle
+    pub middle-kept : TypingDue types place nodes from → length middle-after ≡ length middle
     middle-kept due = first-typed .each (chain-first due) .long
 
     module _ {next many : ℕ} (first-gives : answer ≡ Gives next many) (room : length middle ≡ 255) where
-      pub record Middle (due : TypingDue types at nodes from) : Type 0 where
+      pub record Middle (due : TypingDue types place nodes from) : Type 0 where
         pub type : Ty
         pub is-accepted : typing (due .type) (chained due .first) ≡ accepted type
         pub ends : next ≡ from + 1 + node-width (chained due .first)
-        pub type-at : TypeAt middle-after 0 type
+        pub type-in : TypeIn middle-after (record { start = 0; end = many }) type
 
-      pub middle-given : (due : TypingDue types at nodes from) → Middle due
+      pub middle-given : (due : TypingDue types place nodes from) → Middle due
       unfolding type-limit
       middle-given due =
           let a = first-typed .each (chain-first due) in
           let g = is-given _ _ (sym first-gives ∙ a .answers) in
           let small = typing-small (due .type) (chained due .first) (chained due .first-at .carries) (g .given) in
           let written = a .writes (g .type) (g .given) .in-front (omega (arith, type-width (g .type))) in
-          record { type = g .type; is-accepted = g .given; ends = g .ends; type-at = written-stands (g .type) middle written small }
-
-      pub chained-second-at : (due : TypingDue types at nodes from) → NodeAt nodes next (chained due .second)
-      chained-second-at due = rw (middle-given due .ends) (chained due .second-at)
-
-      pub chain-later : TypingDue types at nodes from → from < next
-      chain-later due = omega (arith, middle-given due .ends)
-
-      abbrev pub chain-second : TypingDue types at nodes from → TypingDue middle-after 0 nodes next
-      chain-second due =
           record {
-            type = middle-given due .type;
-            node = chained due .second;
-            type-at = middle-given due .type-at;
-            node-at = chained-second-at due;
+            type = g .type;
+            is-accepted = g .given;
+            ends = g .ends;
+            type-in = record { stands = written-stands (g .type) middle written small; ends = omega (arith, g .sized) };
           }
 
-      pub chain-typed : {lent after : List ℕ} {other : Typed} → TypesNode middle-after 0 nodes next lent after other
-          → TypesNode types at nodes from lent after other
-      chain-typed {lent} {after} {other} second-typed = record { each = each }
-        where
-          each : (due : TypingDue types at nodes from) → Answers (from + node-width (due .node)) (typing (due .type) (due .node)) lent after other
-          each due =
-              let m = middle-given due in
-              let ends : from + node-width (due .node) ≡ next + node-width (chained due .second) = omega (arith, m .ends, chained due .wide) in
-              rw (ends, chain-is due, m .is-accepted, given-again (m .type) (chained due .second) (chained due .second-at .carries))
-              (second-typed .each (chain-second due))
+      pub chained-second-at : (due : TypingDue types place nodes from) → NodeAt nodes next (chained due .second)
+      chained-second-at due = rw (middle-given due .ends) (chained due .second-at)
+
+      pub chain-later : TypingDue types place nodes from → from < next
+      chain-later due = omega (arith, middle-given due .ends)
+
+      -- Where it lies.
+      module _ {lies : TypePlace} (is-place : lies ≡ record { start = 0; end = many }) where
+        abbrev pub chain-second : TypingDue types place nodes from → TypingDue middle-after lies nodes next
+        chain-second due =
+            record {
+              type = middle-given due .type;
+              node = chained due .second;
+              type-in = rw is-place (middle-given due .type-in);
+              node-at = chained-second-at due;
+            }
+
+        pub chain-typed : {lent after : List ℕ} {other : Typed} → TypesNode middle-after lies nodes next lent after other
+            → TypesNode types place nodes from lent after other
+        chain-typed {lent} {after} {other} second-typed = record { each = each }
+          where
+            each : (due : TypingDue types place nodes from) → Answers (from + node-width (due .node)) (typing (due .type) (due .node)) lent after other
+            each due =
+                let m = middle-given due in
+                let ends : from + node-width (due .node) ≡ next + node-width (chained due .second) = omega (arith, m .ends, chained due .wide) in
+                rw (ends, chain-is due, m .is-accepted, given-again (m .type) (chained due .second) (chained due .second-at .carries))
+                (second-typed .each (chain-second due))

@@ -11,7 +11,8 @@ use Rattle.stream.specs.Types.{Ty, seq, par, nullable, size, type-limit, first-
 use Rattle.stream.specs.Reading.{Result, accepted, refused, require, go-on}
 use Rattle.writing.specs.Appending.{Holds}
 use Rattle.stream.specs.TypeFiles.{type-bytes}
-use Rattle.reading.specs.TypeReads.{TypeAt}
+use Rattle.reading.specs.declared.types.TypePlace.{TypePlace}
+use Rattle.reading.specs.TypeReads.{TypeAt, TypeIn}
 use Rattle.node.specs.Nodes.{Node}
 use Rattle.node.specs.Checking.{gives, typing}
 use Rattle.typing.specs.declared.Typed.{Typed}
@@ -35,8 +36,8 @@ pub record Answers (end : ℕ) (outcome : Result Ty) (lent lent-after : List ℕ
   pub writes : (t : Ty) → outcome ≡ accepted t → Holds (type-bytes t []) lent lent-after
 
 -- The answer of a node by its input type alone.
-pub record Given (outcome : Ty → Result Ty) (types : List ℕ) (at end : ℕ) (lent lent-after : List ℕ) (answer : Typed) : Type 0 where
-  pub each : (t : Ty) → TypeAt types at t → Answers end (outcome t) lent lent-after answer
+pub record Given (outcome : Ty → Result Ty) (types : List ℕ) (place : TypePlace) (end : ℕ) (lent lent-after : List ℕ) (answer : Typed) : Type 0 where
+  pub each : (t : Ty) → TypeIn types place t → Answers end (outcome t) lent lent-after answer
 
 abbrev pub first-of : ℕ → Ty → Result Ty
 first-of k t = require (has-kind k t) WrongShape (gives (first-part t))
@@ -49,25 +50,25 @@ pub record GivenCarried (nodes : List ℕ) (at : ℕ) (lent lent-after : List �
   pub each : (n : Ty) → TypeAt nodes at n → Answers (at + size n) (require (nullable n) NotNullable (gives n)) lent lent-after answer
 
 -- A node, and the type that it takes, in their bytes.
-pub record TypingDue (types : List ℕ) (at : ℕ) (nodes : List ℕ) (from : ℕ) : Type 0 where
+pub record TypingDue (types : List ℕ) (place : TypePlace) (nodes : List ℕ) (from : ℕ) : Type 0 where
   pub type : Ty
   pub node : Node
-  pub type-at : TypeAt types at type
+  pub type-in : TypeIn types place type
   pub node-at : NodeAt nodes from node
 
-pub record TypesNode (types : List ℕ) (at : ℕ) (nodes : List ℕ) (from : ℕ) (lent lent-after : List ℕ) (answer : Typed) : Type 0 where
-  pub each : (due : TypingDue types at nodes from)
+pub record TypesNode (types : List ℕ) (place : TypePlace) (nodes : List ℕ) (from : ℕ) (lent lent-after : List ℕ) (answer : Typed) : Type 0 where
+  pub each : (due : TypingDue types place nodes from)
       → Answers (from + node-width (due .node)) (typing (due .type) (due .node)) lent lent-after answer
 
 -- Two nodes one behind the other, and the types that they take; `kind` is 3 or 4.
-pub record TypePartsDue (kind : ℕ) (types : List ℕ) (first second : ℕ) (nodes : List ℕ) (from : ℕ) : Type 0 where
+pub record TypePartsDue (kind : ℕ) (types : List ℕ) (first second : TypePlace) (nodes : List ℕ) (from : ℕ) : Type 0 where
   pub forks : (kind ≡ 3) ⊎ (kind ≡ 4)
   pub first-type : Ty
   pub second-type : Ty
   pub first-node : Node
   pub second-node : Node
-  pub first-type-at : TypeAt types first first-type
-  pub second-type-at : TypeAt types second second-type
+  pub first-type-in : TypeIn types first first-type
+  pub second-type-in : TypeIn types second second-type
   pub first-node-at : NodeAt nodes from first-node
   pub second-node-at : NodeAt nodes (from + node-width first-node) second-node
 
@@ -78,7 +79,7 @@ fork k t r = elim (eqb k 3) [ true ↦ seq t r | false ↦ par t r ]
 abbrev pub parts-typing : ℕ → Ty → Ty → Node → Node → Result Ty
 parts-typing k s t n m = go-on (typing s n) (λ u. go-on (typing t m) (λ r. gives (fork k u r)))
 
-pub record TypesParts (kind : ℕ) (types : List ℕ) (first second : ℕ) (nodes : List ℕ) (from : ℕ) (lent lent-after : List ℕ) (answer : Typed) : Type 0 where
+pub record TypesParts (kind : ℕ) (types : List ℕ) (first second : TypePlace) (nodes : List ℕ) (from : ℕ) (lent lent-after : List ℕ) (answer : Typed) : Type 0 where
   pub each : (due : TypePartsDue kind types first second nodes from)
       → Answers (from + node-width (due .first-node) + node-width (due .second-node))
       (parts-typing kind (due .first-type) (due .second-type) (due .first-node) (due .second-node)) lent lent-after answer

@@ -42,7 +42,11 @@ stands file p bytes e =
     record {
       patch = p;
       is-accepted = e;
-      type-at = record { rest = nodes-section (p .input) (p .node); here = rw (← f .bytes) (type-there (p .input) (p .node)); small = f .input-small };
+      type-in =
+          record {
+            stands = record { rest = nodes-section (p .input) (p .node); here = rw (← f .bytes) (type-there (p .input) (p .node)); small = f .input-small };
+            ends = refl;
+          };
       node-at = record { rest = []; here = rw (← f .bytes) (nodes-there (p .input) (p .node)); carries = f .carries };
       few = f .few;
     }

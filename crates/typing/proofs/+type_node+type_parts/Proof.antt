@@ -9,13 +9,14 @@ use borrow.Fn.PlainCycle.{Measures, is, falls, and}
 use lib.ListN.{length}
 use Rattle.reading.specs.TypeReads.Laws.{starts-inside as type-inside}
 use Rattle.patch_reading.specs.PatchReads.Laws.{starts-inside, leaf-arity}
-use Rattle.typing.proofs.TypingParts.{FirstAnswer, FirstGiven, first-due, first-kept, first-failed, first-given, second-due, second-kept, second-failed, second-small, both-given, both-splits, sequence-first, then-splits, then-refused, parts-due, parts-typed, chain-first, chain-failed, middle-kept, chain-later, chain-second, chain-typed}
+use Rattle.typing.proofs.TypingParts.{FirstAnswer, FirstGiven, first-due, first-kept, first-failed, first-given, second-due, second-kept, second-failed, second-small, both-given, both-splits, Splits, sequence-first, then-splits, then-refused, parts-due, parts-typed, chain-first, chain-failed, middle-kept, chain-later, chain-second, chain-typed}
 use Rattle.typing.proofs.type_node.Reads as type-node
 use Rattle.typing.proofs.type_node.Kinds as type-node-kinds
 use Rattle.typing.proofs.+type_node+type_parts.Lts-type_node as type-node-lts
 use Rattle.typing.proofs.type_parts.Reads as type-parts
 use Rattle.typing.proofs.type_parts.Kinds as type-parts-kinds
 use Rattle.typing.proofs.+type_node+type_parts.Lts-type_parts as type-parts-lts
+use Rattle.reading.proofs.types.TypePlace.new.Reads as new-reads
 use Rattle.reading.proofs.types.skip_type.Reads as skip-type-reads
 use Rattle.writing.proofs.appending.append_kind.Reads as append-kind-reads
 use Rattle.typing.proofs.limit.Reads as limit-reads
@@ -51,6 +52,8 @@ module _ (t : ℕ) where
     type-parts.Post,
     skip-type-reads.Asked,
     skip-type-reads.Learnt,
+    new-reads.Asked,
+    new-reads.Learnt,
     node-below,
     type-node.Post,
     type-leaf-reads.Asked,
@@ -106,41 +109,53 @@ module _ (t : ℕ) where
       → type-node-lts.Start calls-node node-here type-node.Post
   type-node-entry-before-else1 c = type-node-entry-before-shared-slice-known4 (c .before)
 
-  abbrev type-node-entry-before-skip-type : type-node-lts.After-skip-type calls-node node-here type-node.Post
-      → type-node-lts.Start calls-node node-here type-node.Post
-  type-node-entry-before-skip-type c = type-node-entry-before-else1 (c .before)
-
   abbrev type-node-match-keys1-before-slice-known2 : type-node-lts.After-slice-known2 calls-node node-here type-node.Post
       → type-node-lts.At-match-keys1 calls-node node-here type-node.Post
   type-node-match-keys1-before-slice-known2 c = c .before .before .before .before
 
-  abbrev type-node-entry-before-type-parts-arg2 : type-node-lts.After-type-parts-arg2 calls-node node-here type-node.Post
+  abbrev type-node-entry-before-new2 : type-node-lts.After-new2 calls-node node-here type-node.Post
       → type-node-lts.Start calls-node node-here type-node.Post
-  type-node-entry-before-type-parts-arg2 c = type-node-entry-before-skip-type (c .before)
+  type-node-entry-before-new2 c = type-node-entry-before-else1 (c .before .before .before)
 
   abbrev type-node-type-node-before-known-told : type-node-lts.After-known-told calls-node node-here type-node.Post
       → type-node-lts.After-type-node calls-node node-here type-node.Post
   type-node-type-node-before-known-told c = c .before .before .before .before
 
+  abbrev type-node-match-keys2-before-type-parts-arg2 : type-node-lts.After-type-parts-arg2 calls-node node-here type-node.Post
+      → type-node-lts.At-match-keys2 calls-node node-here type-node.Post
+  type-node-match-keys2-before-type-parts-arg2 c = c .before .before .before .before .before .before
+
+  abbrev type-node-entry-before-type-parts-arg2 : type-node-lts.After-type-parts-arg2 calls-node node-here type-node.Post
+      → type-node-lts.Start calls-node node-here type-node.Post
+  type-node-entry-before-type-parts-arg2 c = type-node-entry-before-new2 (c .before)
+
   abbrev type-node-type-node-before-middle3 : type-node-lts.After-middle3 calls-node node-here type-node.Post
       → type-node-lts.After-type-node calls-node node-here type-node.Post
-  type-node-type-node-before-middle3 c = c .before .before .before .before .before
+  type-node-type-node-before-middle3 c = c .before .before .before .before .before .before
 
-  abbrev type-node-skip-type-before-slice-known3 : type-node-lts.After-slice-known3 calls-node node-here type-node.Post
-      → type-node-lts.After-skip-type calls-node node-here type-node.Post
-  type-node-skip-type-before-slice-known3 c = c .before .before .before .before
+  abbrev type-node-new2-before-slice-known3 : type-node-lts.After-slice-known3 calls-node node-here type-node.Post
+      → type-node-lts.After-new2 calls-node node-here type-node.Post
+  type-node-new2-before-slice-known3 c = c .before .before .before .before
 
-  abbrev type-node-else1-before-slice-known3 : type-node-lts.After-slice-known3 calls-node node-here type-node.Post
-      → type-node-lts.Else1 calls-node node-here type-node.Post
-  type-node-else1-before-slice-known3 c = type-node-skip-type-before-slice-known3 c .before
+  abbrev type-node-match-keys2-before-slice-known3 : type-node-lts.After-slice-known3 calls-node node-here type-node.Post
+      → type-node-lts.At-match-keys2 calls-node node-here type-node.Post
+  type-node-match-keys2-before-slice-known3 c = type-node-match-keys2-before-type-parts-arg2 (c .before .before .before)
+
+  abbrev type-node-second-before-type-node-arg : type-node-lts.After-type-node-arg calls-node node-here type-node.Post
+      → type-node-lts.After-second calls-node node-here type-node.Post
+  type-node-second-before-type-node-arg c = c .before .before .before .before
 
   abbrev type-node-type-node-before-type-node-arg : type-node-lts.After-type-node-arg calls-node node-here type-node.Post
       → type-node-lts.After-type-node calls-node node-here type-node.Post
   type-node-type-node-before-type-node-arg c = type-node-type-node-before-middle3 (c .before)
 
+  abbrev type-node-new3-before-slice-known4 : type-node-lts.After-slice-known4 calls-node node-here type-node.Post
+      → type-node-lts.After-new3 calls-node node-here type-node.Post
+  type-node-new3-before-slice-known4 c = c .before .before .before .before .before
+
   abbrev type-node-second-before-slice-known4 : type-node-lts.After-slice-known4 calls-node node-here type-node.Post
       → type-node-lts.After-second calls-node node-here type-node.Post
-  type-node-second-before-slice-known4 c = c .before .before .before .before .before .before
+  type-node-second-before-slice-known4 c = type-node-new3-before-slice-known4 c .before .before
 
   abbrev type-node-type-node-before-slice-known4 : type-node-lts.After-slice-known4 calls-node node-here type-node.Post
       → type-node-lts.After-type-node calls-node node-here type-node.Post
@@ -198,26 +213,38 @@ module _ (t : ℕ) where
       (omega (arith, entry .pre .0, starts-inside (entry .pre .1 .node-at)), parts-due both-splits (c .before .match .keys1) (entry .pre .1))
 
   type-node-shared-slice-read-if1 : type-node-lts.Need-shared-slice-read-if1 calls-node node-here type-node.Post
-  type-node-shared-slice-read-if1 c = type-inside (type-node-entry-before-shared-slice-known4 c .pre .1 .type-at)
+  type-node-shared-slice-read-if1 c = type-inside (type-node-entry-before-shared-slice-known4 c .pre .1 .type-in .stands)
 
   type-node-returns : type-node-lts.Need-returns calls-node node-here type-node.Post
   type-node-returns c = then-refused (c .before .before .match .keys2) (c .if1 .taken)
 
   type-node-add-first : type-node-lts.Need-add-first calls-node node-here type-node.Post
-  type-node-add-first c = omega (arith, type-inside (type-node-entry-before-else1 c .pre .1 .type-at))
+  type-node-add-first c = omega (arith, type-inside (type-node-entry-before-else1 c .pre .1 .type-in .stands))
 
   type-node-skip-type-requires : type-node-lts.Need-skip-type-requires calls-node node-here type-node.Post
   type-node-skip-type-requires c κs = sequence-first (c .if1 .left) (type-node-entry-before-else1 c .pre .1)
 
+  type-node-new-requires : type-node-lts.Need-new-requires calls-node node-here type-node.Post
+  type-node-new-requires c κs = search needs
+
+  type-node-new-requires-2 : type-node-lts.Need-new-requires-2 calls-node node-here type-node.Post
+  type-node-new-requires-2 c κs = search needs
+
   type-node-add-type-parts-2 : type-node-lts.Need-add-type-parts-2 calls-node node-here type-node.Post
-  type-node-add-type-parts-2 c = omega (arith, starts-inside (type-node-entry-before-skip-type c .pre .1 .node-at))
+  type-node-add-type-parts-2 c = omega (arith, starts-inside (type-node-entry-before-new2 c .pre .1 .node-at))
+
+  -- The parts of a sequence in their places.
+  sequence-splits : (c : type-node-lts.After-new2 calls-node node-here type-node.Post)
+      → Splits 9 3 (type-node-entry-before-new2 c .args .types .now) (type-node-entry-before-new2 c .args .place) (c .new2 .result) (c .before .new .result)
+  sequence-splits c =
+      let skipped = c .before .before in
+      then-splits (skipped .before .if1 .left) (skipped .skip-type .ensures) (c .new2 .ensures) (c .before .new .ensures)
 
   type-node-type-parts-requires-2 : type-node-lts.Need-type-parts-requires-2 calls-node node-here type-node.Post
   type-node-type-parts-requires-2 c κs =
-      let entry = type-node-entry-before-type-parts-arg2 c in
-      let sequence = c .before .before in (
+      let entry = type-node-entry-before-type-parts-arg2 c in (
         omega (arith, entry .pre .0, starts-inside (entry .pre .1 .node-at)),
-        parts-due (then-splits (sequence .if1 .left) (c .before .skip-type .ensures)) (sequence .before .before .match .keys2) (entry .pre .1),
+        parts-due (sequence-splits (c .before)) (type-node-match-keys2-before-type-parts-arg2 c .match .keys2) (entry .pre .1),
       )
 
   type-node-add-type-node : type-node-lts.Need-add-type-node calls-node node-here type-node.Post
@@ -237,6 +264,9 @@ module _ (t : ℕ) where
   type-node-enum-known-second : type-node-lts.Need-enum-known-second calls-node node-here type-node.Post
   type-node-enum-known-second c = search needs
 
+  type-node-new-requires-3 : type-node-lts.Need-new-requires-3 calls-node node-here type-node.Post
+  type-node-new-requires-3 c κs = search needs
+
   type-node-slice-aggregate-type-node-2 : type-node-lts.Need-slice-aggregate-type-node-2 calls-node node-here type-node.Post
   type-node-slice-aggregate-type-node-2 c =
       let first = type-node-type-node-before-middle3 c in
@@ -247,14 +277,14 @@ module _ (t : ℕ) where
   type-node-type-node-requires-2 c κs =
       let first = type-node-type-node-before-type-node-arg c in
       let entry = type-node-entry-before-type-node first in
-      let gives = c .before .before .before .second .given .1 in (
+      let gives = type-node-second-before-type-node-arg c .second .given .1 in (
         omega (
           arith,
           entry .pre .0,
           starts-inside (entry .pre .1 .node-at),
           chain-later (first .before .before .match .keys3) (first .type-node .ensures) gives refl (entry .pre .1),
         ),
-        chain-second (first .before .before .match .keys3) (first .type-node .ensures) gives refl (entry .pre .1),
+        chain-second (first .before .before .match .keys3) (first .type-node .ensures) gives refl (c .before .before .new3 .ensures) (entry .pre .1),
       )
 
   type-node-type-leaf-requires : type-node-lts.Need-type-leaf-requires calls-node node-here type-node.Post
@@ -273,8 +303,7 @@ module _ (t : ℕ) where
 
   type-node-returns-3 : type-node-lts.Need-returns-3 calls-node node-here type-node.Post
   type-node-returns-3 c =
-      let sequence = type-node-else1-before-slice-known3 c in
-      parts-typed (then-splits (sequence .if1 .left) (type-node-skip-type-before-slice-known3 c .skip-type .ensures)) (sequence .before .before .match .keys2)
+      parts-typed (sequence-splits (type-node-new2-before-slice-known3 c)) (type-node-match-keys2-before-slice-known3 c .match .keys2)
       (c .before .before .type-parts2 .ensures)
 
   type-node-returns-4 : type-node-lts.Need-returns-4 calls-node node-here type-node.Post
@@ -289,7 +318,8 @@ module _ (t : ℕ) where
   type-node-returns-5 c =
       let first = type-node-type-node-before-slice-known4 c in
       chain-typed (first .before .before .match .keys3) (first .type-node .ensures)
-      (type-node-second-before-slice-known4 c .second .given .1) refl (c .before .before .type-node2 .ensures)
+      (type-node-second-before-slice-known4 c .second .given .1) refl (type-node-new3-before-slice-known4 c .new3 .ensures)
+      (c .before .before .type-node2 .ensures)
 
   type-node-same-length-4 : type-node-lts.Need-same-length-4 calls-node node-here type-node.Post
   type-node-same-length-4 c = search needs
@@ -445,6 +475,8 @@ pub +type-node+type-parts-spec : {M : Type 1} → statement M
     (type-node-returns t)
     (type-node-add-first t)
     (type-node-skip-type-requires t)
+    (type-node-new-requires t)
+    (type-node-new-requires-2 t)
     (type-node-add-type-parts-2 t)
     (type-node-type-parts-requires-2 t)
     (type-node-add-type-node t)
@@ -452,6 +484,7 @@ pub +type-node+type-parts-spec : {M : Type 1} → statement M
     (type-node-type-node-requires t)
     (type-node-enum-known-fault t)
     (type-node-enum-known-second t)
+    (type-node-new-requires-3 t)
     (type-node-slice-aggregate-type-node-2 t)
     (type-node-type-node-requires-2 t)
     (type-node-type-leaf-requires t)

@@ -4,7 +4,7 @@ use mathlib.Core.Path.{subst}
 use native.Mathlib.Omega.{arith}
 use Rattle.stream.specs.Types.{Ty, seq, size}
 use Rattle.reading.specs.declared.nested.Shaped.the-variants.{Nested}
-use Rattle.reading.specs.TypeReads.{TypeAt}
+use Rattle.reading.specs.TypeReads.{TypeIn}
 use Rattle.reading.specs.Nesting.{first-nested, TypeCut, Shapes}
 use Rattle.writing.specs.Reordering.{regrouped-right}
 use Rattle.node.specs.Checking.{typing}
@@ -33,8 +33,8 @@ abbrev regrouped : Ty → Ty → Ty → Ty
 regrouped s t r = seq s (seq t r)
 
 shapes : (c : tie.After-places)
-    → Shapes TypeAt (TypeCut first-nested 3) (entry (told c) .args .types .now) (entry (told c) .args .at) (Nested (c .places .given .0 .0))
-shapes c = subst (Shapes TypeAt (TypeCut first-nested 3) _ _) (c .places .given .1) (told c .nested-in-first .ensures)
+    → Shapes TypeIn (TypeCut first-nested 3) (entry (told c) .args .types .now) (entry (told c) .args .place) (Nested (c .places .given .0 .0))
+shapes c = subst (Shapes TypeIn (TypeCut first-nested 3) _ _) (c .places .given .1) (told c .nested-in-first .ensures)
 
 -- What is due
 
@@ -49,8 +49,8 @@ enum-known-places c = search needs
 
 write-right-requires : tie.Need-write-right-requires
 write-right-requires c κs =
-    let stands = entry (told (found c)) .pre .stands in
-    reorder-due first-nested 3 first-sized stands (shapes (found c) .each _ stands)
+    let here = entry (told (found c)) .pre .here in
+    reorder-due first-nested 3 first-sized here (shapes (found c) .each _ here)
 
 returns : tie.Need-returns
 unfolding typing

@@ -1,10 +1,10 @@
--- `give_second` meets its contract: the second part stands where `skip_type` says that the first ends.
+-- `give_second` meets its contract: the second part stands where `skip_type` says that the first ends, up to where the whole ends.
 use borrow.Author.Needs.{needs}
 use mathlib.Core.Path.{refl}
 use native.Mathlib.Omega.{arith}
 use Rattle.stream.specs.declared.Fault.the-variants.{WrongShape}
 use Rattle.stream.specs.Types.{first-part, second-part}
-use Rattle.reading.specs.TypeReads.Laws.{starts-inside, first-at, second-behind}
+use Rattle.reading.specs.TypeReads.Laws.{starts-inside, first-at, second-in}
 use Rattle.reading.specs.Nesting.Laws.{other-shape, same-shape, is-fork}
 use Rattle.node.specs.Checking.{gives}
 use Rattle.typing.specs.Typing.Laws.{requires-fails, requires-holds}
@@ -18,49 +18,52 @@ entry-before-else1 c = c .before .before .before .before
 abbrev entry-before-skip-type : tie.After-skip-type → tie.Start
 entry-before-skip-type c = entry-before-else1 (c .before)
 
-abbrev entry-before-give-type-arg : tie.After-give-type-arg → tie.Start
-entry-before-give-type-arg c = entry-before-skip-type (c .before)
-
-abbrev skip-type-before-slice-known2 : tie.After-slice-known2 → tie.After-skip-type
-skip-type-before-slice-known2 c = c .before .before .before .before
+abbrev new-before-slice-known2 : tie.After-slice-known2 → tie.After-new
+new-before-slice-known2 c = c .before .before .before .before
 
 shared-slice-read-if1 : tie.Need-shared-slice-read-if1
-shared-slice-read-if1 c = starts-inside (c .before .before .before .pre .0 .stands)
+shared-slice-read-if1 c = starts-inside (c .before .before .before .pre .0 .here .stands)
 
 returns : tie.Need-returns
-returns c = record { each = λ t stands. requires-fails (gives (second-part t)) (other-shape stands (c .if1 .taken)) refl }
+returns c = record { each = λ t here. requires-fails (gives (second-part t)) (other-shape (here .stands) (c .if1 .taken)) refl }
 
 add-first : tie.Need-add-first
-add-first c = omega (arith, starts-inside (entry-before-else1 c .pre .0 .stands))
+add-first c = omega (arith, starts-inside (entry-before-else1 c .pre .0 .here .stands))
 
 skip-type-requires : tie.Need-skip-type-requires
 skip-type-requires c κs =
     let due = entry-before-else1 c .pre in
-    let stands = due .0 .stands in
+    let stands = due .0 .here .stands in
     record { type = first-part (due .0 .type); stands = first-at stands (is-fork stands (c .if1 .left) (due .1)) }
+
+new-requires : tie.Need-new-requires
+new-requires c κs = search needs
 
 give-type-requires : tie.Need-give-type-requires
 give-type-requires c κs =
-    let due = entry-before-give-type-arg c .pre in
-    let stands = due .0 .stands in
-    record {
+    let skipped = c .before .before in
+    let due = entry-before-skip-type skipped .pre in
+    let here = due .0 .here in
+    rw (c .before .new .ensures)
+    (record {
       type = second-part (due .0 .type);
-      stands = second-behind stands (is-fork stands (c .before .before .if1 .left) (due .1)) (c .before .skip-type .ensures);
-    }
+      here = second-in here (is-fork (here .stands) (skipped .before .if1 .left) (due .1)) (skipped .skip-type .ensures);
+    })
 
 same-length : tie.Need-same-length
 same-length c = search needs
 
 returns-2 : tie.Need-returns-2
 returns-2 c =
-    let skipped = skip-type-before-slice-known2 c in
+    let placed = new-before-slice-known2 c in
+    let skipped = placed .before in
     let same = skipped .before .if1 .left in
     let fork = entry-before-skip-type skipped .pre .1 in
     record {
-      each = λ t stands.
-          requires-holds WrongShape (same-shape stands same)
+      each = λ t here.
+          requires-holds WrongShape (same-shape (here .stands) same)
           (c .before .before .give-type .ensures .each (second-part t)
-          (second-behind stands (is-fork stands same fork) (skipped .skip-type .ensures)));
+          (rw (placed .new .ensures) (second-in here (is-fork (here .stands) same fork) (skipped .skip-type .ensures))));
     }
 
 pub give-second-spec : {M : Type 1} → statement M
@@ -71,6 +74,7 @@ give-second-spec =
     returns
     add-first
     skip-type-requires
+    new-requires
     give-type-requires
     same-length
     returns-2)

@@ -2,19 +2,24 @@
 use mathlib.Core.Bool.{Bool, true, false}
 use mathlib.Core.Path.{_≡_, refl, sym, ap, _∙_}
 use mathlib.Core.List.{List, []}
-use Prim.Native.Nat.{ℕ, _-_, _≤_, _<_}
+use Prim.Native.Nat.{ℕ, _≤_, _<_}
 use native.Mathlib.Omega.{arith}
 use lib.Dec.{leb}
-use lib.ListN.{length, take, drop}
+use lib.ListN.{length}
 use borrow.Author.Tests.{le-leb, lt-leb}
 use Rattle.stream.specs.declared.Fault.{Fault}
 use Rattle.stream.specs.declared.Fault.the-variants.{TypeTooLarge}
 use Rattle.stream.specs.Types.{Ty, size, type-limit, Small}
+use Rattle.stream.specs.Types.Laws.{limit-is}
 use Rattle.stream.specs.Reading.{Result, accepted, refused, require}
 use Rattle.stream.specs.TypeFiles.{type-bytes}
-use Rattle.reading.specs.TypeReads.{TypeAt, TypeEnds}
-use Rattle.reading.specs.TypeReads.Laws.{type-width, bytes-at}
-use Rattle.writing.specs.Appending.Laws.{WrittenSoFar}
+use Rattle.reading.specs.declared.types.TypePlace.{TypePlace}
+use Rattle.reading.specs.TypeReads.{TypeIn, SomeTypeIn}
+use Rattle.reading.specs.TypeReads.Laws.{type-width}
+use Rattle.reading.specs.Nesting.{Piece}
+use Rattle.reading.specs.Nesting.Laws.{type-piece}
+use Rattle.writing.specs.Appending.{PartDue}
+use Rattle.writing.specs.Appending.Laws.{WrittenSoFar, part-due}
 use Rattle.node.specs.Nodes.{Node}
 use Rattle.node.specs.Nodes.Laws.{output-small}
 use Rattle.node.specs.Checking.{gives, typing}
@@ -24,12 +29,15 @@ use Rattle.typing.specs.declared.Typed.{Typed}
 use Rattle.typing.specs.declared.Typed.the-variants.{Gives, Failed}
 use Rattle.typing.specs.Typing.{typed, limited, Answers}
 
--- The bytes from where a type stands to where it ends.
-pub type-taken : {types : List ℕ} {at stop : ℕ} {t : Ty} → TypeAt types at t → TypeEnds types at stop
-    → take (stop - at) (drop at types) ≡ type-bytes t []
-type-taken {types} {at} {stop} {t} stands ends =
-    let long : stop - at ≡ size t = omega (arith, ends .each t stands) in
-    rw long (bytes-at stands)
+-- A type in its place is a piece of the bytes, and can be written behind a few others.
+
+pub type-in-piece : {types : List ℕ} {place : TypePlace} {t : Ty} → TypeIn types place t
+    → Piece types (place .start) (place .end) (type-bytes t [])
+type-in-piece here = type-piece (here .stands) (here .ends)
+
+pub copy-due : {types : List ℕ} {place : TypePlace} {written : ℕ} → SomeTypeIn types place → written ≤ 2
+    → PartDue types (place .start) (place .end) written
+copy-due some few = part-due (type-in-piece (some .here)) (omega (arith, limit-is, type-width (some .type), some .here .stands .small))
 
 -- What is told of a type given
 
