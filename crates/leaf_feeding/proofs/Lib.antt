@@ -1,6 +1,9 @@
-pub mod PartsSent
+pub mod Handing
+pub mod PartsFed
+pub mod SecondWaits
+pub mod Emitted
 pub mod LevelSent
 pub mod SilentSent
 pub mod FirstSpent
-pub mod SecondWaits
 pub mod Regrouped
+pub mod TypedFirst

@@ -1,24 +1,50 @@
--- Silent sends the empty prefix of the type that it carries, which has as many bytes as the type has nodes.
-use mathlib.Core.Path.{_≡_, refl, ap}
+-- Silent sends the empty prefix of the type that it carries, which has as many bytes as the type has nodes, and stays as it is.
+use mathlib.Core.Path.{_≡_, refl, sym, ap, _∙_}
+use mathlib.Core.Bool.{false, false≢true}
 use mathlib.Core.List.{List, []}
-use Prim.Native.Nat.{ℕ, _+_, _-_, _≤_}
+use Prim.Native.Nat.{ℕ, _+_, _-_, _≤_, _<_}
 use native.Mathlib.Omega.{arith}
 use lib.ListN.{length, take, drop}
-use Rattle.stream.specs.Types.{Ty, Nullable, null-empty, null-par, size}
+use Rattle.stream.specs.Types.{Ty, Nullable, null-empty, null-par, nullable, size, Small}
+use Rattle.stream.specs.Types.Laws.{nullable-sound, nullable-complete}
 use Rattle.stream.specs.Buffers.{at-front}
-use Rattle.stream.specs.Prefixes.{empty-prefix}
+use Rattle.stream.specs.Prefixes.{Prefix, empty-prefix}
+use Rattle.stream.specs.TypeFiles.{type-bytes}
+use Rattle.stream.specs.SliceFiles.{prefix-bytes}
+use Rattle.reading.specs.TypeReads.{SomeTypeAt}
+use Rattle.reading.specs.TypeReads.Laws.{EndsNullable, type-width, bytes-at}
 use Rattle.reading.specs.SliceReads.{prefix-width}
-use Rattle.node.specs.Nodes.{silent, Takes, takes-silent}
+use Rattle.reading.specs.SliceReads.Laws.{prefix-bytes-length}
+use Rattle.node.specs.Nodes.{Node, silent, Takes, takes-silent}
+use Rattle.node.specs.Checking.Laws.{WellTyped}
 use Rattle.node.specs.Feeding.Functions.{sends, leaves}
 use Rattle.node.specs.PatchFiles.{node-bytes}
 use Rattle.patch_reading.specs.PatchReads.{node-width}
-use Rattle.patch_reading.specs.PatchReads.Laws.{ends-inside, bytes-at, Silent, silent-at}
-use Rattle.writing.specs.Writing.{EmptyDue, EmptyWritten}
-use Rattle.leaf_feeding.specs.Sending.{CarryingDue, FedAs}
-use Rattle.leaf_feeding.specs.Sending.Laws.{delivers}
+use Rattle.patch_reading.specs.PatchReads.Laws.{ends-inside, Silent, silent-at, bytes-at as node-bytes-at}
+use Rattle.writing.specs.Writing.{SilenceDue, SilenceWritten}
+use Rattle.leaf_feeding.specs.declared.Step.{Step}
+use Rattle.leaf_feeding.specs.declared.Stepped.the-variants.{Fed, Failed}
+use Rattle.leaf_feeding.specs.Steps.{fed, failed, NodeAnswers, CarryingDue}
+use Rattle.leaf_feeding.specs.Steps.Laws.{front-leads, type-copied}
 
 silent-nullable : {s t o : Ty} → Takes s (silent t) o → Nullable t
 silent-nullable (takes-silent null) = null
+
+silent-gives : {s t o : Ty} → Takes s (silent t) o → o ≡ t
+silent-gives (takes-silent null) = refl
+
+-- What the rules say of it.
+module _ (s : Ty) {n : Node} {t : Ty} (made : n ≡ silent t) where
+  silent-typed : Nullable t → Small t → WellTyped s n t
+  silent-typed null small = rw made (record { types = takes-silent null; fits = small })
+
+  silent-sends : (p : Prefix) → sends s n p ≡ empty-prefix t
+  unfolding sends
+  silent-sends p = rw made refl
+
+  silent-stays : (p : Prefix) → leaves s n p ≡ n
+  unfolding leaves
+  silent-stays p = rw made refl
 
 -- No sequence stands in a nullable type, so its empty prefix passes nothing over.
 empty-width : {t : Ty} → Nullable t → prefix-width (empty-prefix t) ≡ size t
@@ -26,46 +52,88 @@ unfolding empty-prefix prefix-width size
 empty-width null-empty = refl
 empty-width (null-par h k) = omega (arith, empty-width h, empty-width k)
 
-module _ {nodes : List ℕ} {from : ℕ} {slice : List ℕ} {place : ℕ} {out remainder : List ℕ} (due : CarryingDue 1 nodes from slice place out remainder) where
+module _ {nodes : List ℕ} {from : ℕ} {out remainder given : List ℕ} (due : CarryingDue 1 nodes from out remainder given) where
   -- The type that it carries stands behind its kind byte.
+
   pub carried : Silent nodes from (due .node)
   carried = silent-at (due .kind) (due .node-at)
 
-  null : Nullable (carried .type)
-  null = silent-nullable (rw (carried .made) at (due .leaf .types))
+  abbrev pub some-type : SomeTypeAt nodes (from + 1)
+  some-type = record { type = carried .type; stands = carried .type-at }
 
-  pub empty-room : prefix-width (empty-prefix (carried .type)) ≤ length out
-  unfolding sends
-  empty-room = rw (carried .made) at (due .leaf .output-room)
+  -- The rules take no other than a nullable type, and give that.
+  module _ {out-after remainder-after given-after : List ℕ} (s : Ty) (p : Prefix) where
+    pub not-nullable : nullable (carried .type) ≡ false
+        → NodeAnswers (from + node-width (due .node)) s (due .node) p out remainder given out-after remainder-after given-after Failed
+    not-nullable other =
+        failed
+        (λ t typed room. absurd (false≢true (sym other ∙ nullable-complete (silent-nullable (rw (carried .made) at (typed .types))))))
 
-  -- The empty prefix of that type can be written ..
-  abbrev pub empty-due : EmptyDue nodes (from + 1) out
-  empty-due = record { type = carried .type; stands = carried .type-at; room = empty-room }
+    pub without-room : length given < size (carried .type)
+        → NodeAnswers (from + node-width (due .node)) s (due .node) p out remainder given out-after remainder-after given-after Failed
+    without-room less = failed (λ t typed room. omega (arith, ap size (silent-gives (rw (carried .made) at (typed .types)))))
 
-  module _ {out-after : List ℕ} {many : ℕ} (written : EmptyWritten nodes (from + 1) out out-after many) where
-    -- .. and is `many` bytes long: the node has one byte more than what it sends.
-    silent-width : 1 + many ≡ node-width (due .node)
-    silent-width = omega (arith, written .each empty-due .0, empty-width null, carried .wide)
+  module _ {end : ℕ} (ended : EndsNullable (from + 1) end (carried .type)) where
+    null : Nullable (carried .type)
+    null = nullable-sound (carried .type) (ended .is-nullable)
 
-    -- Its bytes can be copied, and there is room for them.
+    -- Type and node end there.
 
-    pub silent-inside : from + (1 + many) ≤ length nodes
-    silent-inside = omega (arith, silent-width, ends-inside (due .node-at))
+    node-ends : end ≡ from + node-width (due .node)
+    node-ends = omega (arith, ended .ends, carried .wide)
 
-    silent-taken : take (from + (1 + many) - from) (drop from nodes) ≡ node-bytes (due .node) []
-    silent-taken =
-        let long : from + (1 + many) - from ≡ node-width (due .node) = omega (arith, silent-width) in
-        rw long (bytes-at (due .node-at))
+    pub silent-inside : end ≤ length nodes
+    silent-inside = omega (arith, node-ends, ends-inside (due .node-at))
 
-    pub silent-room : length (take (from + (1 + many) - from) (drop from nodes)) ≤ length remainder
-    silent-room = omega (arith, ap length silent-taken, carried .wide, carried .type-at .small, due .leaf .left-room)
+    -- What is copied.
 
-    -- The node is left as it was.
-    pub silent-delivered : {remainder-after : List ℕ} → remainder-after ≡ at-front (take (from + (1 + many) - from) (drop from nodes)) remainder
-        → FedAs (due .leaf) out-after remainder-after (record { sent = many; kept = 1 + many })
-    unfolding sends leaves
-    silent-delivered copied =
-        let sent = written .each empty-due in
-        rw (carried .made)
-        (delivers (sent .0) (sent .1)
-        (record { sent = refl; kept = rw (carried .made) at silent-width; buffer = rw (silent-taken, carried .made) at copied }))
+    abbrev type-part : List ℕ
+    type-part = take (end - (from + 1)) (drop (from + 1) nodes)
+
+    abbrev node-part : List ℕ
+    node-part = take (end - from) (drop from nodes)
+
+    type-taken : type-part ≡ type-bytes (carried .type) []
+    type-taken =
+        let long : end - (from + 1) ≡ size (carried .type) = omega (arith, ended .ends) in
+        rw long (bytes-at (carried .type-at))
+
+    node-taken : node-part ≡ node-bytes (due .node) []
+    node-taken =
+        let long : end - from ≡ node-width (due .node) = omega (arith, node-ends) in
+        rw long (node-bytes-at (due .node-at))
+
+    abbrev silent-step : Step
+    silent-step = record { end = end; sent = end - (from + 1); kept = 1 + (end - (from + 1)); size = end - (from + 1) }
+
+    module _ (type-room : size (carried .type) ≤ length given) where
+      pub silence-due : SilenceDue type-part out
+      silence-due =
+          record {
+            type = carried .type;
+            is-nullable = null;
+            bytes = type-taken;
+            room = omega (arith, ap length type-taken, type-width (carried .type), due .room .rooms .for-output);
+          }
+
+      pub silent-fed : {out-after remainder-after given-after : List ℕ} {step : Step} → given-after ≡ at-front type-part given
+          → SilenceWritten type-part out out-after → remainder-after ≡ at-front node-part remainder
+          → step ≡ silent-step → (s : Ty) (p : Prefix)
+          → NodeAnswers (from + node-width (due .node)) s (due .node) p out remainder given out-after remainder-after given-after (Fed step)
+      unfolding silence-due
+      silent-fed copied written kept is s p =
+          rw (is, silent-sends s (carried .made) p, silent-stays s (carried .made) p)
+          (fed {step = silent-step} (silent-typed s (carried .made) null (carried .type-at .small))
+          (record {
+            ends = node-ends;
+            sent = omega (arith, ended .ends, empty-width null);
+            kept = omega (arith, ended .ends, carried .wide);
+            sized = omega (arith, ended .ends);
+            output =
+                front-leads (prefix-bytes (empty-prefix (carried .type)) []) out (written .each silence-due)
+                (omega (arith, prefix-bytes-length (empty-prefix (carried .type)) [], empty-width null, due .room .rooms .for-output));
+            node-left =
+                front-leads (node-bytes (due .node) []) remainder (kept ∙ ap (λ l. at-front l remainder) node-taken)
+                (omega (arith, carried .wide, due .room .rooms .for-type, due .room .left-room));
+            type-given = type-copied (record { stands = carried .type-at; ends = ended .ends }) type-room copied;
+          }))

@@ -1,230 +1,292 @@
-// One feed of a node without parts: what it sends, written on `out`, and the node left, written on `remainder`. Both are work
-// bytes with room for it.
-use reading::nested::Shaped;
-use reading::nested::crossed_in_first;
-use reading::nested::crossed_in_second;
+// One feed of a node without parts: what it sends, written on `out`, the node left, written on `remainder`, and the type that it gives,
+// written on `given`. All three are work bytes; what is behind may be anything afterwards. A node fails if its type lacks the shape that
+// it takes, and if there is no room for the type that it gives. Where that has room, what is sent has.
+use reading::inputs::Input;
+use reading::inputs::coming_part;
+use reading::inputs::crossed_parts;
+use reading::inputs::sides;
 use reading::prefixes::VALUE_WIDTH;
-use reading::prefixes::skip_complete;
-use reading::prefixes::skip_prefix;
-use writing::appending::append;
-use writing::appending::append_kind;
-use writing::appending::append_part;
+use reading::types::NullableEnd;
+use reading::types::TypePlace;
+use reading::types::nullable_end;
 use writing::copy;
-use writing::copy_prefix;
-use writing::reordering::write_left;
-use writing::reordering::write_right;
-use writing::reordering::write_spread;
 use writing::write_empty;
+use writing::write_silence;
 use writing::write_spent;
+ghost use mathlib.Core.Path.{_≡_};
 ghost use Prim.Native.Nat.{_≤_};
 ghost use lib.ListN.{length};
-ghost use Rattle.node.specs.Nodes.{pass, emit-cue, left-side, right-side, first, regroup-right, regroup-left, spread, front};
-ghost use Rattle.leaf_feeding.specs.Sending.{LeavesKind, LeavesSilent, LeafDue, LeafFed, CarryingDue, CarryingFed, SecondDue, SecondFed};
+ghost use Rattle.node.specs.Nodes.{pass, emit-cue, left-side, right-side, first, second};
+ghost use Rattle.leaf_feeding.specs.Steps.{LeafRooms, LeafDue, LeafFed, FreeFed, CarryingDue, CarryingFed, HandsOn, WaitingDue, Waits, LeavesSilent};
 
-// How many bytes a node sends, and how many the node left has.
-pub struct Sent {
+pub mod reordered;
+
+// How a feed leaves a node: where the node ends, how many bytes it sends, how many the node left has, and how many nodes the type
+// that it gives.
+pub struct Step {
+    pub end: usize,
     pub sent: usize,
     pub kept: usize,
+    pub size: usize,
 }
 
-// Leaves a node of kind `kind` that carries nothing; `sent` bytes were sent.
-fn leave(kind: u8, sent: usize, remainder: &mut [u8]) -> Sent
-    requires { ⌜ 1 ≤ length (now remainder) ⌝ }
-    ensures { λ r. ⌜ LeavesKind kind sent (now (remainder .entry)) (now (remainder .exit)) r ⌝ }
+impl Step {
+    pub fn new(end: usize, sent: usize, kept: usize, size: usize) -> Step
+        ensures { λ r. ⌜ r ≡ record { end = end; sent = sent; kept = kept; size = size } ⌝ }
+    {
+        Step {
+            end,
+            sent,
+            kept,
+            size,
+        }
+    }
+}
+
+// What a feed answers. Why it failed is for Check's pass to find, which knows the first fault.
+pub enum Stepped {
+    Fed(Step),
+    Failed,
+}
+
+// Gives the type and sends the prefix, both as they are, and leaves a node of one byte.
+fn hand_on(
+    kind: u8,
+    types: &[u8],
+    slice: &[u8],
+    input: Input,
+    end: usize,
+    out: &mut [u8],
+    remainder: &mut [u8],
+    given: &mut [u8],
+) -> Stepped
+    requires { ⌜ LeafDue (now types) (now slice) input (now out) (now remainder) (now given) ⌝ }
+    ensures { λ r. ⌜ HandsOn kind (now (types .entry)) (now (slice .entry)) input end (now (out .entry)) (now (remainder .entry)) (now (given .entry)) (now (out .exit)) (now (remainder .exit)) (now (given .exit)) r ⌝ }
 {
+    let at = input.ty.start;
+    let behind = input.ty.end;
+    let size = behind - at;
+    if given.len() < size {
+        return Stepped::Failed;
+    }
+    copy(&types[at..behind], given);
+    let place = input.prefix.start;
+    let stop = input.prefix.end;
+    copy(&slice[place..stop], out);
     remainder[0] = kind;
-    Sent { sent, kept: 1 }
-}
-
-// Leaves silent with the empty type.
-fn leave_silent(sent: usize, remainder: &mut [u8]) -> Sent
-    requires { ⌜ 2 ≤ length (now remainder) ⌝ }
-    ensures { λ r. ⌜ LeavesSilent sent (now (remainder .entry)) (now (remainder .exit)) r ⌝ }
-{
-    remainder[0] = 1;
-    remainder[1] = 0;
-    Sent { sent, kept: 2 }
+    Stepped::Fed(Step::new(end, stop - place, 1, size))
 }
 
 // Pass sends the prefix.
-pub fn feed_pass(slice: &[u8], place: usize, out: &mut [u8], remainder: &mut [u8]) -> Sent
-    requires { ⌜ LeafDue pass (now slice) place (now out) (now remainder) ⌝ }
-    ensures { λ r. ⌜ LeafFed pass (now (slice .entry)) place (now (out .entry)) (now (remainder .entry)) (now (out .exit)) (now (remainder .exit)) r ⌝ }
-{
-    let sent = copy_prefix(slice, place, out);
-    leave(0, sent, remainder)
-}
-
-// Silent sends the empty prefix of the type that it carries; that type has as many nodes as its empty prefix has bytes, since
-// no sequence stands in it.
-pub fn feed_silent(
-    nodes: &[u8],
-    from: usize,
+pub fn feed_pass(
+    types: &[u8],
     slice: &[u8],
-    place: usize,
+    input: Input,
+    end: usize,
     out: &mut [u8],
     remainder: &mut [u8],
-) -> Sent
-    requires { ⌜ CarryingDue 1 (now nodes) from (now slice) place (now out) (now remainder) ⌝ }
-    ensures { λ r. ⌜ CarryingFed 1 (now (nodes .entry)) from (now (slice .entry)) place (now (out .entry)) (now (remainder .entry)) (now (out .exit)) (now (remainder .exit)) r ⌝ }
+    given: &mut [u8],
+) -> Stepped
+    requires { ⌜ LeafDue (now types) (now slice) input (now out) (now remainder) (now given) ⌝ }
+    ensures { λ r. ⌜ LeafFed pass (now (types .entry)) (now (slice .entry)) input end (now (out .entry)) (now (remainder .entry)) (now (given .entry)) (now (out .exit)) (now (remainder .exit)) (now (given .exit)) r ⌝ }
 {
-    let sent = write_empty(nodes, from + 1, out);
-    let kept = 1 + sent;
-    copy(&nodes[from..from + kept], remainder);
-    Sent { sent, kept }
+    hand_on(0, types, slice, input, end, out, remainder, given)
+}
+
+// Leaves silent with the empty type, once a type of one node is given.
+fn leave_silent(end: usize, sent: usize, remainder: &mut [u8]) -> Stepped
+    requires { ⌜ 2 ≤ length (now remainder) ⌝ }
+    ensures { λ r. ⌜ LeavesSilent end sent (now (remainder .entry)) (now (remainder .exit)) r ⌝ }
+{
+    remainder[0] = 1;
+    remainder[1] = 0;
+    Stepped::Fed(Step::new(end, sent, 2, 1))
 }
 
 // Cue sends itself, once.
-pub fn feed_cue(slice: &[u8], place: usize, out: &mut [u8], remainder: &mut [u8]) -> Sent
-    requires { ⌜ LeafDue emit-cue (now slice) place (now out) (now remainder) ⌝ }
-    ensures { λ r. ⌜ LeafFed emit-cue (now (slice .entry)) place (now (out .entry)) (now (remainder .entry)) (now (out .exit)) (now (remainder .exit)) r ⌝ }
+pub fn feed_cue(end: usize, out: &mut [u8], remainder: &mut [u8], given: &mut [u8]) -> Stepped
+    requires { ⌜ LeafRooms (now out) (now remainder) (now given) ⌝ }
+    ensures { λ r. ⌜ FreeFed emit-cue end (now (out .entry)) (now (remainder .entry)) (now (given .entry)) (now (out .exit)) (now (remainder .exit)) (now (given .exit)) r ⌝ }
 {
+    if given.len() == 0 {
+        return Stepped::Failed;
+    }
     out[0] = 2;
-    leave_silent(1, remainder)
+    given[0] = 1;
+    leave_silent(end, 1, remainder)
 }
 
 // Level sends its value, once.
 pub fn feed_level(
     nodes: &[u8],
     from: usize,
-    slice: &[u8],
-    place: usize,
     out: &mut [u8],
     remainder: &mut [u8],
-) -> Sent
-    requires { ⌜ CarryingDue 3 (now nodes) from (now slice) place (now out) (now remainder) ⌝ }
-    ensures { λ r. ⌜ CarryingFed 3 (now (nodes .entry)) from (now (slice .entry)) place (now (out .entry)) (now (remainder .entry)) (now (out .exit)) (now (remainder .exit)) r ⌝ }
+    given: &mut [u8],
+) -> Stepped
+    requires { ⌜ CarryingDue 3 (now nodes) from (now out) (now remainder) (now given) ⌝ }
+    ensures { λ r. ⌜ CarryingFed 3 (now (nodes .entry)) from (now (out .entry)) (now (remainder .entry)) (now (given .entry)) (now (out .exit)) (now (remainder .exit)) (now (given .exit)) r ⌝ }
 {
+    if given.len() == 0 {
+        return Stepped::Failed;
+    }
     let value = from + 1;
+    let end = value + VALUE_WIDTH;
     out[0] = 4;
-    copy(&nodes[value..value + VALUE_WIDTH], &mut out[1..]);
-    leave_silent(1 + VALUE_WIDTH, remainder)
+    copy(&nodes[value..end], &mut out[1..]);
+    given[0] = 2;
+    leave_silent(end, 1 + VALUE_WIDTH, remainder)
+}
+
+// Silent sends nothing of the type that it carries, which stands behind its kind byte, and stays.
+pub fn feed_silent(
+    nodes: &[u8],
+    from: usize,
+    out: &mut [u8],
+    remainder: &mut [u8],
+    given: &mut [u8],
+) -> Stepped
+    requires { ⌜ CarryingDue 1 (now nodes) from (now out) (now remainder) (now given) ⌝ }
+    ensures { λ r. ⌜ CarryingFed 1 (now (nodes .entry)) from (now (out .entry)) (now (remainder .entry)) (now (given .entry)) (now (out .exit)) (now (remainder .exit)) (now (given .exit)) r ⌝ }
+{
+    let at = from + 1;
+    match nullable_end(nodes, at) {
+        NullableEnd::Other => Stepped::Failed,
+        NullableEnd::At(end) => {
+            let size = end - at;
+            if given.len() < size {
+                return Stepped::Failed;
+            }
+            copy(&nodes[at..end], given);
+            write_silence(&nodes[at..end], out);
+            copy(&nodes[from..end], remainder);
+            Stepped::Fed(Step::new(end, size, 1 + size, size))
+        }
+    }
 }
 
 // Left sends the first side.
-pub fn feed_left(slice: &[u8], place: usize, out: &mut [u8], remainder: &mut [u8]) -> Sent
-    requires { ⌜ LeafDue left-side (now slice) place (now out) (now remainder) ⌝ }
-    ensures { λ r. ⌜ LeafFed left-side (now (slice .entry)) place (now (out .entry)) (now (remainder .entry)) (now (out .exit)) (now (remainder .exit)) r ⌝ }
+pub fn feed_left(
+    types: &[u8],
+    slice: &[u8],
+    input: Input,
+    end: usize,
+    out: &mut [u8],
+    remainder: &mut [u8],
+    given: &mut [u8],
+) -> Stepped
+    requires { ⌜ LeafDue (now types) (now slice) input (now out) (now remainder) (now given) ⌝ }
+    ensures { λ r. ⌜ LeafFed left-side (now (types .entry)) (now (slice .entry)) input end (now (out .entry)) (now (remainder .entry)) (now (given .entry)) (now (out .exit)) (now (remainder .exit)) (now (given .exit)) r ⌝ }
 {
-    let sent = copy_prefix(slice, place + 1, out);
-    leave(5, sent, remainder)
+    let at = input.ty.start;
+    if types[at] != 4 {
+        return Stepped::Failed;
+    }
+    let halves = sides(types, slice, input);
+    hand_on(5, types, slice, halves.first, end, out, remainder, given)
 }
 
 // Right sends the second side.
-pub fn feed_right(slice: &[u8], place: usize, out: &mut [u8], remainder: &mut [u8]) -> Sent
-    requires { ⌜ LeafDue right-side (now slice) place (now out) (now remainder) ⌝ }
-    ensures { λ r. ⌜ LeafFed right-side (now (slice .entry)) place (now (out .entry)) (now (remainder .entry)) (now (out .exit)) (now (remainder .exit)) r ⌝ }
+pub fn feed_right(
+    types: &[u8],
+    slice: &[u8],
+    input: Input,
+    end: usize,
+    out: &mut [u8],
+    remainder: &mut [u8],
+    given: &mut [u8],
+) -> Stepped
+    requires { ⌜ LeafDue (now types) (now slice) input (now out) (now remainder) (now given) ⌝ }
+    ensures { λ r. ⌜ LeafFed right-side (now (types .entry)) (now (slice .entry)) input end (now (out .entry)) (now (remainder .entry)) (now (given .entry)) (now (out .exit)) (now (remainder .exit)) (now (given .exit)) r ⌝ }
 {
-    let second = skip_prefix(slice, place + 1);
-    let sent = copy_prefix(slice, second, out);
-    leave(6, sent, remainder)
+    let at = input.ty.start;
+    if types[at] != 4 {
+        return Stepped::Failed;
+    }
+    let halves = sides(types, slice, input);
+    hand_on(6, types, slice, halves.second, end, out, remainder, given)
 }
 
 // First sends what has come of the first part; after a crossing it stays silent with what that part leaves.
-pub fn feed_first(slice: &[u8], place: usize, out: &mut [u8], remainder: &mut [u8]) -> Sent
-    requires { ⌜ LeafDue first (now slice) place (now out) (now remainder) ⌝ }
-    ensures { λ r. ⌜ LeafFed first (now (slice .entry)) place (now (out .entry)) (now (remainder .entry)) (now (out .exit)) (now (remainder .exit)) r ⌝ }
-{
-    let part = place + 1;
-    let sent = copy_prefix(slice, part, out);
-    if slice[place] == 5 {
-        return leave(7, sent, remainder);
-    }
-    remainder[0] = 1;
-    let size = write_spent(slice, part, &mut remainder[1..]);
-    Sent {
-        sent,
-        kept: 1 + size,
-    }
-}
-
-// Second sends nothing of the second part until the crossing, and then what comes of it. The parts of its type stand at `first`
-// and `second`.
-pub fn feed_second(
+pub fn feed_first(
     types: &[u8],
-    first: usize,
-    second: usize,
     slice: &[u8],
-    place: usize,
+    input: Input,
+    end: usize,
     out: &mut [u8],
     remainder: &mut [u8],
-) -> Sent
-    requires { ⌜ SecondDue (now types) first second (now slice) place (now out) (now remainder) ⌝ }
-    ensures { λ r. ⌜ SecondFed (now (types .entry)) first second (now (slice .entry)) place (now (out .entry)) (now (remainder .entry)) (now (out .exit)) (now (remainder .exit)) r ⌝ }
+    given: &mut [u8],
+) -> Stepped
+    requires { ⌜ LeafDue (now types) (now slice) input (now out) (now remainder) (now given) ⌝ }
+    ensures { λ r. ⌜ LeafFed first (now (types .entry)) (now (slice .entry)) input end (now (out .entry)) (now (remainder .entry)) (now (given .entry)) (now (out .exit)) (now (remainder .exit)) (now (given .exit)) r ⌝ }
 {
-    if slice[place] == 5 {
-        let sent = write_empty(types, second, out);
-        return leave(8, sent, remainder);
+    let at = input.ty.start;
+    if types[at] != 3 {
+        return Stepped::Failed;
     }
-    let rest = skip_complete(types, first, second, slice, place + 1);
-    let sent = copy_prefix(slice, rest, out);
-    leave(0, sent, remainder)
-}
-
-// Regroup right: 5 5 p gives 5 p. 5 6 b q gives 6 b 5 q and 6 6 b c q gives 6 b 6 c q: the outer kind goes behind b.
-pub fn feed_regroup_right(slice: &[u8], place: usize, out: &mut [u8], remainder: &mut [u8]) -> Sent
-    requires { ⌜ LeafDue regroup-right (now slice) place (now out) (now remainder) ⌝ }
-    ensures { λ r. ⌜ LeafFed regroup-right (now (slice .entry)) place (now (out .entry)) (now (remainder .entry)) (now (out .exit)) (now (remainder .exit)) r ⌝ }
-{
-    match crossed_in_first(slice, place) {
-        Shaped::Other => {
-            let sent = copy_prefix(slice, place + 1, out);
-            leave(11, sent, remainder)
-        }
-        Shaped::Nested(places) => {
-            let sent = write_right(6, places.kind, slice, places, out);
-            leave(0, sent, remainder)
+    let start = input.prefix.start;
+    if slice[start] == 5 {
+        let part = coming_part(types, input);
+        return hand_on(7, types, slice, part, end, out, remainder, given);
+    }
+    let halves = crossed_parts(types, slice, input);
+    match hand_on(7, types, slice, halves.first, end, out, remainder, given) {
+        Stepped::Failed => Stepped::Failed,
+        Stepped::Fed(step) => {
+            remainder[0] = 1;
+            let size = write_spent(slice, halves.first.prefix.start, &mut remainder[1..]);
+            Stepped::Fed(Step::new(end, step.sent, 1 + size, step.size))
         }
     }
 }
 
-// Regroup left: 5 p gives 5 5 p. 6 b 5 q gives 5 6 b q and 6 b 6 c q gives 6 6 b c q: the kind behind b comes to the front.
-pub fn feed_regroup_left(slice: &[u8], place: usize, out: &mut [u8], remainder: &mut [u8]) -> Sent
-    requires { ⌜ LeafDue regroup-left (now slice) place (now out) (now remainder) ⌝ }
-    ensures { λ r. ⌜ LeafFed regroup-left (now (slice .entry)) place (now (out .entry)) (now (remainder .entry)) (now (out .exit)) (now (remainder .exit)) r ⌝ }
+// Second while the first part is coming, of the type of the second part: it sends nothing of it.
+fn feed_waiting(
+    types: &[u8],
+    place: TypePlace,
+    end: usize,
+    out: &mut [u8],
+    remainder: &mut [u8],
+    given: &mut [u8],
+) -> Stepped
+    requires { ⌜ WaitingDue (now types) place (now out) (now remainder) (now given) ⌝ }
+    ensures { λ r. ⌜ Waits (now (types .entry)) place end (now (out .entry)) (now (remainder .entry)) (now (given .entry)) (now (out .exit)) (now (remainder .exit)) (now (given .exit)) r ⌝ }
 {
-    match crossed_in_second(slice, place) {
-        Shaped::Other => {
-            let stop = skip_prefix(slice, place);
-            let before = append_kind(5, 0, out);
-            let sent = append_part(slice, place, stop, before, out);
-            leave(12, sent, remainder)
-        }
-        Shaped::Nested(places) => {
-            let sent = write_left(places.kind, 6, slice, places, out);
-            leave(0, sent, remainder)
-        }
+    let at = place.start;
+    let behind = place.end;
+    let size = behind - at;
+    if given.len() < size {
+        return Stepped::Failed;
     }
+    copy(&types[at..behind], given);
+    let sent = write_empty(types, at, out);
+    remainder[0] = 8;
+    Stepped::Fed(Step::new(end, sent, 1, size))
 }
 
-// Spread: 5 p gives 7 5 p 5 p. 6 b 7 q r gives 7 6 b q 6 b r.
-pub fn feed_spread(slice: &[u8], place: usize, out: &mut [u8], remainder: &mut [u8]) -> Sent
-    requires { ⌜ LeafDue spread (now slice) place (now out) (now remainder) ⌝ }
-    ensures { λ r. ⌜ LeafFed spread (now (slice .entry)) place (now (out .entry)) (now (remainder .entry)) (now (out .exit)) (now (remainder .exit)) r ⌝ }
+// Second sends nothing of the second part until the crossing, and then what comes of it.
+pub fn feed_second(
+    types: &[u8],
+    slice: &[u8],
+    input: Input,
+    end: usize,
+    out: &mut [u8],
+    remainder: &mut [u8],
+    given: &mut [u8],
+) -> Stepped
+    requires { ⌜ LeafDue (now types) (now slice) input (now out) (now remainder) (now given) ⌝ }
+    ensures { λ r. ⌜ LeafFed second (now (types .entry)) (now (slice .entry)) input end (now (out .entry)) (now (remainder .entry)) (now (given .entry)) (now (out .exit)) (now (remainder .exit)) (now (given .exit)) r ⌝ }
 {
-    match crossed_in_second(slice, place) {
-        Shaped::Other => {
-            let stop = skip_prefix(slice, place);
-            let before = append_kind(7, 0, out);
-            let half = append_part(slice, place, stop, before, out);
-            let sent = append_part(slice, place, stop, half, out);
-            leave(13, sent, remainder)
-        }
-        Shaped::Nested(places) => {
-            let sent = write_spread(7, 6, slice, places, out);
-            leave(0, sent, remainder)
-        }
+    let at = input.ty.start;
+    if types[at] != 3 {
+        return Stepped::Failed;
     }
-}
-
-// Front: p gives 6 0 p.
-pub fn feed_front(slice: &[u8], place: usize, out: &mut [u8], remainder: &mut [u8]) -> Sent
-    requires { ⌜ LeafDue front (now slice) place (now out) (now remainder) ⌝ }
-    ensures { λ r. ⌜ LeafFed front (now (slice .entry)) place (now (out .entry)) (now (remainder .entry)) (now (out .exit)) (now (remainder .exit)) r ⌝ }
-{
-    let stop = skip_prefix(slice, place);
-    let mut sent = append_kind(6, 0, out);
-    sent = append_kind(0, sent, out);
-    sent = append(&slice[place..stop], sent, out);
-    leave(0, sent, remainder)
+    let start = input.prefix.start;
+    if slice[start] == 5 {
+        let part = coming_part(types, input);
+        let place = TypePlace::new(part.ty.end, input.ty.end);
+        return feed_waiting(types, place, end, out, remainder, given);
+    }
+    let halves = crossed_parts(types, slice, input);
+    hand_on(0, types, slice, halves.second, end, out, remainder, given)
 }

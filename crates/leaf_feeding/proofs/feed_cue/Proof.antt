@@ -1,36 +1,21 @@
--- `feed_cue` meets its contract: it writes the one byte of a cue that has come.
+-- `feed_cue` meets its contract: it writes the one byte of a cue that has come, where a type of one node has room.
 use borrow.Author.Needs.{needs}
-use mathlib.Core.Path.{refl}
 use native.Mathlib.Omega.{arith}
-use Rattle.stream.specs.Types.Laws.{limit-is}
-use Rattle.stream.specs.SliceFiles.{prefix-bytes}
-use Rattle.reading.specs.SliceReads.{prefix-width}
-use Rattle.node.specs.Feeding.Functions.{sends, leaves}
-use Rattle.writing.specs.Writing.Laws.{byte}
-use Rattle.leaf_feeding.specs.Sending.Laws.{delivers}
+use Rattle.leaf_feeding.proofs.Emitted.{none-given, cue-fed}
 use Rattle.leaf_feeding.proofs.feed_cue.Statement.{statement}
 use Rattle.leaf_feeding.proofs.feed_cue.Tie as tie
 
--- The map of places: what stands before what.
-abbrev entry : tie.After-slice-known2 → tie.Start
-entry c = c .before .before .before
-
-abbrev left : tie.After-slice-known3 → tie.After-leave-silent
-left c = c .before .before
-
-abbrev begun : tie.After-slice-known3 → tie.Start
-begun c = entry (left c .before .before)
-
--- What is read where
-
--- What is due
+returns : tie.Need-returns
+returns c = record { each = λ room s p. none-given (c .if1 .taken) }
 
 slice-write-out : tie.Need-slice-write-out
-unfolding sends prefix-width
-slice-write-out c = entry c .pre .output-room
+slice-write-out c = search needs
+
+slice-write-given : tie.Need-slice-write-given
+slice-write-given c = search needs
 
 leave-silent-requires : tie.Need-leave-silent-requires
-leave-silent-requires c κs = omega (arith, limit-is, entry (c .before) .pre .left-room)
+leave-silent-requires c κs = search needs
 
 same-length : tie.Need-same-length
 same-length c = search needs
@@ -38,10 +23,23 @@ same-length c = search needs
 same-length-2 : tie.Need-same-length-2
 same-length-2 c = search needs
 
-returns : tie.Need-returns
-unfolding sends leaves prefix-bytes prefix-width
-returns c =
-    record { each = λ due. delivers refl (byte (begun c .args .out .now) 2 (due .output-room)) (left c .leave-silent .ensures) }
+same-length-3 : tie.Need-same-length-3
+same-length-3 c = search needs
+
+returns-2 : tie.Need-returns-2
+returns-2 c =
+    let left = c .before .before in
+    record { each = λ room. cue-fed room (omega arith) (left .leave-silent .ensures) }
 
 pub feed-cue-spec : {M : Type 1} → statement M
-feed-cue-spec = tie.close (tie.spec slice-write-out leave-silent-requires same-length same-length-2 returns)
+feed-cue-spec =
+    tie.close
+    (tie.spec
+    returns
+    slice-write-out
+    slice-write-given
+    leave-silent-requires
+    same-length
+    same-length-2
+    same-length-3
+    returns-2)

@@ -1,45 +1,40 @@
 -- `feed_level` meets its contract: the bytes of the value stand behind the kind byte of the node, and it writes them behind that
--- of a level that has come (`LevelSent`).
+-- of a level that has come (`LevelSent`), where a type of one node has room.
 use borrow.Author.Needs.{needs}
 use native.Mathlib.Omega.{arith}
 use lib.ListN.{length-set}
-use Rattle.stream.specs.Types.Laws.{limit-is}
-use Rattle.writing.specs.Writing.Laws.{length-kept}
-use Rattle.leaf_feeding.proofs.LevelSent.{value-inside, level-room, value-room, level-sent, level-delivered}
+use Rattle.leaf_feeding.proofs.Emitted.{none-given}
+use Rattle.leaf_feeding.proofs.LevelSent.{value-inside, level-room, value-room, level-sent, level-fed}
 use Rattle.leaf_feeding.proofs.feed_level.Statement.{statement}
 use Rattle.leaf_feeding.proofs.feed_level.Tie as tie
 
 -- The map of places: what stands before what.
-abbrev entry : tie.After-slice-known2 → tie.Start
-entry c = c .before .before .before .before
+abbrev entry-before-else1 : tie.Else1 → tie.Start
+entry-before-else1 c = c .before .before .before .before .before
 
-abbrev room : tie.After-copy-arg → tie.Start
-room c = entry (c .before)
+abbrev entry-before-copy-arg : tie.After-copy-arg → tie.Start
+entry-before-copy-arg c = entry-before-else1 (c .before)
 
-abbrev begun : tie.After-copy → tie.Start
-begun c = room (c .before .before)
+abbrev entry-before-copy-arg2 : tie.After-copy-arg2 → tie.Start
+entry-before-copy-arg2 c = entry-before-copy-arg (c .before)
 
-abbrev copied : tie.After-slice-known3 → tie.After-copy
-copied c = c .before .before
+abbrev entry-before-copy : tie.After-copy → tie.Start
+entry-before-copy c = entry-before-copy-arg2 (c .before)
 
-abbrev level : tie.After-leave-silent → tie.After-copy
-level c = copied (c .before .before)
+abbrev copy-before-slice-known5 : tie.After-slice-known5 → tie.After-copy
+copy-before-slice-known5 c = c .before .before .before .before .before .before
 
-abbrev left : tie.After-slice-known4 → tie.After-leave-silent
-left c = c .before .before
-
--- What is read where
-
--- What is due
+returns : tie.Need-returns
+returns c = record { each = λ due s p. none-given (c .if1 .taken) }
 
 add-value : tie.Need-add-value
-add-value c = omega (arith, value-inside (entry c .pre))
+add-value c = omega (arith, value-inside (entry-before-else1 c .pre))
+
+add-end : tie.Need-add-end
+add-end c = omega (arith, value-inside (entry-before-else1 c .pre))
 
 slice-write-out : tie.Need-slice-write-out
-slice-write-out c = omega (arith, level-room (entry c .pre))
-
-add-copy : tie.Need-add-copy
-add-copy c = omega (arith, value-inside (entry c .pre))
+slice-write-out c = search needs
 
 sub-copy : tie.Need-sub-copy
 sub-copy c = search needs
@@ -48,10 +43,12 @@ part-copy-start : tie.Need-part-copy-start
 part-copy-start c = search needs
 
 part-copy-end : tie.Need-part-copy-end
-part-copy-end c = value-inside (entry c .pre)
+part-copy-end c = value-inside (entry-before-else1 c .pre)
 
 sub-copy-2 : tie.Need-sub-copy-2
-sub-copy-2 c = simp length-set (omega (arith, level-room (room c .pre)))
+sub-copy-2 c =
+    let start = entry-before-copy-arg c in
+    simp length-set (omega (arith, level-room (start .pre) (omega arith)))
 
 part-copy-start-2 : tie.Need-part-copy-start-2
 part-copy-start-2 c = sub-copy-2 c
@@ -60,33 +57,44 @@ part-copy-end-2 : tie.Need-part-copy-end-2
 part-copy-end-2 c = search needs
 
 copy-requires : tie.Need-copy-requires
-copy-requires c κs = value-room (room (c .before) .pre)
+copy-requires c κs =
+    let start = entry-before-copy-arg2 c in
+    value-room (start .pre) (omega arith)
+
+slice-write-given : tie.Need-slice-write-given
+slice-write-given c = search needs
 
 add-leave-silent : tie.Need-add-leave-silent
 add-leave-silent c = search needs
 
 leave-silent-requires : tie.Need-leave-silent-requires
-leave-silent-requires c κs = omega (arith, limit-is, begun (copied (c .before)) .pre .leaf .left-room)
+leave-silent-requires c κs = search needs
 
 same-length : tie.Need-same-length
 same-length c =
-    let sent = level (left c) in
-    let due = begun sent .pre in
-    length-kept (level-sent due (sent .copy .ensures)) (level-room due)
+    let copied = copy-before-slice-known5 c in
+    let start = entry-before-copy copied in
+    level-sent (start .pre) (omega arith) (copied .copy .ensures) .long
 
 same-length-2 : tie.Need-same-length-2
 same-length-2 c = search needs
 
-returns : tie.Need-returns
-returns c = record { each = λ due. level-delivered due (level (left c) .copy .ensures) (left c .leave-silent .ensures) }
+same-length-3 : tie.Need-same-length-3
+same-length-3 c = search needs
+
+returns-2 : tie.Need-returns-2
+returns-2 c =
+    let copied = copy-before-slice-known5 c in
+    record { each = λ due. level-fed due (omega arith) (copied .copy .ensures) (c .before .before .leave-silent .ensures) }
 
 pub feed-level-spec : {M : Type 1} → statement M
 feed-level-spec =
     tie.close
     (tie.spec
+    returns
     add-value
+    add-end
     slice-write-out
-    add-copy
     sub-copy
     part-copy-start
     part-copy-end
@@ -94,8 +102,10 @@ feed-level-spec =
     part-copy-start-2
     part-copy-end-2
     copy-requires
+    slice-write-given
     add-leave-silent
     leave-silent-requires
     same-length
     same-length-2
-    returns)
+    same-length-3
+    returns-2)

@@ -1,36 +1,37 @@
--- `feed_right` meets its contract: the second side stands where `skip_prefix` says that the first ends.
+-- `feed_right` meets its contract: it takes types of the kind 4 alone, and hands on the second side.
 use borrow.Author.Needs.{needs}
-use mathlib.Core.Path.{refl}
-use native.Mathlib.Omega.{arith}
-use Rattle.node.specs.Feeding.Functions.{leaves}
-use Rattle.node.specs.PatchFiles.{node-bytes}
-use Rattle.leaf_feeding.specs.Sending.Laws.{leaf-inside, copy-due, copied}
-use Rattle.leaf_feeding.proofs.PartsSent.{right-before, right-part-at}
+use Rattle.reading.specs.Inputs.Laws.{type-starts}
+use Rattle.leaf_feeding.proofs.PartsFed.{right-takes, wrong-shape, sides-due, right-due, right-answers}
 use Rattle.leaf_feeding.proofs.feed_right.Statement.{statement}
 use Rattle.leaf_feeding.proofs.feed_right.Tie as tie
 
 -- The map of places: what stands before what.
-abbrev entry-before-copy-prefix-arg : tie.After-copy-prefix-arg → tie.Start
-entry-before-copy-prefix-arg c = c .before .before .before .before .before
+abbrev entry-before-shared-slice-known3 : tie.After-shared-slice-known3 → tie.Start
+entry-before-shared-slice-known3 c = c .before .before .before .before .before .before
 
-abbrev copy-prefix-before-leave : tie.After-leave → tie.After-copy-prefix
-copy-prefix-before-leave c = c .before .before .before .before
+abbrev entry-before-else1 : tie.Else1 → tie.Start
+entry-before-else1 c = entry-before-shared-slice-known3 (c .before)
 
-add-skip-prefix : tie.Need-add-skip-prefix
-add-skip-prefix c = omega (arith, leaf-inside (c .before .before .before .pre))
+abbrev sides-before-hand-on : tie.After-hand-on → tie.After-sides
+sides-before-hand-on c = c .before .before .before .before
 
-skip-prefix-requires : tie.Need-skip-prefix-requires
-skip-prefix-requires c κs =
-    let due = c .before .before .before .pre in
-    right-before (due .types) (due .is-prefix) (due .prefix-at)
+abbrev hand-on-before-slice-known6 : tie.After-slice-known6 → tie.After-hand-on
+hand-on-before-slice-known6 c = c .before .before .before .before .before .before
 
-copy-prefix-requires : tie.Need-copy-prefix-requires
-copy-prefix-requires c κs =
-    let due = entry-before-copy-prefix-arg c .pre in
-    copy-due due (right-part-at (due .types) (due .is-prefix) (due .prefix-at) (c .before .skip-prefix .ensures))
+shared-slice-read-if1 : tie.Need-shared-slice-read-if1
+shared-slice-read-if1 c = type-starts (entry-before-shared-slice-known3 c .pre .stands)
 
-leave-requires : tie.Need-leave-requires
-leave-requires c κs = search needs
+returns : tie.Need-returns
+returns c = record { each = λ due. wrong-shape due right-takes (c .if1 .taken) }
+
+sides-requires : tie.Need-sides-requires
+sides-requires c κs = sides-due (entry-before-else1 c .pre) (c .if1 .left)
+
+hand-on-requires : tie.Need-hand-on-requires
+hand-on-requires c κs =
+    let found = c .before .before .before in
+    let four = found .before in
+    right-due (entry-before-else1 four .pre) (four .if1 .left) (found .sides .ensures)
 
 same-length : tie.Need-same-length
 same-length c = search needs
@@ -38,26 +39,24 @@ same-length c = search needs
 same-length-2 : tie.Need-same-length-2
 same-length-2 c = search needs
 
-returns : tie.Need-returns
-unfolding leaves node-bytes
-returns c =
-    let left = c .before .before in
-    let sent = copy-prefix-before-leave left in
-    let skipped = sent .before .before in
-    record {
-      each = λ due.
-          copied due (right-part-at (due .types) (due .is-prefix) (due .prefix-at) (skipped .skip-prefix .ensures))
-          (sent .copy-prefix .ensures) (left .leave .ensures) refl;
-    }
+same-length-3 : tie.Need-same-length-3
+same-length-3 c = search needs
+
+returns-2 : tie.Need-returns-2
+returns-2 c =
+    let handed = hand-on-before-slice-known6 c in
+    let found = sides-before-hand-on handed in
+    record { each = λ due. right-answers due (found .before .if1 .left) (found .sides .ensures) (handed .hand-on .ensures) }
 
 pub feed-right-spec : {M : Type 1} → statement M
 feed-right-spec =
     tie.close
     (tie.spec
-    add-skip-prefix
-    skip-prefix-requires
-    copy-prefix-requires
-    leave-requires
+    shared-slice-read-if1
+    returns
+    sides-requires
+    hand-on-requires
     same-length
     same-length-2
-    returns)
+    same-length-3
+    returns-2)
