@@ -1,18 +1,25 @@
 -- The measure of a feed: the nodes below, counted on the bytes, are those of the trees that stand there.
 use mathlib.Core.Path.{_≡_, refl, ap, _∙_}
 use mathlib.Core.List.{List}
-use Prim.Native.Nat.{ℕ, suc, _+_, _≤_, _<_}
+use Prim.Native.Nat.{ℕ, zero, suc, _+_, _≤_, _<_}
 use native.Mathlib.Omega.{arith}
 use native.Mathlib.Nat.{add-zero}
 use lib.ListN.{getD, drop}
 use lib.Seq.{drop-drop}
 use Rattle.stream.specs.Reading.{Reading, read, fault}
-use Rattle.node.specs.Nodes.{Node, pass, silent, emit-cue, emit-level, both, left-side, right-side, first, second, then, chain, regroup-right, regroup-left, spread, front, count, node-limit, Few}
+use Rattle.node.specs.Nodes.{Node, pass, silent, emit-cue, emit-level, both, left-side, right-side, first, second, then, chain, regroup-right, regroup-left, spread, front, count, Few}
 use Rattle.node.specs.PatchFiles.{read-node}
 use Rattle.node.specs.PatchFiles.Laws.{read-node-reads}
 use Rattle.patch_reading.specs.PatchReads.{node-width, NodeAt}
 use Rattle.patch_reading.specs.PatchReads.Laws.{node-drop, Forks, Parts, parts-at}
-use Rattle.feeding.specs.Steps.{nodes-below}
+use Rattle.feeding.specs.Feeds.{nodes-below}
+
+pub positive : {n : ℕ} → (n ≡ 0 → ⊥) → 0 < n
+positive {n} other = go n other
+  where
+    go : (m : ℕ) → (m ≡ 0 → ⊥) → 0 < m
+    go zero other = absurd (other refl)
+    go (suc m) other = omega arith
 
 -- A node counts itself.
 pub count-positive : (n : Node) → 1 ≤ count n

@@ -1,8 +1,8 @@
-pub mod Below
-pub mod Giving
-pub mod FeedingLeaf
-pub mod FeedingBehind
-pub mod FeedingBoth
-pub mod FeedingParts
-pub mod FeedingThen
-pub mod FeedingChain
+mod Below
+mod Typings
+mod FeedingLeaf
+mod FeedingParts
+mod FeedingBoth
+mod FeedingThen
+mod FeedingComing
+mod FeedingChain
