@@ -19,9 +19,13 @@ use Rattle.patch_reading.specs.declared.PatchPlace.{PatchPlace}
 use Rattle.typing.specs.declared.Typed.{Typed}
 use Rattle.typing.specs.declared.Typed.the-variants.{Gives, Failed}
 use Rattle.patch_reading.specs.PatchReads.{AcceptedPatch}
-use Rattle.typing.specs.Typing.{Answers}
+use Rattle.typing.specs.Typing.{TypingDue, Answers}
 use Rattle.typing.specs.Typing.Laws.{IsGiven, is-given, is-refused, typing-small}
 use Rattle.meaning.specs.Answers.{check}
+
+-- What the second pass is asked, of a patch that was read.
+abbrev pub typing-due : {file : List ℕ} {place : PatchPlace} → AcceptedPatch file place → TypingDue file (place .input) file (place .nodes)
+typing-due read = record { type = read .patch .input; node = read .patch .node; type-in = read .type-in; node-at = read .node-at }
 
 pub not-read : (file : List ℕ) {e : Fault} → first-pass file ≡ refused e → check file ≡ refused e
 unfolding check patch-file

@@ -1,5 +1,5 @@
 -- What Feed comes to, by its readers, and what it has to write.
-use mathlib.Core.Path.{_≡_, ap, _∙_}
+use mathlib.Core.Path.{_≡_, refl, ap, _∙_}
 use mathlib.Core.List.{List, [], append-nil}
 use Prim.Native.Nat.{ℕ, _+_, _*_, _-_, _≤_, _<_}
 use native.Mathlib.Omega.{arith}
@@ -12,33 +12,38 @@ use Rattle.stream.specs.Types.{Ty, size}
 use Rattle.stream.specs.Types.Laws.{limit-is}
 use Rattle.stream.specs.Prefixes.{Prefix, derivative}
 use Rattle.stream.specs.Prefixes.Laws.{derivative-size}
-use Rattle.stream.specs.Reading.{accepted, refused, section-bytes}
+use Rattle.stream.specs.Reading.{Result, accepted, refused, section-bytes}
 use Rattle.stream.specs.Buffers.{at-front}
 use Rattle.stream.specs.TypeFiles.{type-bytes}
 use Rattle.stream.specs.SliceFiles.{prefix-bytes, slice-file-bytes, slice-file}
-use Rattle.stream.specs.SliceFiles.Laws.{prefix-short, slice-length}
+use Rattle.reading.specs.declared.prefixes.PrefixPlace.{PrefixPlace}
+use Rattle.reading.specs.declared.inputs.Input.{Input}
+use Rattle.reading.specs.Inputs.{InputAt}
 use Rattle.reading.specs.TypeReads.Laws.{type-width}
 use Rattle.reading.specs.SliceReads.{prefix-width}
 use Rattle.reading.specs.SliceReads.Laws.{prefix-bytes-length}
 use Rattle.writing.specs.Writing.Standing.{slice-file-size}
 use Rattle.node.specs.Nodes.{Node, count, node-limit}
-use Rattle.node.specs.Nodes.Laws.{output-type-is, output-small}
+use Rattle.node.specs.Nodes.Laws.{output-small}
 use Rattle.node.specs.Feeding.Functions.{sends, leaves}
-use Rattle.node.specs.Feeding.Laws.{preserved}
 use Rattle.node.specs.Checking.{typing}
-use Rattle.node.specs.Checking.Laws.{WellTyped, typing-sound}
+use Rattle.node.specs.Checking.Laws.{WellTyped, typing-sound, typing-complete}
 use Rattle.node.specs.PatchFiles.{node-bytes, patch-file-bytes, first-pass, second-pass, patch-file}
 use Rattle.patch_reading.specs.declared.PatchPlace.{PatchPlace}
 use Rattle.patch_reading.specs.PatchReads.Laws.{ends-inside, count-within}
-use Rattle.patch_reading.specs.PatchReads.{AcceptedPatch}
-use Rattle.feeding.specs.declared.Step.{Step}
-use Rattle.feeding.specs.Steps.{Feedable, FeedDue, Steps}
-use Rattle.feeding.specs.Steps.Laws.{leads-inside, leads-taken, left-width}
+use Rattle.patch_reading.specs.PatchReads.{node-width, AcceptedPatch}
+use Rattle.leaf_feeding.specs.declared.Step.{Step}
+use Rattle.leaf_feeding.specs.declared.Stepped.{Stepped as StepAnswer}
+use Rattle.leaf_feeding.specs.declared.Stepped.the-variants.{Fed as Stepped, Failed}
+use Rattle.leaf_feeding.specs.Steps.{NodeAnswers, Rooms}
+use Rattle.leaf_feeding.specs.Steps.Laws.{leads-inside, leads-taken, left-width, was-fed, has-failed}
+use Rattle.feeding.specs.Feeds.{FeedDue}
+use Rattle.meaning.specs.declared.Fed.{Fed}
 use Rattle.meaning.specs.Answers.{FedFiles, feed, with-room, fed as told, after, fed-files}
 use Rattle.meaning.specs.Promises.{FeedPromise}
-use Rattle.wosthile.specs.FeedReads.{FeedRead}
-use Rattle.wosthile.specs.PatchLeft.{PatchLeftDue}
-use Rattle.stream.specs.Bounds.{slice-limit, slice-file-limit, twice-node-bytes, node-bytes-limit}
+use Rattle.wosthile.specs.FeedReads.{FeedRead, Refuses, first-fault}
+use Rattle.wosthile.specs.PatchWriting.{PatchWriteDue}
+use Rattle.stream.specs.Bounds.{slice-file-limit, twice-node-bytes, node-bytes-limit}
 
 -- How the answers of Feed keep its promise.
 module _ (output patch-lent : List ℕ) {patch slice : List ℕ} where
@@ -92,7 +97,19 @@ module _ {patch : List ℕ} {place : PatchPlace} (read : AcceptedPatch patch pla
   unfolding feed patch-file second-pass
   slice-unread h k = rw (read .is-accepted, h, k)
 
-module _ {patch : List ℕ} {place : PatchPlace} {slice : List ℕ} {remains : ℕ} (due : FeedRead patch place slice remains) where
+  -- What is refused with the first fault of the second pass, or else with another: that is Feed's number, if the other is where the patch is
+  -- typed.
+  pub refuses-keep : {fault : Fault} {answer : Fed} (output patch-lent : List ℕ) → Refuses patch place fault answer
+      → ((t : Ty) → typing (read .patch .input) (read .patch .node) ≡ accepted t → feed patch slice ≡ refused fault)
+      → FeedPromise patch slice output patch-lent answer output patch-lent
+  refuses-keep {fault} output patch-lent refuses typed = rw (refuses .each read) (go (typing (read .patch .input) (read .patch .node)) refl)
+    where
+      go : (g : Result Ty) → typing (read .patch .input) (read .patch .node) ≡ g
+          → FeedPromise patch slice output patch-lent (told (refused (first-fault g fault))) output patch-lent
+      go (accepted t) h = refused-keeps output patch-lent fault (typed t h)
+      go (refused first) h = refused-keeps output patch-lent first (patch-untyped h)
+
+module _ {patch : List ℕ} {place : PatchPlace} {slice left : List ℕ} (due : FeedRead patch place slice left) where
   abbrev input : Ty
   input = due .read .patch .input
 
@@ -102,47 +119,9 @@ module _ {patch : List ℕ} {place : PatchPlace} {slice : List ℕ} {remains : �
   abbrev prefix : Prefix
   prefix = due .taken .prefix
 
-  pub is-typed : WellTyped input node (due .output)
-  is-typed = typing-sound input node (due .output) (due .read .node-at .carries) (due .is-typed)
-
-  abbrev pub files : FedFiles
-  files = fed-files (due .read .patch) prefix
-
-  pub feed-is : feed patch slice ≡ accepted files
-  unfolding feed patch-file second-pass
-  feed-is = rw (due .read .is-accepted, due .is-typed, due .taken .is-accepted)
-
-  -- What is sent has at most 511 bytes, since its type has at most 255 nodes.
-  pub sent-short : prefix-width (sends input node prefix) ≤ slice-limit
-  sent-short =
-      let is-sent = preserved (is-typed .types) (due .taken .is-prefix) .sent in
-      let short = prefix-short is-sent (output-small (is-typed .types) (is-typed .fits)) in
-      omega (arith, slice-length (sends input node prefix) short, prefix-bytes-length (sends input node prefix) [])
-
   pub few : count node ≤ 63
   unfolding node-limit
   few = due .read .few
-
-  abbrev pub feedable : Feedable input node prefix
-  feedable =
-      record { output = due .output; types = is-typed .types; fits = is-typed .fits; few = due .read .few; is-prefix = due .taken .is-prefix }
-
-  abbrev pub feed-due : (sent nodes given : List ℕ) → slice-file-limit ≡ length sent → twice-node-bytes (count node) ≤ 2 * length nodes → 255 ≡ length given
-      → FeedDue patch (place .input .start) patch (place .nodes) slice 2 sent nodes given
-  feed-due sent nodes given a b c =
-      record {
-        type = input;
-        node = node;
-        prefix = prefix;
-        stand = record { type-at = due .read .type-at; node-at = due .read .node-at; prefix-at = due .taken .stands };
-        feedable = feedable;
-        room =
-            record {
-              for-output = omega (arith, sent-short);
-              for-nodes = b;
-              for-type = omega (arith, output-small (is-typed .types) (is-typed .fits), limit-is, ap size (output-type-is (is-typed .types)));
-            };
-      }
 
   -- Up to 15 nodes leave at most 2,055 bytes, and all of them 8,223.
 
@@ -152,76 +131,120 @@ module _ {patch : List ℕ} {place : PatchPlace} {slice : List ℕ} {remains : �
   pub nodes-room : twice-node-bytes (count node) ≤ 2 * node-bytes-limit
   nodes-room = omega (arith, few)
 
-  pub small-left : remains ≤ 255
-  small-left = omega (arith, due .measured, due .taken .remains, derivative-size (due .taken .is-prefix), due .read .type-at .small, limit-is)
+  left-sized : length left ≡ size (derivative input prefix)
+  left-sized = ap length (due .left-is) ∙ type-width (derivative input prefix)
 
-  -- What is sent and the node left stand in front of the work arrays, and how long both files are.
-  pub record Stepped (sent nodes : List ℕ) (step : Step) : Type 0 where
-    pub sent-small : step .sent ≤ slice-limit
+  pub small-left : length left ≤ 255
+  small-left = omega (arith, left-sized, derivative-size (due .taken .is-prefix), due .read .type-in .stands .small, limit-is)
+
+  pub step-rooms : {sent given : List ℕ} → slice-file-limit ≡ length sent → 255 ≡ length given → Rooms sent given
+  step-rooms a b = record { for-type = omega (arith, b, limit-is); for-output = omega (arith, a, b) }
+
+  -- What the step is asked: the whole slice is the prefix, behind its count, and the work arrays have room for every type and every prefix.
+  module _ {span : PrefixPlace} {whole : Input} (span-is : span ≡ record { start = 2; end = length slice })
+      (whole-is : whole ≡ record { ty = place .input; prefix = span }) where
+    pub stands : InputAt patch slice whole input prefix
+    stands =
+        rw (whole-is, span-is)
+        (record {
+          type-in = due .read .type-in;
+          prefix-in = record { stands = due .taken .stands; ends = due .taken .fills };
+          is-prefix = due .taken .is-prefix;
+        })
+
+    abbrev pub feed-due : (sent nodes given : List ℕ) → slice-file-limit ≡ length sent → twice-node-bytes (count node) ≤ 2 * length nodes
+        → 255 ≡ length given → FeedDue patch slice whole patch (place .nodes) sent nodes given
+    feed-due sent nodes given a b c =
+        record {
+          type = input;
+          node = node;
+          prefix = prefix;
+          stands = stands;
+          node-at = due .read .node-at;
+          few = due .read .few;
+          rooms = step-rooms a c;
+          left-room = b;
+        }
+
+  -- The step has failed: then Check's second pass refuses the patch, for there was room for every type.
+  pub step-failed : {sent nodes given sent-after nodes-after given-after : List ℕ} {answer : StepAnswer} → 255 ≡ length given
+      → NodeAnswers (place .nodes + node-width node) input node prefix sent nodes given sent-after nodes-after given-after answer
+      → answer ≡ Failed → (t : Ty) → typing input node ≡ accepted t → {e : Fault} → feed patch slice ≡ refused e
+  step-failed long answers failed t typed =
+      let well = typing-sound input node t (due .read .node-at .carries) typed in
+      absurd (has-failed (rw failed at answers) t well (omega (arith, long, output-small (well .types) (well .fits), limit-is)))
+
+  -- The step is done: what is sent and the node left stand in front of the work arrays, and how long both files are.
+
+  abbrev pub files : FedFiles
+  files = fed-files (due .read .patch) prefix
+
+  pub record Done (sent nodes : List ℕ) (step : Step) : Type 0 where
+    pub feed-is : feed patch slice ≡ accepted files
+    pub sent-small : step .sent ≤ slice-file-limit
     pub nodes-small : step .kept ≤ node-bytes-limit
     pub sent-inside : step .sent ≤ length sent
     pub nodes-inside : step .kept ≤ length nodes
     pub sent-taken : take (step .sent) sent ≡ prefix-bytes (sends input node prefix) []
     pub nodes-taken : take (step .kept) nodes ≡ node-bytes (leaves input node prefix) []
     pub output-long : length (files .output) ≡ 2 + step .sent
-    pub patch-long : length (files .patch) ≡ 2 + remains + 2 + step .kept
+    pub patch-long : length (files .patch) ≡ 2 + length left + 2 + step .kept
 
-  pub stepped : {end : ℕ} {t : Ty} {sent nodes given sent-after nodes-after given-after : List ℕ} {step : Step}
-      → Steps end (sends input node prefix) (leaves input node prefix) t sent nodes given sent-after nodes-after given-after step
-      → Stepped sent-after nodes-after step
+  typed-feed : {t : Ty} → WellTyped input node t → feed patch slice ≡ accepted files
+  unfolding feed patch-file second-pass
+  typed-feed typed = rw (due .read .is-accepted, typing-complete (typed .types) (typed .fits), due .taken .is-accepted)
+
+  pub done : {sent nodes given sent-after nodes-after given-after : List ℕ} {answer : StepAnswer} {step : Step} → slice-file-limit ≡ length sent
+      → NodeAnswers (place .nodes + node-width node) input node prefix sent nodes given sent-after nodes-after given-after answer
+      → answer ≡ Stepped step → Done sent-after nodes-after step
   unfolding patch-file-bytes section-bytes
-  stepped {step = step} fed =
+  done {sent = sent} {sent-after = sent-after} {step = step} long answers fed =
+      let gave = was-fed (rw fed at answers) in
+      let steps = gave .steps in
+      let sent-long : step .sent ≡ length (prefix-bytes (sends input node prefix) [])
+      = omega (arith, steps .sent, prefix-bytes-length (sends input node prefix) []) in
       record {
-        sent-small = omega (arith, fed .sent, sent-short);
-        nodes-small = omega (arith, fed .kept, left-width feedable, few);
-        sent-inside = omega (arith, sent-long, leads-inside (fed .output), fed .output .long);
-        nodes-inside = omega (arith, fed .kept, leads-inside (fed .node-left), fed .node-left .long);
-        sent-taken = leads-taken (fed .output) sent-long;
-        nodes-taken = leads-taken (fed .node-left) (fed .kept);
-        output-long = omega (arith, slice-file-size (sends input node prefix), fed .sent);
+        feed-is = typed-feed (gave .gives);
+        sent-small = omega (arith, long, sent-long, leads-inside (steps .output));
+        nodes-small = omega (arith, steps .kept, left-width (gave .gives) (due .taken .is-prefix), few);
+        sent-inside = omega (arith, sent-long, leads-inside (steps .output), steps .output .long);
+        nodes-inside = omega (arith, steps .kept, leads-inside (steps .node-left), steps .node-left .long);
+        sent-taken = leads-taken (steps .output) sent-long;
+        nodes-taken = leads-taken (steps .node-left) (steps .kept);
+        output-long = omega (arith, slice-file-size (sends input node prefix), steps .sent);
         patch-long =
             omega (
               arith,
               length-append (type-bytes (derivative input prefix) []) (section-bytes (node-bytes (leaves input node prefix) []) []),
               ap length (append-nil (node-bytes (leaves input node prefix) [])),
-              type-width (derivative input prefix),
-              due .measured,
-              due .taken .remains,
-              fed .kept,
+              ap length (due .left-is),
+              steps .kept,
             );
       }
-    where
-      sent-long : step .sent ≡ length (prefix-bytes (sends input node prefix) [])
-      sent-long = omega (arith, fed .sent, prefix-bytes-length (sends input node prefix) [])
 
-  module _ {sent nodes : List ℕ} {step : Step} (done : Stepped sent nodes step) where
+  module _ {sent nodes : List ℕ} {step : Step} (is-done : Done sent nodes step) where
     -- The section of what is sent is the output's file.
     pub section-due : (out : List ℕ) → 2 + step .sent ≤ length out
         → (length (take (step .sent) sent) ≤ 65535) × (2 + length (take (step .sent) sent) ≤ length out)
     section-due out room =
-        let long : length (take (step .sent) sent) ≡ step .sent = length-take-le (step .sent) sent (done .sent-inside) in
-        (omega (arith, long, done .sent-small), omega (arith, long))
+        let long : length (take (step .sent) sent) ≡ step .sent = length-take-le (step .sent) sent (is-done .sent-inside) in
+        (omega (arith, long, is-done .sent-small), omega (arith, long))
 
     pub output-written : (out : List ℕ) {out-after : List ℕ} → out-after ≡ at-front (section-bytes (take (step .sent) sent) []) out
         → out-after ≡ at-front (files .output) out
     unfolding slice-file-bytes
-    output-written out e = e ∙ ap (λ body. at-front (section-bytes body []) out) (done .sent-taken)
+    output-written out e = e ∙ ap (λ body. at-front (section-bytes body []) out) (is-done .sent-taken)
 
-    abbrev pub patch-left-due : (patch-lent : List ℕ) → 2 + remains + 2 + step .kept ≤ length patch-lent
-        → PatchLeftDue patch (place .input .start) slice remains (take (step .kept) nodes) patch-lent
-    patch-left-due patch-lent room =
-        let long : length (take (step .kept) nodes) ≡ step .kept = length-take-le (step .kept) nodes (done .nodes-inside) in
+    abbrev pub patch-due : (patch-lent : List ℕ) → 2 + length left + 2 + step .kept ≤ length patch-lent
+        → PatchWriteDue left (take (step .kept) nodes) patch-lent
+    patch-due patch-lent room =
+        let long : length (take (step .kept) nodes) ≡ step .kept = length-take-le (step .kept) nodes (is-done .nodes-inside) in
         record {
-          type-due =
-              record {
-                type = input;
-                prefix = prefix;
-                stands = record { type-at = due .read .type-at; prefix-at = due .taken .stands; is-prefix = due .taken .is-prefix };
-                measured = due .measured ∙ due .taken .remains;
-                room = omega arith;
-              };
+          type = derivative input prefix;
           node = leaves input node prefix;
-          here = done .nodes-taken;
-          countable = omega (arith, long, done .nodes-small);
+          input-is = due .left-is;
+          nodes-are = is-done .nodes-taken;
+          small = small-left;
+          countable = omega (arith, long, is-done .nodes-small);
           room = omega (arith, long);
         }

@@ -2,4 +2,4 @@ mod CheckOutcome
 mod FeedOutcome
 pub mod Keeping
 pub mod Opening
-mod PatchLeft
+mod PatchWritten

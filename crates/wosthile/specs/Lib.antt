@@ -1,2 +1,2 @@
 pub mod FeedReads
-pub mod PatchLeft
+pub mod PatchWriting

@@ -1,27 +1,30 @@
 // The operations on files, for the frame loop: any bytes may be handed to them. What each promises stands in
 // Promises.antt of the crate `meaning`; `exports` has their names for C.
 use feeding::feed_node;
+use leaf_feeding::Stepped;
 use meaning::Admitted;
 use meaning::Fed;
 use meaning::Written;
 use patch_reading::PatchPlace;
 use patch_reading::PatchRead;
 use patch_reading::read_patch_file;
+use reading::inputs::Input;
 use reading::prefixes::MAX_SLICE_FILE;
+use reading::prefixes::PrefixPlace;
 use reading::prefixes::SliceRead;
-use reading::prefixes::read_slice_file;
+use reading::types::TypePlace;
 use reading::types::TypeRead;
 use reading::types::read_type_file;
 use stream::Fault;
 use typing::Typed;
 use typing::type_node;
-use writing::write_derivative;
+use writing::slices::read_slice_file;
 use writing::write_joined_file;
-use writing::write_left_file;
 use writing::write_section;
 ghost use Rattle.meaning.specs.Promises.{CheckPromise, AdmitPromise, LeftPromise, JoinPromise, FeedPromise};
-ghost use Rattle.wosthile.specs.FeedReads.{FeedRead, SendDue};
-ghost use Rattle.wosthile.specs.PatchLeft.{PatchLeftDue, PatchLeftWritten};
+ghost use Rattle.patch_reading.specs.PatchReads.{AcceptedPatch};
+ghost use Rattle.wosthile.specs.FeedReads.{Refuses, FeedRead, FewRead, SendDue};
+ghost use Rattle.wosthile.specs.PatchWriting.{PatchWriteDue, PatchWritten};
 
 pub mod exports;
 
@@ -36,7 +39,7 @@ pub fn check(patch: &[u8], out: &mut [u8]) -> Written
         PatchRead::Refused(fault) => Written::refused(fault),
         PatchRead::Whole(place) => {
             let mut given = [0u8; 255];
-            match type_node(patch, place.input.start, patch, place.nodes, &mut given) {
+            match type_node(patch, place.input, patch, place.nodes, &mut given) {
                 Typed::Failed(fault) => Written::refused(fault),
                 Typed::Gives(_, size) => {
                     let needed = 2 + size;
@@ -60,13 +63,17 @@ pub fn admit(ty: &[u8], slice: &[u8]) -> Admitted
 {
     match read_type_file(ty) {
         TypeRead::Refused(fault) => Admitted::refused(fault),
-        TypeRead::Whole(place) => match read_slice_file(ty, place.start, slice) {
-            SliceRead::Refused(fault) => Admitted::refused(fault),
-            SliceRead::Whole(prefix) => Admitted {
-                number: ACCEPTED,
-                complete: prefix.complete as u32,
-            },
-        },
+        TypeRead::Whole(place) => {
+            // What the slice leaves is not asked.
+            let mut none = [0u8; 0];
+            match read_slice_file(ty, place.start, slice, &mut none) {
+                SliceRead::Refused(fault) => Admitted::refused(fault),
+                SliceRead::Whole(prefix) => Admitted {
+                    number: ACCEPTED,
+                    complete: prefix.complete as u32,
+                },
+            }
+        }
     }
 }
 
@@ -76,20 +83,23 @@ pub fn left(ty: &[u8], slice: &[u8], out: &mut [u8]) -> Written
 {
     match read_type_file(ty) {
         TypeRead::Refused(fault) => Written::refused(fault),
-        TypeRead::Whole(place) => match read_slice_file(ty, place.start, slice) {
-            SliceRead::Refused(fault) => Written::refused(fault),
-            SliceRead::Whole(prefix) => {
-                let length = 2 + prefix.remains;
-                if out.len() < length {
-                    return Written::refused(Fault::NoRoom);
-                }
-                write_left_file(ty, place.start, slice, prefix.remains, out);
-                Written {
-                    number: ACCEPTED,
-                    written: length,
+        TypeRead::Whole(place) => {
+            let mut left = [0u8; TypePlace::MAX_NODES];
+            match read_slice_file(ty, place.start, slice, &mut left) {
+                SliceRead::Refused(fault) => Written::refused(fault),
+                SliceRead::Whole(prefix) => {
+                    let length = 2 + prefix.remains;
+                    if out.len() < length {
+                        return Written::refused(Fault::NoRoom);
+                    }
+                    write_section(&left[..prefix.remains], out);
+                    Written {
+                        number: ACCEPTED,
+                        written: length,
+                    }
                 }
             }
-        },
+        }
     }
 }
 
@@ -100,136 +110,173 @@ pub fn join(ty: &[u8], first: &[u8], second: &[u8], out: &mut [u8]) -> Written
 {
     match read_type_file(ty) {
         TypeRead::Refused(fault) => Written::refused(fault),
-        TypeRead::Whole(place) => match read_slice_file(ty, place.start, first) {
-            SliceRead::Refused(fault) => Written::refused(fault),
-            SliceRead::Whole(prefix) => {
-                let mut remainder = [0u8; 255];
-                write_derivative(ty, place.start, first, 2, &mut remainder);
-                let types: &[u8] = &remainder;
-                match read_slice_file(types, 0, second) {
-                    SliceRead::Refused(fault) => Written::refused(fault),
-                    SliceRead::Whole(_) => {
-                        let joined = first.len() - 2 + (second.len() - 2) - prefix.overlap;
-                        if out.len() < 2 + joined {
-                            return Written::refused(Fault::NoRoom);
-                        }
-                        write_joined_file(first, second, joined, out);
-                        Written {
-                            number: ACCEPTED,
-                            written: 2 + joined,
+        TypeRead::Whole(place) => {
+            let mut left = [0u8; TypePlace::MAX_NODES];
+            match read_slice_file(ty, place.start, first, &mut left) {
+                SliceRead::Refused(fault) => Written::refused(fault),
+                SliceRead::Whole(prefix) => {
+                    // What the second leaves is not asked.
+                    let mut none = [0u8; 0];
+                    match read_slice_file(&left, 0, second, &mut none) {
+                        SliceRead::Refused(fault) => Written::refused(fault),
+                        SliceRead::Whole(_) => {
+                            let joined = first.len() - 2 + (second.len() - 2) - prefix.overlap;
+                            if out.len() < 2 + joined {
+                                return Written::refused(Fault::NoRoom);
+                            }
+                            write_joined_file(first, second, joined, out);
+                            Written {
+                                number: ACCEPTED,
+                                written: 2 + joined,
+                            }
                         }
                     }
                 }
             }
-        },
+        }
     }
 }
 
-// Writes the file of the patch left: what the slice file's prefix leaves of the type at `at`, a type of `remains` nodes, and then the
-// nodes, which are all of `nodes`.
-fn write_patch_left(
-    types: &[u8],
-    at: usize,
-    slice: &[u8],
-    remains: usize,
-    nodes: &[u8],
-    out: &mut [u8],
-)
-    requires { ⌜ PatchLeftDue (now types) at (now slice) remains (now nodes) (now out) ⌝ }
-    ensures { λ _. ⌜ PatchLeftWritten (now (types .entry)) at (now (slice .entry)) remains (now (nodes .entry)) (now (out .entry)) (now (out .exit)) ⌝ }
+// Writes the file of a patch, from the bytes of its input type and those of its nodes.
+fn write_patch_file(input: &[u8], nodes: &[u8], out: &mut [u8])
+    requires { ⌜ PatchWriteDue (now input) (now nodes) (now out) ⌝ }
+    ensures { λ _. ⌜ PatchWritten (now (input .entry)) (now (nodes .entry)) (now (out .entry)) (now (out .exit)) ⌝ }
 {
-    write_left_file(types, at, slice, remains, out);
-    let written = 2 + remains;
+    write_section(input, out);
+    let written = 2 + input.len();
     write_section(nodes, &mut out[written..]);
 }
 
-// Feeds a slice that was read to a patch that was read; the slice leaves a type of `remains` nodes. The answers are made on work
-// bytes, `nodes` for the nodes left, since both have to be known before a byte of either buffer is written.
+// Refuses to feed a patch that was read: with the first fault of Check's second pass, which comes before all others, or else with `fault`.
+fn refuse(patch: &[u8], place: PatchPlace, fault: Fault) -> Fed
+    requires { ⌜ AcceptedPatch (now patch) place ⌝ }
+    ensures { λ r. ⌜ Refuses (now (patch .entry)) place fault r ⌝ }
+{
+    let mut given = [0u8; 255];
+    match type_node(patch, place.input, patch, place.nodes, &mut given) {
+        Typed::Failed(first) => Fed::refused(first),
+        Typed::Gives(_, _) => Fed::refused(fault),
+    }
+}
+
+// Feeds a slice that was read to a patch that was read; `left` is what the slice leaves of its input type. The answers are made on work
+// bytes, `nodes` for the nodes left, since both have to be known before a byte of either buffer is written. The step fails exactly if
+// Check refuses the patch.
 fn send(
     patch: &[u8],
     place: PatchPlace,
     slice: &[u8],
-    remains: usize,
+    left: &[u8],
     nodes: &mut [u8],
     out: &mut [u8],
     next: &mut [u8],
 ) -> Fed
-    requires { ⌜ SendDue (now patch) place (now slice) remains (now nodes) ⌝ }
+    requires { ⌜ SendDue (now patch) place (now slice) (now left) (now nodes) ⌝ }
     ensures { λ r. ⌜ FeedPromise (now (patch .entry)) (now (slice .entry)) (now (out .entry)) (now (next .entry)) r (now (out .exit)) (now (next .exit)) ⌝ }
 {
     let mut sent = [0u8; MAX_SLICE_FILE];
     let mut given = [0u8; 255];
-    let start = place.input.start;
-    let step = feed_node(
+    let input = Input::new(place.input, PrefixPlace::new(2, slice.len()));
+    match feed_node(
         patch,
-        start,
+        slice,
+        input,
         patch,
         place.nodes,
-        slice,
-        2,
         &mut sent,
         nodes,
         &mut given,
-    );
-    let output = 2 + step.sent;
-    let needed = 2 + remains + 2 + step.kept;
-    if out.len() < output {
-        return Fed::refused(Fault::NoRoom);
-    }
-    if next.len() < needed {
-        return Fed::refused(Fault::NoRoom);
-    }
-    write_section(&sent[..step.sent], out);
-    write_patch_left(patch, start, slice, remains, &nodes[..step.kept], next);
-    Fed {
-        number: ACCEPTED,
-        output,
-        patch: needed,
+    ) {
+        // Another fault than Check's is never told here.
+        Stepped::Failed => refuse(patch, place, Fault::TypeTooLarge),
+        Stepped::Fed(step) => {
+            let many = step.sent;
+            let kept = step.kept;
+            let output = 2 + many;
+            let needed = 2 + left.len() + 2 + kept;
+            if out.len() < output {
+                return Fed::refused(Fault::NoRoom);
+            }
+            if next.len() < needed {
+                return Fed::refused(Fault::NoRoom);
+            }
+            write_section(&sent[..many], out);
+            write_patch_file(left, &nodes[..kept], next);
+            Fed {
+                number: ACCEPTED,
+                output,
+                patch: needed,
+            }
+        }
     }
 }
 
-// The same with a work array that is long enough. Clearing it is what a small patch spends its time on, and up to 15 nodes need
-// no more than a quarter of it; each has a byte at least.
+// The same with a work array for up to 15 nodes, which need no more than a quarter of the whole. Clearing it is what a small patch spends
+// its time on.
+fn send_few(
+    patch: &[u8],
+    place: PatchPlace,
+    slice: &[u8],
+    left: &[u8],
+    out: &mut [u8],
+    next: &mut [u8],
+) -> Fed
+    requires { ⌜ FewRead (now patch) place (now slice) (now left) ⌝ }
+    ensures { λ r. ⌜ FeedPromise (now (patch .entry)) (now (slice .entry)) (now (out .entry)) (now (next .entry)) r (now (out .exit)) (now (next .exit)) ⌝ }
+{
+    let mut nodes = [0u8; 2055];
+    send(patch, place, slice, left, &mut nodes, out, next)
+}
+
+// The same with a work array for every patch. The two arrays have functions of their own, so that they take the same place on the stack.
+fn send_many(
+    patch: &[u8],
+    place: PatchPlace,
+    slice: &[u8],
+    left: &[u8],
+    out: &mut [u8],
+    next: &mut [u8],
+) -> Fed
+    requires { ⌜ FeedRead (now patch) place (now slice) (now left) ⌝ }
+    ensures { λ r. ⌜ FeedPromise (now (patch .entry)) (now (slice .entry)) (now (out .entry)) (now (next .entry)) r (now (out .exit)) (now (next .exit)) ⌝ }
+{
+    let mut nodes = [0u8; PatchPlace::MAX_NODE_BYTES];
+    send(patch, place, slice, left, &mut nodes, out, next)
+}
+
+// Each node has a byte at least, so fewer than 16 bytes are at most 15 nodes.
 fn send_on(
     patch: &[u8],
     place: PatchPlace,
     slice: &[u8],
-    remains: usize,
+    left: &[u8],
     out: &mut [u8],
     next: &mut [u8],
 ) -> Fed
-    requires { ⌜ FeedRead (now patch) place (now slice) remains ⌝ }
+    requires { ⌜ FeedRead (now patch) place (now slice) (now left) ⌝ }
     ensures { λ r. ⌜ FeedPromise (now (patch .entry)) (now (slice .entry)) (now (out .entry)) (now (next .entry)) r (now (out .exit)) (now (next .exit)) ⌝ }
 {
     if patch.len() - place.nodes < 16 {
-        let mut nodes = [0u8; 2055];
-        return send(patch, place, slice, remains, &mut nodes, out, next);
+        return send_few(patch, place, slice, left, out, next);
     }
-    let mut nodes = [0u8; PatchPlace::MAX_NODE_BYTES];
-    send(patch, place, slice, remains, &mut nodes, out, next)
+    send_many(patch, place, slice, left, out, next)
 }
 
-// The file of what the patch sends on the slice, and that of the patch left.
+// The file of what the patch sends on the slice, and that of the patch left. The slice is read before the patch is typed, since the step
+// types it; Check's numbers come first all the same.
 pub fn feed(patch: &[u8], slice: &[u8], out: &mut [u8], next: &mut [u8]) -> Fed
     ensures { λ r. ⌜ FeedPromise (now (patch .entry)) (now (slice .entry)) (now (out .entry)) (now (next .entry)) r (now (out .exit)) (now (next .exit)) ⌝ }
 {
     match read_patch_file(patch) {
         PatchRead::Refused(fault) => Fed::refused(fault),
         PatchRead::Whole(place) => {
-            let mut given = [0u8; 255];
-            match type_node(patch, place.input.start, patch, place.nodes, &mut given) {
-                Typed::Failed(fault) => Fed::refused(fault),
-                Typed::Gives(_, _) => match read_slice_file(patch, place.input.start, slice) {
-                    SliceRead::Refused(fault) => Fed::refused(fault),
-                    SliceRead::Whole(prefix) => send_on(
-                        patch,
-                        place,
-                        slice,
-                        prefix.remains,
-                        out,
-                        next,
-                    ),
-                },
+            let mut left = [0u8; TypePlace::MAX_NODES];
+            match read_slice_file(patch, place.input.start, slice, &mut left) {
+                SliceRead::Refused(fault) => refuse(patch, place, fault),
+                SliceRead::Whole(prefix) => {
+                    let remains = prefix.remains;
+                    send_on(patch, place, slice, &left[..remains], out, next)
+                }
             }
         }
     }

@@ -22,10 +22,10 @@ abbrev refused-type : tie.After-refused → tie.After-read-type-file
 refused-type c = c .before .before .before .before
 
 abbrev slice-told : tie.After-known-told4 → tie.After-read-slice-file
-slice-told c = c .before .before .before
+slice-told c = c .before .before .before .before
 
 abbrev refused-slice : tie.After-refused2 → tie.After-read-slice-file
-refused-slice c = c .before .before .before .before
+refused-slice c = c .before .before .before .before .before
 
 -- The places: the entry, from where the type file has been read; where each file is accepted, and where one is refused.
 
@@ -49,8 +49,11 @@ type-of c =
     let read = type-told c in
     type-accepted (type-file-of read) (read .read-type-file .ensures) (λ i. omega (arith, read .before .before .shared-slice-known .given i)) _ (c .before .place .given .1)
 
+slice-aggregate-read-slice-file : tie.Need-slice-aggregate-read-slice-file
+slice-aggregate-read-slice-file c = search needs
+
 read-slice-file-requires : tie.Need-read-slice-file-requires
-read-slice-file-requires c κs = record { type = type-of c .type; stands = type-of c .stands }
+read-slice-file-requires c κs = let type = type-of (c .before) in record { type = type .type; stands = type .stands }
 
 enum-known-fault-2 : tie.Need-enum-known-fault-2
 enum-known-fault-2 c = search needs
@@ -61,8 +64,8 @@ refused-requires-2 c κs = search needs
 enum-known-prefix : tie.Need-enum-known-prefix
 enum-known-prefix c = search needs
 
-cast-t11 : tie.Need-cast-t11
-cast-t11 c = search needs
+cast-t14 : tie.Need-cast-t14
+cast-t14 c = search needs
 
 returns : tie.Need-returns
 unfolding admit
@@ -73,15 +76,15 @@ unfolding admit
 returns-2 c =
     let slice = refused-slice c in
     rw (c .refused2 .ensures)
-    (turned-down _ (slice-stops _ _ _ (type-of (slice .before)) (slice .read-slice-file .ensures) (c .before .before .fault2 .given .1)))
+    (turned-down _ (slice-stops _ _ _ (type-of (slice .before .before)) (slice .read-slice-file .ensures .reads) (c .before .before .fault2 .given .1)))
 
 returns-3 : tie.Need-returns-3
 unfolding admit
 returns-3 c =
     let slice = slice-told (c .before) in
-    let t = type-of (slice .before) in
+    let t = type-of (slice .before .before) in
     let p =
-    slice-accepted (slice .read-slice-file .ensures) (t .stands) (λ i. omega (arith, type-told (slice .before) .before .shared-slice-known2 .given i)) _
+    slice-accepted (slice .read-slice-file .ensures .reads) (t .stands) (λ i. omega (arith, type-told (slice .before .before) .before .shared-slice-known2 .given i)) _
     (c .before .before .prefix .given .1) in
     taken-in _ (goes-on _ _ _ t p) (p .completeness)
 
@@ -93,11 +96,12 @@ admit-spec =
     enum-known-fault
     refused-requires
     enum-known-place
+    slice-aggregate-read-slice-file
     read-slice-file-requires
     enum-known-fault-2
     refused-requires-2
     enum-known-prefix
-    cast-t11
+    cast-t14
     returns
     returns-2
     returns-3)

@@ -9,9 +9,8 @@ use lib.Seq.{length-take-le}
 use Rattle.stream.specs.TypeFiles.{type-file-bytes}
 use Rattle.patch_reading.specs.PatchReads.Standing.{patch-accepted, patch-refused}
 use Rattle.patch_reading.specs.PatchReads.{AcceptedPatch}
-use Rattle.typing.specs.Typing.{TypingDue}
 use Rattle.wosthile.proofs.Keeping.{refusal-keeps, shortage-keeps, file-keeps}
-use Rattle.wosthile.proofs.CheckOutcome.{not-read, TypeGiven, not-typed, type-given, type-section-due, type-section-written}
+use Rattle.wosthile.proofs.CheckOutcome.{typing-due, not-read, TypeGiven, not-typed, type-given, type-section-due, type-section-written}
 use Rattle.wosthile.proofs.check.Statement.{statement}
 use Rattle.wosthile.proofs.check.Tie as tie
 
@@ -55,16 +54,11 @@ patch-of c =
     let read = c .before .before .before in
     patch-accepted (file-of read) (read .read-patch-file .ensures) (λ i. omega (arith, read .before .before .shared-slice-known .given i)) _ (c .before .place .given .1)
 
-abbrev due : (c : tie.After-known-told2)
-    → (let file = file-of (c .before .before .before) in
-    TypingDue file (c .before .place .given .0 .0 .input .start) file (c .before .place .given .0 .0 .nodes))
-due c = let p = patch-of c in record { type = p .patch .input; node = p .patch .node; type-at = p .type-at; node-at = p .node-at }
-
 slice-aggregate-type-node : tie.Need-slice-aggregate-type-node
 slice-aggregate-type-node c = search needs
 
 type-node-requires : tie.Need-type-node-requires
-type-node-requires c κs = due (c .before)
+type-node-requires c κs = typing-due (patch-of (c .before))
 
 enum-known-fault-2 : tie.Need-enum-known-fault-2
 enum-known-fault-2 c = search needs
@@ -82,7 +76,7 @@ type-of : (c : tie.After-known-told4)
 type-of c =
     let typed = type-node-before-known-told4 c in
     let patch = typed .before .before in
-    type-given (patch-of patch) (typed .type-node .ensures .each (due patch)) (omega arith) (c .before .size .given .1)
+    type-given (patch-of patch) (typed .type-node .ensures .each (typing-due (patch-of patch))) (omega arith) (c .before .size .given .1)
 
 abbrev out-of : tie.After-known-told4 → List ℕ
 out-of c = entry-before-known-told4 c .args .out .now
@@ -117,7 +111,7 @@ returns-3 : tie.Need-returns-3
 returns-3 c =
     let typed = type-node-before-refused2 c in
     let patch = typed .before .before in
-    rw (c .refused2 .ensures) (refusal-keeps _ _ (not-typed (patch-of patch) (typed .type-node .ensures .each (due patch)) (c .before .before .fault2 .given .1)))
+    rw (c .refused2 .ensures) (refusal-keeps _ _ (not-typed (patch-of patch) (typed .type-node .ensures .each (typing-due (patch-of patch))) (c .before .before .fault2 .given .1)))
 
 same-length : tie.Need-same-length
 same-length c = search needs

@@ -1,37 +1,54 @@
--- `feed` meets its contract: the two passes over the patch and the reader of the slice refuse in this order, and what they accept
--- is handed to `send_on`.
+-- `feed` meets its contract: the reader of the patch refuses first. A slice that is refused is refused behind the faults of Check's second
+-- pass (`refuse`), and what both readers accept is handed to `send_on`, with what the slice leaves on work bytes.
 use borrow.Author.Needs.{needs}
-use mathlib.Core.Path.{sym, refl, _∙_}
-use Prim.Native.Nat.{_+_}
+use mathlib.Core.Path.{refl, sym}
 use native.Mathlib.Omega.{arith}
-use Rattle.writing.specs.Writing.Standing.{slice-accepted, slice-refused}
-use Rattle.node.specs.Checking.{typing}
-use Rattle.patch_reading.specs.PatchReads.{node-width, AcceptedPatch}
+use lib.Seq.{length-take-le}
+use Rattle.stream.specs.Prefixes.{derivative}
+use Rattle.reading.specs.SliceReads.{AcceptedSlice}
+use Rattle.writing.specs.Writing.Standing.{slice-accepted, slice-refused, TypeHeld, left-held}
+use Rattle.patch_reading.specs.PatchReads.{AcceptedPatch}
 use Rattle.patch_reading.specs.PatchReads.Standing.{patch-accepted, patch-refused}
-use Rattle.typing.specs.Typing.{TypingDue}
-use Rattle.typing.specs.Typing.Laws.{IsGiven, is-given, is-refused}
-use Rattle.wosthile.proofs.FeedOutcome.{refused-keeps, patch-unread, patch-untyped, slice-unread}
+use Rattle.wosthile.proofs.FeedOutcome.{refused-keeps, refuses-keep, patch-unread, slice-unread}
 use Rattle.wosthile.proofs.feed.Statement.{statement}
 use Rattle.wosthile.proofs.feed.Tie as tie
 
 -- The map of places: what stands before what.
-abbrev shared-slice-known-before-read-patch-file : tie.After-read-patch-file → tie.After-shared-slice-known
-shared-slice-known-before-read-patch-file c = c .before .before .before .before
+abbrev shared-slice-known-before-known-told2 : tie.After-known-told2 → tie.After-shared-slice-known
+shared-slice-known-before-known-told2 c = c .before .before .before .before .before .before .before
 
-abbrev entry : tie.After-read-patch-file → tie.Start
-entry c = shared-slice-known-before-read-patch-file c .before
+abbrev entry-before-known-told2 : tie.After-known-told2 → tie.Start
+entry-before-known-told2 c = shared-slice-known-before-known-told2 c .before
 
 abbrev read-patch-file-before-refused : tie.After-refused → tie.After-read-patch-file
 read-patch-file-before-refused c = c .before .before .before .before
 
-abbrev read-of : tie.After-enum-told → tie.After-known-told2
-read-of c = c .before .before .before .before .before
+abbrev entry-before-refused : tie.After-refused → tie.Start
+entry-before-refused c = read-patch-file-before-refused c .before .before .before .before .before
 
-abbrev type-node-before-refused2 : tie.After-refused2 → tie.After-type-node
-type-node-before-refused2 c = c .before .before .before .before .before
+abbrev known-told2-before-known-told3 : tie.After-known-told3 → tie.After-known-told2
+known-told2-before-known-told3 c = c .before .before .before .before .before .before
 
-abbrev read-slice-file-before-refused3 : tie.After-refused3 → tie.After-read-slice-file
-read-slice-file-before-refused3 c = c .before .before .before .before
+abbrev read-slice-file-before-known-told4 : tie.After-known-told4 → tie.After-read-slice-file
+read-slice-file-before-known-told4 c = c .before .before .before .before
+
+abbrev known-told2-before-known-told4 : tie.After-known-told4 → tie.After-known-told2
+known-told2-before-known-told4 c = read-slice-file-before-known-told4 c .before .before
+
+abbrev shared-slice-known2-before-known-told4 : tie.After-known-told4 → tie.After-shared-slice-known2
+shared-slice-known2-before-known-told4 c = known-told2-before-known-told4 c .before .before .before .before .before .before
+
+abbrev entry-before-known-told4 : tie.After-known-told4 → tie.Start
+entry-before-known-told4 c = entry-before-known-told2 (known-told2-before-known-told4 c)
+
+abbrev read-slice-file-before-refuse : tie.After-refuse → tie.After-read-slice-file
+read-slice-file-before-refuse c = c .before .before .before .before .before
+
+abbrev known-told2-before-refuse : tie.After-refuse → tie.After-known-told2
+known-told2-before-refuse c = known-told2-before-known-told3 (c .before)
+
+abbrev known-told4-before-send-on-arg2 : tie.After-send-on-arg2 → tie.After-known-told4
+known-told4-before-send-on-arg2 c = c .before .before .before
 
 read-patch-file-requires : tie.Need-read-patch-file-requires
 read-patch-file-requires c κs = search needs
@@ -45,93 +62,71 @@ refused-requires c κs = search needs
 enum-known-place : tie.Need-enum-known-place
 enum-known-place c = search needs
 
-slice-aggregate-type-node : tie.Need-slice-aggregate-type-node
-slice-aggregate-type-node c = search needs
+slice-aggregate-read-slice-file : tie.Need-slice-aggregate-read-slice-file
+slice-aggregate-read-slice-file c = search needs
 
 -- The first pass accepts the patch.
-patch-of : (c : tie.After-known-told2) → AcceptedPatch (entry (c .before .before .before) .args .patch .now) (c .before .place .given .0 .0)
+patch-of : (c : tie.After-known-told2) → AcceptedPatch (entry-before-known-told2 c .args .patch .now) (c .before .place .given .0 .0)
 patch-of c =
-    let read = c .before .before .before in
-    patch-accepted (entry read .args .patch .now) (read .read-patch-file .ensures)
-    (λ i. omega (arith, shared-slice-known-before-read-patch-file read .shared-slice-known .given i)) _ (c .before .place .given .1)
+    patch-accepted (entry-before-known-told2 c .args .patch .now) (c .before .before .before .read-patch-file .ensures)
+    (λ i. omega (arith, shared-slice-known-before-known-told2 c .shared-slice-known .given i)) _ (c .before .place .given .1)
 
-abbrev due : (c : tie.After-known-told2)
-    → (let file = entry (c .before .before .before) .args .patch .now in
-    TypingDue file (c .before .place .given .0 .0 .input .start) file (c .before .place .given .0 .0 .nodes))
-due c = let p = patch-of c in record { type = p .patch .input; node = p .patch .node; type-at = p .type-at; node-at = p .node-at }
-
-type-node-requires : tie.Need-type-node-requires
-type-node-requires c κs = due (c .before)
+read-slice-file-requires : tie.Need-read-slice-file-requires
+read-slice-file-requires c κs =
+    let p = patch-of (c .before) in record { type = p .patch .input; stands = p .type-in .stands }
 
 enum-known-fault-2 : tie.Need-enum-known-fault-2
 enum-known-fault-2 c = search needs
 
-refused-requires-2 : tie.Need-refused-requires-2
-refused-requires-2 c κs = search needs
-
-enum-told : tie.Need-enum-told
-enum-told c = search needs
-
-read-slice-file-requires : tie.Need-read-slice-file-requires
-read-slice-file-requires c κs =
-    let p = patch-of (read-of c) in
-    record { type = p .patch .input; stands = p .type-at }
-
-enum-known-fault-3 : tie.Need-enum-known-fault-3
-enum-known-fault-3 c = search needs
-
-refused-requires-3 : tie.Need-refused-requires-3
-refused-requires-3 c κs = search needs
+refuse-requires : tie.Need-refuse-requires
+refuse-requires c κs =
+    patch-of (known-told2-before-known-told3 c)
 
 enum-known-prefix : tie.Need-enum-known-prefix
 enum-known-prefix c = search needs
 
--- The second pass gives a type, and the slice is one of the input type.
-type-of : (c : tie.After-enum-told)
-    → (let p = patch-of (read-of c) .patch in
-    IsGiven ((read-of c) .before .place .given .0 .0 .nodes + node-width (p .node)) (c .enum-told .given .0 .0) (c .enum-told .given .0 .1 .0) (typing (p .input) (p .node)))
-type-of c =
-    let p = patch-of (read-of c) .patch in
-    is-given _ (typing (p .input) (p .node)) (sym (c .enum-told .given .1) ∙ c .before .before .before .type-node .ensures .each (due (read-of c)) .answers)
+-- The slice is one of the input type, and what it leaves stands on the work bytes.
+
+slice-of : (c : tie.After-known-told4)
+    → AcceptedSlice (patch-of (known-told2-before-known-told4 c) .patch .input) (entry-before-known-told4 c .args .slice .now) (c .before .prefix .given .0 .0)
+slice-of c =
+    slice-accepted (read-slice-file-before-known-told4 c .read-slice-file .ensures .reads) (patch-of (known-told2-before-known-told4 c) .type-in .stands)
+    (λ i. omega (arith, shared-slice-known2-before-known-told4 c .shared-slice-known2 .given i)) _ (c .before .prefix .given .1)
+
+left-of : (c : tie.After-known-told4)
+    → TypeHeld (derivative (patch-of (known-told2-before-known-told4 c) .patch .input) (slice-of c .prefix))
+    (read-slice-file-before-known-told4 c .read-slice-file .last .1 .1 .1 .0) (c .before .prefix .given .0 .0 .remains)
+left-of c =
+    left-held (read-slice-file-before-known-told4 c .read-slice-file .ensures) (patch-of (known-told2-before-known-told4 c) .type-in .stands) (slice-of c) (omega arith)
+
+array-share-prefix-left : tie.Need-array-share-prefix-left
+array-share-prefix-left c =
+    left-of c .inside
+
+slice-aggregate-send-on : tie.Need-slice-aggregate-send-on
+slice-aggregate-send-on c =
+    sym (length-take-le _ _ (left-of (c .before) .inside))
 
 send-on-requires : tie.Need-send-on-requires
 send-on-requires c κs =
-    let prefix = c .before .before .before in
-    let slice = prefix .before .before in
-    let told = slice .before in
-    let patch = read-of told in
-    let read = patch .before .before .before in
+    let told = known-told4-before-send-on-arg2 c in
     record {
-      read = patch-of patch;
-      output = type-of told .type;
-      is-typed = type-of told .given;
-      about = prefix .prefix .given .0 .0;
-      taken =
-          slice-accepted (slice .read-slice-file .ensures) (patch-of patch .type-at)
-          (λ i. omega (arith, read .before .before .before .shared-slice-known2 .given i)) _ (prefix .prefix .given .1);
-      measured = refl;
+      read = patch-of (known-told2-before-known-told4 told);
+      about = told .before .prefix .given .0 .0;
+      taken = slice-of told;
+      left-is = left-of told .bytes;
     }
 
 returns : tie.Need-returns
 returns c =
-    let read = read-patch-file-before-refused c in
-    let e = patch-refused (entry read .args .patch .now) (read .read-patch-file .ensures) _ (c .before .before .fault .given .1) in
+    let e = patch-refused (entry-before-refused c .args .patch .now) (read-patch-file-before-refused c .read-patch-file .ensures) _ (c .before .before .fault .given .1) in
     rw (c .refused .ensures) (refused-keeps _ _ _ (patch-unread _ _ e))
 
 returns-2 : tie.Need-returns-2
 returns-2 c =
-    let typed = type-node-before-refused2 c in
-    let patch = typed .before .before in
-    let e = is-refused _ _ (sym (c .before .before .fault2 .given .1) ∙ typed .type-node .ensures .each (due patch) .answers) in
-    rw (c .refused2 .ensures) (refused-keeps _ _ _ (patch-untyped (patch-of patch) _ e))
-
-returns-3 : tie.Need-returns-3
-returns-3 c =
-    let slice = read-slice-file-before-refused3 c in
-    let told = slice .before in
-    let patch = patch-of (read-of told) in
-    let e = slice-refused (slice .read-slice-file .ensures) (patch .type-at) _ (c .before .before .fault3 .given .1) in
-    rw (c .refused3 .ensures) (refused-keeps _ _ _ (slice-unread patch _ (type-of told .given) e))
+    let read = patch-of (known-told2-before-refuse c) in
+    let e = slice-refused (read-slice-file-before-refuse c .read-slice-file .ensures .reads) (read .type-in .stands) _ (c .before .before .fault2 .given .1) in
+    refuses-keep read _ _ _ (c .refuse .ensures) (λ t typed. slice-unread read _ typed e)
 
 same-length : tie.Need-same-length
 same-length c = search needs
@@ -139,8 +134,8 @@ same-length c = search needs
 same-length-2 : tie.Need-same-length-2
 same-length-2 c = search needs
 
-returns-4 : tie.Need-returns-4
-returns-4 c = search needs
+returns-3 : tie.Need-returns-3
+returns-3 c = search needs
 
 pub feed-spec : {M : Type 1} → statement M
 feed-spec =
@@ -150,19 +145,16 @@ feed-spec =
     enum-known-fault
     refused-requires
     enum-known-place
-    slice-aggregate-type-node
-    type-node-requires
-    enum-known-fault-2
-    refused-requires-2
-    enum-told
+    slice-aggregate-read-slice-file
     read-slice-file-requires
-    enum-known-fault-3
-    refused-requires-3
+    enum-known-fault-2
+    refuse-requires
     enum-known-prefix
+    array-share-prefix-left
+    slice-aggregate-send-on
     send-on-requires
     returns
     returns-2
-    returns-3
     same-length
     same-length-2
-    returns-4)
+    returns-3)

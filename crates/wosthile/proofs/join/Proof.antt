@@ -6,17 +6,15 @@ use mathlib.Core.Path.{_≡_, sym, ap, _∙_}
 use mathlib.Core.List.{List}
 use Prim.Native.Nat.{ℕ, _+_, _-_, _≤_}
 use native.Mathlib.Omega.{arith}
-use native.Mathlib.Nat.{le-trans}
 use lib.ListN.{length}
 use Rattle.stream.specs.Types.{Ty}
 use Rattle.stream.specs.Prefixes.{derivative}
 use Rattle.stream.specs.Prefixes.Functions.{concat}
-use Rattle.stream.specs.Prefixes.Laws.{derivative-size}
 use Rattle.stream.specs.declared.Fault.{Fault}
 use Rattle.stream.specs.Reading.{accepted, refused}
 use Rattle.stream.specs.SliceFiles.{slice-file, slice-file-bytes}
 use Rattle.reading.specs.TypeReads.{TypeAt, AcceptedType}
-use Rattle.writing.specs.Writing.Standing.{type-accepted, slice-accepted, slice-refused, slice-file-size, written-stands, derivative-due, slice-short, joined-width, overlap-less, joined-file-due}
+use Rattle.writing.specs.Writing.Standing.{type-accepted, slice-accepted, slice-refused, slice-file-size, left-held, slice-short, joined-width, overlap-less, joined-file-due}
 use Rattle.reading.specs.SliceReads.{AcceptedSlice}
 use Rattle.meaning.specs.Answers.{join}
 use Rattle.wosthile.proofs.Keeping.{refusal-keeps, shortage-keeps, file-keeps}
@@ -39,19 +37,19 @@ abbrev refused-type : tie.After-refused → tie.After-read-type-file
 refused-type c = c .before .before .before .before
 
 abbrev slice-told : tie.After-known-told4 → tie.After-read-slice-file
-slice-told c = c .before .before .before
+slice-told c = c .before .before .before .before
 
 abbrev type-read : tie.After-known-told4 → tie.After-known-told2
-type-read c = slice-told c .before
+type-read c = slice-told c .before .before
 
 abbrev refused-slice : tie.After-refused2 → tie.After-read-slice-file
-refused-slice c = c .before .before .before .before
+refused-slice c = c .before .before .before .before .before
 
-abbrev remainder-left : tie.After-remainder3 → tie.After-known-told4
-remainder-left c = c .before .before .before .before
+abbrev remainder-left : tie.After-none → tie.After-known-told4
+remainder-left c = c .before .before
 
 abbrev second-told : tie.After-enum-told → tie.After-read-slice-file2
-second-told c = c .before .before
+second-told c = c .before .before .before
 
 abbrev first-read : tie.After-enum-told → tie.After-known-told4
 first-read c = remainder-left (second-told c .before)
@@ -60,7 +58,7 @@ abbrev files-read : tie.After-enum-told → tie.After-read-type-file
 files-read c = type-told (type-read (first-read c))
 
 abbrev refused-second : tie.After-refused3 → tie.After-read-slice-file2
-refused-second c = c .before .before .before .before
+refused-second c = c .before .before .before .before .before
 
 abbrev written : tie.After-write-joined-file → tie.After-enum-told
 written c = c .before .before .before .before
@@ -97,13 +95,16 @@ type-of c =
     type-accepted (type-file-of read) (read .read-type-file .ensures) (λ i. omega (arith, bytes-known read .before .before .shared-slice-known .given i)) _
     (c .before .place .given .1)
 
+slice-aggregate-read-slice-file : tie.Need-slice-aggregate-read-slice-file
+slice-aggregate-read-slice-file c = search needs
+
 read-slice-file-requires : tie.Need-read-slice-file-requires
-read-slice-file-requires c κs = record { type = type-of c .type; stands = type-of c .stands }
+read-slice-file-requires c κs = let type = type-of (c .before) in record { type = type .type; stands = type .stands }
 
 first-slice : (c : tie.After-known-told4)
     → AcceptedSlice (type-of (type-read c) .type) (first-file-of (type-told (type-read c))) (c .before .prefix .given .0 .0)
 first-slice c =
-    slice-accepted (slice-told c .read-slice-file .ensures) (type-of (type-read c) .stands)
+    slice-accepted (slice-told c .read-slice-file .ensures .reads) (type-of (type-read c) .stands)
     (λ i. omega (arith, bytes-known (type-told (type-read c)) .before .shared-slice-known2 .given i)) _ (c .before .prefix .given .1)
 
 abbrev remainder-of : tie.After-known-told4 → Ty
@@ -118,29 +119,18 @@ refused-requires-2 c κs = search needs
 enum-known-prefix : tie.Need-enum-known-prefix
 enum-known-prefix c = search needs
 
-slice-aggregate-write-derivative : tie.Need-slice-aggregate-write-derivative
-slice-aggregate-write-derivative c = search needs
+slice-aggregate-read-slice-file-2 : tie.Need-slice-aggregate-read-slice-file-2
+slice-aggregate-read-slice-file-2 c = search needs
 
-write-derivative-requires : tie.Need-write-derivative-requires
-write-derivative-requires c κs =
-    let first = c .before in
-    derivative-due (type-of (type-read first)) (first-slice first) _ (omega arith)
+slice-aggregate-read-slice-file-3 : tie.Need-slice-aggregate-read-slice-file-3
+slice-aggregate-read-slice-file-3 c = search needs
 
--- It stands in the work array.
-remainder-at : (c : tie.After-remainder3)
-    → TypeAt (c .before .before .write-derivative .last .1 .1 .1 .1 .0) 0 (remainder-of (remainder-left c))
-remainder-at c =
-    let first = remainder-left c in
-    let t = type-of (type-read first) in
-    let p = first-slice first in
-    written-stands _ _ (c .before .before .write-derivative .ensures .each (derivative-due t p _ (omega arith)) .buffer)
-    (le-trans (derivative-size (p .is-prefix)) (t .stands .small))
-
-slice-aggregate-types : tie.Need-slice-aggregate-types
-slice-aggregate-types c = search needs
+-- What the first slice leaves stands in the work array.
+remainder-at : (c : tie.After-known-told4) → TypeAt (slice-told c .read-slice-file .last .1 .1 .1 .0) 0 (remainder-of c)
+remainder-at c = left-held (slice-told c .read-slice-file .ensures) (type-of (type-read c) .stands) (first-slice c) (omega arith) .stands
 
 read-slice-file-requires-2 : tie.Need-read-slice-file-requires-2
-read-slice-file-requires-2 c κs = record { type = _; stands = remainder-at c }
+read-slice-file-requires-2 c κs = record { type = _; stands = remainder-at (remainder-left c) }
 
 enum-known-fault-3 : tie.Need-enum-known-fault-3
 enum-known-fault-3 c = search needs
@@ -157,7 +147,7 @@ second-slice : (c : tie.After-enum-told)
     → AcceptedSlice (remainder-of (first-read c)) (second-file-of (files-read c)) (c .enum-told .given .0 .0)
 second-slice c =
     let slice = second-told c in
-    slice-accepted (slice .read-slice-file2 .ensures) (remainder-at (slice .before))
+    slice-accepted (slice .read-slice-file2 .ensures .reads) (remainder-at (remainder-left (slice .before)))
     (λ i. omega (arith, bytes-known (files-read c) .shared-slice-known3 .given i)) _ (c .enum-told .given .1)
 
 abbrev joined-file : tie.After-enum-told → List ℕ
@@ -182,7 +172,7 @@ measured c =
     let q = second-slice c in
     record {
       first-short = slice-short (t .stands .small) p;
-      second-short = slice-short (remainder-at (second-told c .before) .small) q;
+      second-short = slice-short (remainder-at (remainder-left (second-told c .before)) .small) q;
       overlapping = overlap-less p;
       joined = ap (λ n. 2 + n) (joined-width p q) ∙ sym (slice-file-size _);
     }
@@ -220,8 +210,8 @@ write-joined-file-requires c κs =
     let m = measured read in
     joined-file-due p q (t .stands .small) _ _ (joined-width p q) (omega arith)
 
-add-t26 : tie.Need-add-t26
-add-t26 c = let m = measured (written (c .before .before)) in omega arith
+add-t28 : tie.Need-add-t28
+add-t28 c = let m = measured (written (c .before .before)) in omega arith
 
 returns-2 : tie.Need-returns-2
 unfolding join
@@ -233,7 +223,7 @@ unfolding join
 returns-3 c =
     let slice = refused-slice c in
     rw (c .refused2 .ensures)
-    (refusal-keeps _ _ (slice-stops _ _ _ (type-of (slice .before)) (slice .read-slice-file .ensures) (c .before .before .fault2 .given .1)))
+    (refusal-keeps _ _ (slice-stops _ _ _ (type-of (slice .before .before)) (slice .read-slice-file .ensures .reads) (c .before .before .fault2 .given .1)))
 
 join-stops : (c : tie.After-known-told4) (e : Fault)
     → (let read = type-told (type-read c) in
@@ -244,7 +234,7 @@ join-stops c e h = goes-on _ _ _ (type-of (type-read c)) (first-slice c) ∙ rw 
 returns-4 : tie.Need-returns-4
 returns-4 c =
     let slice = refused-second c in
-    let e = slice-refused (slice .read-slice-file2 .ensures) (remainder-at (slice .before)) _ (c .before .before .fault3 .given .1) in
+    let e = slice-refused (slice .read-slice-file2 .ensures .reads) (remainder-at (remainder-left (slice .before))) _ (c .before .before .fault3 .given .1) in
     rw (c .refused3 .ensures) (refusal-keeps _ _ (join-stops (remainder-left (slice .before)) _ e))
 
 same-length : tie.Need-same-length
@@ -269,13 +259,13 @@ join-spec =
     enum-known-fault
     refused-requires
     enum-known-place
+    slice-aggregate-read-slice-file
     read-slice-file-requires
     enum-known-fault-2
     refused-requires-2
     enum-known-prefix
-    slice-aggregate-write-derivative
-    write-derivative-requires
-    slice-aggregate-types
+    slice-aggregate-read-slice-file-2
+    slice-aggregate-read-slice-file-3
     read-slice-file-requires-2
     enum-known-fault-3
     refused-requires-3
@@ -288,7 +278,7 @@ join-spec =
     refused-requires-4
     returns
     write-joined-file-requires
-    add-t26
+    add-t28
     returns-2
     returns-3
     returns-4
