@@ -11,7 +11,8 @@
 # make fuzz      random calls and runs of feeds, compared with the second interpreter: make fuzz SECONDS=600 SEED=7
 # make streams   the program on random streams, compared with the second interpreter's: make streams STREAMS=20000 SEED=7
 # make measure   how long the program takes for 100,000 slices, and how much memory
-# make bench     times and instruction counts of the library beside the second interpreter
+# make bench     times and instruction counts of the library beside the second interpreter; fails if a goal is missed in
+#                the median of the runs: make bench RUNS=3
 # make install   archive, header and wosthile.pc: make install PREFIX=/usr/local DESTDIR=
 # make clean     removes all that was built
 
@@ -20,6 +21,7 @@ CUTS = 1000
 SEEDS = 0 19
 SECONDS = 60
 STREAMS = 5000
+RUNS = 3
 SEED = 1
 PREFIX = /usr/local
 DESTDIR =
@@ -89,7 +91,7 @@ measure: $(ARCHIVE) $(RUNNER)
 bench: $(ARCHIVE)
 	$(CARGO) build $(LOCKED) --manifest-path bench/Cargo.toml
 	bench/instructions.sh target/cargo/release/bench >target/instructions
-	target/cargo/release/bench --instructions target/instructions
+	target/cargo/release/bench --runs $(RUNS) --instructions target/instructions
 
 install: $(ARCHIVE)
 	install -d $(DESTDIR)$(PREFIX)/lib/pkgconfig $(DESTDIR)$(PREFIX)/include

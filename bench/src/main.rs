@@ -1,10 +1,14 @@
-//! `bench`: times the library beside the second interpreter and says which goals are met.
+//! `bench`: times the library beside the second interpreter and says which goals are met; it
+//! succeeds if all of them are.
 //!
-//! `bench --instructions FILE` takes instruction counts from a file: for each row a line with the
-//! library's and the second interpreter's. `bench --count N` makes every call N times, library and
-//! then second interpreter, row by row; `instructions.sh` counts what it executes.
+//! `bench --runs N` times everything N times, and judges by the median. `--instructions FILE` takes
+//! instruction counts from a file: for each row a line with the library's and the second
+//! interpreter's. `bench --count N` makes every call N times, library and then second interpreter,
+//! row by row; `instructions.sh` counts what it executes.
 
 mod feeds;
+mod goals;
+mod measured;
 mod nodes;
 mod patches;
 mod rows;
@@ -14,8 +18,8 @@ mod timing;
 
 use std::process::ExitCode;
 
-use rows::{Lent, Side};
-use table::{Instructions, Measured};
+use measured::{Instructions, Measured};
+use rows::{Lent, Row, Side};
 
 fn counts(file: &str) -> Result<Vec<Instructions>, String> {
     let text = std::fs::read_to_string(file).map_err(|error| format!("{file}: {error}"))?;
@@ -28,7 +32,8 @@ fn counts(file: &str) -> Result<Vec<Instructions>, String> {
         .collect()
 }
 
-fn print_table(instructions: &[Instructions]) -> Result<(), String> {
+/// Every row, if the answers are as they should be and there are as many counts.
+fn sound_rows(instructions: &[Instructions]) -> Result<Vec<Row>, String> {
     let rows = rows::all();
     if !instructions.is_empty() && instructions.len() != rows.len() {
         return Err(format!(
@@ -43,20 +48,20 @@ fn print_table(instructions: &[Instructions]) -> Result<(), String> {
             row.operation, row.name
         ));
     }
-    println!("{}", table::heading());
-    let times = timing::time(&rows);
-    let measured: Vec<Measured> = rows
-        .into_iter()
-        .zip(times)
-        .enumerate()
-        .map(|(index, (row, times))| Measured {
-            row,
-            times,
-            instructions: instructions.get(index).copied(),
-        })
+    Ok(rows)
+}
+
+/// Prints the table and says whether the goals are met.
+fn print_table(runs: usize, instructions: &[Instructions]) -> Result<bool, String> {
+    let rows = sound_rows(instructions)?;
+    println!("{}", table::heading(runs));
+    let runs: Vec<Vec<Measured>> = (0..runs)
+        .map(|_| measured::in_run(&rows, &timing::time(&rows), instructions))
         .collect();
-    println!("{}\n{}", table::lines(&measured), table::goals(&measured));
-    Ok(())
+    let verdict = goals::judge(&runs);
+    println!("{}\n{}", table::lines(&runs), table::below(&runs));
+    print!("{}", verdict.text);
+    Ok(verdict.met)
 }
 
 fn repeat_all(times: u64) {
@@ -67,24 +72,35 @@ fn repeat_all(times: u64) {
     }
 }
 
-fn run(words: &[String]) -> Result<(), String> {
-    let words: Vec<&str> = words.iter().map(String::as_str).collect();
-    match words.as_slice() {
-        [] => print_table(&[]),
-        ["--instructions", file] => print_table(&counts(file)?),
-        ["--count", times] => {
-            let times = times.parse().map_err(|_| format!("no number: {times}"))?;
-            repeat_all(times);
-            Ok(())
-        }
-        _ => Err("usage: bench [--instructions FILE | --count N]".to_string()),
+fn number(word: &str) -> Result<usize, String> {
+    match word.parse() {
+        Ok(number) if number > 0 => Ok(number),
+        _ => Err(format!("no number above 0: {word}")),
+    }
+}
+
+fn run(words: &[&str]) -> Result<bool, String> {
+    if let ["--count", times] = words {
+        repeat_all(number(times)? as u64);
+        return Ok(true);
+    }
+    let (runs, words) = match words {
+        ["--runs", runs, words @ ..] => (number(runs)?, words),
+        _ => (1, words),
+    };
+    match words {
+        [] => print_table(runs, &[]),
+        ["--instructions", file] => print_table(runs, &counts(file)?),
+        _ => Err("usage: bench [--runs N] [--instructions FILE] | bench --count N".to_string()),
     }
 }
 
 fn main() -> ExitCode {
     let words: Vec<String> = std::env::args().skip(1).collect();
+    let words: Vec<&str> = words.iter().map(String::as_str).collect();
     match run(&words) {
-        Ok(()) => ExitCode::SUCCESS,
+        Ok(true) => ExitCode::SUCCESS,
+        Ok(false) => ExitCode::FAILURE,
         Err(text) => {
             eprintln!("{text}");
             ExitCode::FAILURE

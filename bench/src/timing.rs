@@ -11,11 +11,19 @@ const ROUND: Duration = Duration::from_millis(4);
 /// The fastest of so many rounds is taken: what else runs on the machine can only slow a round.
 const ROUNDS: usize = 9;
 
-/// Nanoseconds per call.
+/// Nanoseconds per call, and those of one `memcpy` of as many bytes as are handed in.
 #[derive(Clone, Copy, Debug)]
 pub struct Times {
     pub library: f64,
     pub second: f64,
+    pub memcpy: f64,
+}
+
+/// What is timed of a row.
+#[derive(Clone, Copy, Debug)]
+enum Work {
+    Call(Side),
+    Memcpy,
 }
 
 /// Makes the call so many times. Not inlined, and not renamed, so that instructions can be counted
@@ -28,62 +36,81 @@ pub fn wosthile_bench_repeat(row: &Row, side: Side, lent: &mut Lent, times: u64)
     }
 }
 
-fn elapsed(row: &Row, side: Side, times: u64) -> Duration {
-    let mut lent = Lent::holding(0);
-    let begin = Instant::now();
-    wosthile_bench_repeat(row, side, &mut lent, times);
-    begin.elapsed()
+fn elapsed(row: &Row, work: Work, times: u64) -> Duration {
+    match work {
+        Work::Call(side) => {
+            let mut lent = Lent::holding(0);
+            let begin = Instant::now();
+            wosthile_bench_repeat(row, side, &mut lent, times);
+            begin.elapsed()
+        }
+        Work::Memcpy => {
+            let handed_in = row.files.concat();
+            let mut copied = vec![0; handed_in.len()];
+            let begin = Instant::now();
+            for _ in 0..times {
+                black_box(copied.as_mut_slice()).copy_from_slice(black_box(&handed_in));
+            }
+            begin.elapsed()
+        }
+    }
 }
 
 /// How many calls fill a round; trying it out warms the caches, too.
-fn calls_in_a_round(row: &Row, side: Side) -> u64 {
+fn calls_in_a_round(row: &Row, work: Work) -> u64 {
     let mut times = 1;
-    while elapsed(row, side, times) < ROUND {
+    while elapsed(row, work, times) < ROUND {
         times *= 2;
     }
     times
 }
 
-/// A side of a row, how many calls of it fill a round, and its fastest round so far.
+/// Work on a row, how many times it fills a round, and its fastest round so far.
 struct Timed<'a> {
     row: &'a Row,
-    side: Side,
+    work: Work,
     calls: u64,
     fastest: f64,
 }
 
 impl<'a> Timed<'a> {
-    fn new(row: &'a Row, side: Side) -> Self {
+    fn new(row: &'a Row, work: Work) -> Self {
         Timed {
             row,
-            side,
-            calls: calls_in_a_round(row, side),
+            work,
+            calls: calls_in_a_round(row, work),
             fastest: f64::INFINITY,
         }
     }
 
     fn go_round(&mut self) {
-        let round = elapsed(self.row, self.side, self.calls);
+        let round = elapsed(self.row, self.work, self.calls);
         let each = round.as_nanos() as f64 / self.calls as f64;
         self.fastest = self.fastest.min(each);
     }
 }
 
-/// Times both sides of every row. Each round goes over all rows, so that a slow moment of the
-/// machine does not meet one row alone.
+/// One run: times all work on every row. Each round goes over all rows, so that a slow moment of
+/// the machine does not meet one row alone.
 pub fn time(rows: &[Row]) -> Vec<Times> {
-    let mut timed: Vec<[Timed; 2]> = rows
+    let works = [
+        Work::Call(Side::Library),
+        Work::Call(Side::Second),
+        Work::Memcpy,
+    ];
+    let mut timed: Vec<[Timed; 3]> = rows
         .iter()
-        .map(|row| [Side::Library, Side::Second].map(|side| Timed::new(row, side)))
+        .map(|row| works.map(|work| Timed::new(row, work)))
         .collect();
     for _ in 0..ROUNDS {
         timed.iter_mut().flatten().for_each(Timed::go_round);
     }
     timed
         .iter()
-        .map(|[library, second]| Times {
+        .map(|[library, second, memcpy]| Times {
             library: library.fastest,
             second: second.fastest,
+            memcpy: memcpy.fastest,
         })
         .collect()
 }
