@@ -74,10 +74,10 @@ $(RUNNER): $(SOURCES)
 	rt check runner
 	touch $@
 
-target/frame_loop target/timeline: examples/lanes.c examples/lanes.h
-target/frame_loop target/rehearsal target/timeline: examples/show.c examples/show.h examples/feeding.h
-$(EXAMPLES): target/%: examples/%.c include/wosthile.h $(ARCHIVE)
-	$(CC) $(CFLAGS) -Iinclude -pthread $(filter %.c,$^) $(ARCHIVE) -o $@
+# A program is one file and what all programs share.
+SHARED = $(wildcard examples/shared/*.c)
+$(EXAMPLES): target/%: examples/%.c $(SHARED) $(wildcard examples/shared/*.h) include/wosthile.h $(ARCHIVE)
+	$(CC) $(CFLAGS) -Iinclude -Iexamples/shared -pthread $(filter %.c,$^) $(ARCHIVE) -o $@
 
 fuzz: $(ARCHIVE)
 	$(CARGO) run $(LOCKED) --manifest-path tests/comparison/Cargo.toml -- --seconds $(SECONDS) --seed $(SEED)

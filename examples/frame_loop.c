@@ -12,6 +12,7 @@
 #define _POSIX_C_SOURCE 200809L /* for clock_nanosleep and flockfile */
 #include "feeding.h"
 #include "lanes.h"
+#include "program.h"
 
 #include <errno.h>
 #include <pthread.h>
@@ -49,13 +50,6 @@ struct player {
     struct mailbox mailbox;
     size_t refused; /* slices refused on delivery; the producer's until its thread has ended */
 };
-
-/* What cannot happen as long as the library keeps its promises, or what leaves nothing to go on with. */
-static void stop(const char *reason)
-{
-    fprintf(stderr, "%s\n", reason);
-    exit(2);
-}
 
 /* What was refused in a frame, and what follows from it. */
 static void print_refusal(size_t frame, const char *what, uint32_t number, const char *follows)
@@ -345,7 +339,7 @@ int main(int count, char **list)
     struct words words;
     struct show show;
     if (!read_words(count, list, &words)) {
-        stop("frame_loop SHOW [--seed N] [--frames-per-second N | --fast]");
+        stop_for_words();
     }
     const char *fault = show_read(words.path, &show);
     if (fault != NULL) {

@@ -10,6 +10,7 @@
  */
 #define _POSIX_C_SOURCE 200809L /* for clock_gettime and isatty */
 #include "feeding.h"
+#include "program.h"
 
 #include <stdio.h>
 #include <stdlib.h>

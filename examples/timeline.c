@@ -8,6 +8,7 @@
  */
 #include "feeding.h"
 #include "lanes.h"
+#include "program.h"
 
 #include <stdio.h>
 #include <stdlib.h>
@@ -22,7 +23,7 @@ struct mark {
 
 struct side {
     struct lanes lanes;
-    struct mark marks[TYPE_NODES_MAX];
+    struct mark marks[WOSTHILE_TYPE_NODES_MAX];
     size_t count;
 };
 
@@ -40,21 +41,6 @@ struct window {
     size_t first, last;
 };
 
-static void stop(const char *reason)
-{
-    fprintf(stderr, "%s\n", reason);
-    exit(1);
-}
-
-static void *memory(size_t count, size_t size)
-{
-    void *bytes = calloc(count, size);
-    if (bytes == NULL) {
-        stop("There is not enough memory.");
-    }
-    return bytes;
-}
-
 /* Notes what a slice brings in a frame. */
 static void note(struct side *side, size_t frame, struct file slice)
 {
@@ -62,7 +48,7 @@ static void note(struct side *side, size_t frame, struct file slice)
     if (lanes_follow(&side->lanes, slice, &events) != WOSTHILE_ACCEPTED) {
         stop("A slice that was fed or sent is not one of what the slices before it leave.");
     }
-    for (size_t index = 0; index < events.count && side->count < TYPE_NODES_MAX; index++) {
+    for (size_t index = 0; index < events.count && side->count < WOSTHILE_TYPE_NODES_MAX; index++) {
         side->marks[side->count++] = (struct mark){frame, events.list[index]};
     }
 }
@@ -105,8 +91,7 @@ static struct panel *play(const struct show *show, uint64_t seed)
     struct type output_type;
     uint32_t number = patch_start(&patch, show->patch, &output_type);
     if (number != WOSTHILE_ACCEPTED) {
-        fprintf(stderr, "The patch is refused with %u: ", number);
-        stop(wosthile_sentence(number));
+        stop("The patch is refused with %u: %s", number, wosthile_sentence(number));
     }
     if (!lanes_start(&panel->in.lanes, patch_input_type(&patch)) ||
         !lanes_start(&panel->out.lanes, type_file(&output_type))) {
@@ -229,7 +214,7 @@ static void find_lives(const struct side *side, struct life lives[LANES_MAX + 1]
         lives[lane] = (struct life){0, NEVER};
     }
     for (size_t node = 0; node < side->lanes.start_nodes; node++) {
-        if (start[node].kind != TYPE_SEQUENCE) {
+        if (start[node].kind != WOSTHILE_TYPE_SEQUENCE) {
             continue;
         }
         struct lane_range from = start[node + 1].lanes, to = start[start[node].second].lanes;
@@ -577,12 +562,11 @@ int main(int count, char **list)
     struct show show;
     struct panel *panels[PANELS_MAX];
     if (!read_words(count, list, &words)) {
-        stop("timeline SHOW [SEED...] [--frames FIRST LAST] >picture.svg");
+        stop_for_words();
     }
     const char *fault = show_read(words.path, &show);
     if (fault != NULL) {
-        fprintf(stderr, "%s: ", words.path);
-        stop(fault);
+        stop("%s: %s", words.path, fault);
     }
     for (size_t index = 0; index < words.count; index++) {
         panels[index] = play(&show, words.seeds[index]);

@@ -2,8 +2,8 @@
  * Wosthile: patch files, type files and slice files, for C11 and C++11 on x86-64.
  *
  * A stream has a type: a tree of cues and 16-bit levels, of parts that follow one another and of parts that run side
- * by side. A slice says what has come of a stream so far. A patch is a tree of nodes that takes a stream of one type to
- * a stream of another. Five operations work on the files of all three:
+ * by side. A slice says what has come of a stream since the slice before. A patch is a tree of nodes that takes a
+ * stream of one type to a stream of another. Five operations work on the files of all three:
  *
  *   wosthile_check   is this a patch, and which type has the stream that it sends?
  *   wosthile_admit   is this a slice of that type, and has everything come?
@@ -12,37 +12,30 @@
  *   wosthile_feed    what the patch sends for a slice, and the patch that is left for the next slice
  *
  * Files. A section is a count of two bytes, the high byte first, and then that many bytes. They hold one tree in
- * preorder: the root, then its parts from left to right. A type file and a slice file are one section; a patch file is
- * two, the type of its input and then its nodes. All values below are decimal.
- *
- *   type     0 empty    1 cue    2 level    3 sequence, two types    4 side by side, two types
- *   slice    of 0:  0
- *            of 1:  1 not yet, or 2 come
- *            of 2:  3 not yet, or 4 come and then the value, two bytes, the high byte first
- *            of 3:  5 and a slice of the first part; or 6, crossed, and a complete slice of the first part and a
- *                   slice of the second
- *            of 4:  7 and a slice of each part
- *   node     0 pass                       gives the type of its input
- *            1 silent, then a type        gives that type, which has to be nullable
- *            2 cue                        gives cue
- *            3 level, then two bytes      gives level
- *            4 both, two nodes            each on the whole input; gives what they give, side by side
- *            5 left, 6 right              of an input side by side, gives that part
- *            7 first, 8 second            of a sequence, gives that part
- *            9 then, two nodes            one on each part of a sequence; gives what they give, in sequence
- *            10 chain, two nodes          the second on what the first gives; gives what the second gives
- *            11 regroup right             of 3 3 s t r gives 3 s 3 t r
- *            12 regroup left              of 3 s 3 t r gives 3 3 s t r
- *            13 spread                    of 3 s 4 t r gives 4 3 s t 3 s r
- *            14 front                     of s gives 3 0 s
- *
- * What each node sends, and what it leaves, stands at wosthile_feed.
+ * preorder: the root, then its parts from left to right. Each node of a tree begins with the byte of its kind
+ * (enum wosthile_type_kind, wosthile_slice_kind and wosthile_node_kind). A type file and a slice file are one section; a
+ * patch file is two, the type of its input and then its nodes. All values below are decimal.
  *
  * A type is nullable if it is 0, or a 4 with both parts nullable; a sequence never is. A type has at most 255 nodes,
  * wherever it arises, and a patch at most 63; the nodes of a type that silent carries count for that type alone.
  *
  * A slice is complete if it is 0, 2 or 4, or a 6 whose second slice is complete, or a 7 with both complete. A first
  * part that has fully come is not crossed yet: of type 3 1 1 the slices 5 2 and 6 2 1 differ.
+ *
+ * In a frame loop. Keep the type file that wosthile_check writes, and two patch buffers. The first slice is one of the
+ * patch's input type, and every later one is a slice of what the slices before it leave of that type. This is always
+ * the first section of the patch in force, so between frames the type for wosthile_admit and wosthile_join is taken by
+ *
+ *     const uint8_t *type = patch;
+ *     size_t type_len = 2 + (size_t)patch[0] * 256 + patch[1];
+ *
+ * The output slices are slices of the output type in the same way: the first one of the type that wosthile_check wrote,
+ * each later one of what the outputs before it leave, which wosthile_left writes. To read one, walk down that type and
+ * the slice together, from left to right: at a cue, 2 says that it comes now and 1 that it does not; at a level, 4 and
+ * two bytes or 3; at an empty part there is 0; at a sequence 5 goes on in its first part, and the second has no bytes
+ * yet; 6 goes through its first part and then into the second, and what is left of the sequence is what is left of the
+ * second part; at parts side by side 7 goes through both. examples/shared/lanes.c does this, and keeps which leaf of the
+ * first type each one is.
  *
  * Every call ends, whatever the bytes and the lengths of the files; there is nothing to test before it.
  *
@@ -60,6 +53,8 @@
  * Every function is reentrant: it keeps nothing between calls, so threads may call it at the same time, each with
  * buffers of its own. None allocates memory, and none needs more than WOSTHILE_STACK_MAX bytes of stack. The archive,
  * libwosthile.a, asks for memcpy, memmove and memset at most, and for nothing else.
+ *
+ * docs/FORMATS.md has the same with worked examples, and the files that the programs read.
  */
 #ifndef WOSTHILE_H
 #define WOSTHILE_H
@@ -71,13 +66,20 @@
 #error "libwosthile.a is built for x86-64 with 64-bit pointers"
 #endif
 
-/* Changes whenever a struct or a function below changes in a way that asks for compiling again. */
+/* The release, for people. */
+#define WOSTHILE_RELEASE "1.0.0"
+
+/* The binary interface: changes whenever a struct or a function below asks for compiling again. See wosthile_abi. */
 #define WOSTHILE_ABI 1
 
 /* The greatest sizes of accepted files, in bytes. A lent buffer of that size is long enough for every answer. */
 #define WOSTHILE_TYPE_FILE_MAX 257
 #define WOSTHILE_SLICE_FILE_MAX 513
 #define WOSTHILE_PATCH_FILE_MAX 8482
+
+/* The most nodes of a type, and of a patch. */
+#define WOSTHILE_TYPE_NODES_MAX 255
+#define WOSTHILE_PATCH_NODES_MAX 63
 
 /* A thread that makes these calls needs so many bytes of stack beside its own; the deepest patches take most. */
 #define WOSTHILE_STACK_MAX 61440
@@ -86,25 +88,65 @@
 extern "C" {
 #endif
 
+/* The kinds of types. */
+enum wosthile_type_kind {
+    WOSTHILE_TYPE_EMPTY = 0,
+    WOSTHILE_TYPE_CUE = 1,
+    WOSTHILE_TYPE_LEVEL = 2,    /* 0 to 65,535 */
+    WOSTHILE_TYPE_SEQUENCE = 3, /* two types: the second part follows the first */
+    WOSTHILE_TYPE_BESIDE = 4    /* two types, side by side */
+};
+
+/* The kinds of slices, and of which type each is. */
+enum wosthile_slice_kind {
+    WOSTHILE_SLICE_NOTHING = 0,       /* of empty */
+    WOSTHILE_SLICE_CUE_AWAITED = 1,   /* of cue: not yet */
+    WOSTHILE_SLICE_CUE_COME = 2,      /* of cue: come */
+    WOSTHILE_SLICE_LEVEL_AWAITED = 3, /* of level: not yet */
+    WOSTHILE_SLICE_LEVEL_COME = 4,    /* of level: come; then the value, two bytes, the high byte first */
+    WOSTHILE_SLICE_IN_FIRST = 5,      /* of sequence: a slice of the first part */
+    WOSTHILE_SLICE_CROSSED = 6,       /* of sequence: a complete slice of the first part, a slice of the second */
+    WOSTHILE_SLICE_BESIDE = 7         /* of parts side by side: a slice of each */
+};
+
+/* The kinds of nodes, and which type each gives. What each sends and leaves is at wosthile_feed. */
+enum wosthile_node_kind {
+    WOSTHILE_NODE_PASS = 0,           /* gives the type of its input */
+    WOSTHILE_NODE_SILENT = 1,         /* then a type: gives that type, which has to be nullable */
+    WOSTHILE_NODE_CUE = 2,            /* gives cue */
+    WOSTHILE_NODE_LEVEL = 3,          /* then the value, two bytes: gives level */
+    WOSTHILE_NODE_BOTH = 4,           /* two nodes, each on the whole input: gives what they give, side by side */
+    WOSTHILE_NODE_LEFT = 5,           /* of an input side by side, gives the left part */
+    WOSTHILE_NODE_RIGHT = 6,          /* of an input side by side, gives the right part */
+    WOSTHILE_NODE_FIRST = 7,          /* of a sequence, gives the first part */
+    WOSTHILE_NODE_SECOND = 8,         /* of a sequence, gives the second part */
+    WOSTHILE_NODE_THEN = 9,           /* two nodes, one on each part of a sequence: gives what they give, in sequence */
+    WOSTHILE_NODE_CHAIN = 10,         /* two nodes, the second on what the first gives: gives what the second gives */
+    WOSTHILE_NODE_REGROUP_RIGHT = 11, /* of 3 3 s t r gives 3 s 3 t r */
+    WOSTHILE_NODE_REGROUP_LEFT = 12,  /* of 3 s 3 t r gives 3 3 s t r */
+    WOSTHILE_NODE_SPREAD = 13,        /* of 3 s 4 t r gives 4 3 s t 3 s r */
+    WOSTHILE_NODE_FRONT = 14          /* of s gives 3 0 s */
+};
+
 /*
- * The number in every answer. 1 to 4 speak of a type or a patch, 5 to 7 of a patch alone, 11 to 14 of a slice, 20 of
- * a lent buffer. Where one place has several faults, 4 and 5 come before 1 and 1 before 2; in a slice 11 comes before
- * 12 and 12 before 14. What each says stands in wosthile_sentence.
+ * The number in every answer: 0, or that of a fault. 1 to 4 speak of a type or a patch, 5 to 7 of a patch alone, 11 to
+ * 14 of a slice, 20 of a lent buffer. Where one place has several faults, 4 and 5 come before 1 and 1 before 2; in a
+ * slice 11 comes before 12 and 12 before 14. What each says is in wosthile_sentence.
  */
 enum wosthile_number {
     WOSTHILE_ACCEPTED = 0,
-    WOSTHILE_CUT_SHORT = 1,
-    WOSTHILE_UNLISTED_KIND = 2,
-    WOSTHILE_BYTES_LEFT_OVER = 3,
-    WOSTHILE_TYPE_TOO_LARGE = 4,
-    WOSTHILE_PATCH_TOO_LARGE = 5,
-    WOSTHILE_NOT_NULLABLE = 6,
-    WOSTHILE_WRONG_SHAPE = 7,
-    WOSTHILE_SLICE_CUT_SHORT = 11,
-    WOSTHILE_SLICE_UNLISTED_KIND = 12,
-    WOSTHILE_SLICE_BYTES_LEFT_OVER = 13,
-    WOSTHILE_SLICE_MISPLACED_KIND = 14,
-    WOSTHILE_BUFFER_TOO_SHORT = 20
+    WOSTHILE_FAULT_CUT_SHORT = 1,
+    WOSTHILE_FAULT_UNLISTED = 2,
+    WOSTHILE_FAULT_LEFT_OVER = 3,
+    WOSTHILE_FAULT_TYPE_TOO_LARGE = 4,
+    WOSTHILE_FAULT_TOO_MANY_NODES = 5,
+    WOSTHILE_FAULT_NOT_NULLABLE = 6,
+    WOSTHILE_FAULT_WRONG_SHAPE = 7,
+    WOSTHILE_FAULT_SLICE_CUT_SHORT = 11,
+    WOSTHILE_FAULT_SLICE_UNLISTED = 12,
+    WOSTHILE_FAULT_SLICE_LEFT_OVER = 13,
+    WOSTHILE_FAULT_SLICE_MISPLACED = 14,
+    WOSTHILE_FAULT_NO_ROOM = 20
 };
 
 /* The sentence of a number, for a log or a screen. */
@@ -113,30 +155,30 @@ static inline const char *wosthile_sentence(uint32_t number)
     switch (number) {
     case WOSTHILE_ACCEPTED:
         return "The call was accepted.";
-    case WOSTHILE_CUT_SHORT:
+    case WOSTHILE_FAULT_CUT_SHORT:
         return "A section is longer than the bytes remain, or a tree needs a byte past its section.";
-    case WOSTHILE_UNLISTED_KIND:
+    case WOSTHILE_FAULT_UNLISTED:
         return "A kind byte is not listed.";
-    case WOSTHILE_BYTES_LEFT_OVER:
-        return "Bytes stand after a whole tree in its section, or after the last section.";
-    case WOSTHILE_TYPE_TOO_LARGE:
+    case WOSTHILE_FAULT_LEFT_OVER:
+        return "Bytes follow a whole tree in its section, or follow the last section.";
+    case WOSTHILE_FAULT_TYPE_TOO_LARGE:
         return "A type needs a 256th node.";
-    case WOSTHILE_PATCH_TOO_LARGE:
+    case WOSTHILE_FAULT_TOO_MANY_NODES:
         return "A patch needs a 64th node.";
-    case WOSTHILE_NOT_NULLABLE:
+    case WOSTHILE_FAULT_NOT_NULLABLE:
         return "The type that a silent node carries is not nullable.";
-    case WOSTHILE_WRONG_SHAPE:
+    case WOSTHILE_FAULT_WRONG_SHAPE:
         return "The input of a node lacks the shape that the node takes.";
-    case WOSTHILE_SLICE_CUT_SHORT:
+    case WOSTHILE_FAULT_SLICE_CUT_SHORT:
         return "A slice is cut short: its section or its tree needs more bytes than there are.";
-    case WOSTHILE_SLICE_UNLISTED_KIND:
+    case WOSTHILE_FAULT_SLICE_UNLISTED:
         return "A slice has a kind above 7.";
-    case WOSTHILE_SLICE_BYTES_LEFT_OVER:
+    case WOSTHILE_FAULT_SLICE_LEFT_OVER:
         return "A slice has bytes left over, in its section or after it.";
-    case WOSTHILE_SLICE_MISPLACED_KIND:
+    case WOSTHILE_FAULT_SLICE_MISPLACED:
         return "A slice has a kind that does not belong there, as that of a cue that has come already; "
                "or the first part of a crossing is not complete.";
-    case WOSTHILE_BUFFER_TOO_SHORT:
+    case WOSTHILE_FAULT_NO_ROOM:
         return "The lent buffer, or either of two, is too short for this answer.";
     default:
         return "No operation answers this number.";
@@ -146,7 +188,7 @@ static inline const char *wosthile_sentence(uint32_t number)
 /* The answer of an operation that writes a file. */
 typedef struct {
     uint32_t number; /* 0, or the number of the first fault */
-    size_t written;  /* how many bytes stand at the front of the lent buffer; 0 on a refusal */
+    size_t written;  /* how many bytes are at the front of the lent buffer; 0 on a refusal */
 } wosthile_written;
 
 /* The answer of wosthile_admit. */
@@ -158,8 +200,8 @@ typedef struct {
 /* The answer of wosthile_feed. */
 typedef struct {
     uint32_t number; /* 0, or the number of the first fault */
-    size_t output;   /* how many bytes stand at the front of the output buffer; 0 on a refusal */
-    size_t patch;    /* how many bytes stand at the front of the buffer for the patch left; 0 on a refusal */
+    size_t output;   /* how many bytes are at the front of the output buffer; 0 on a refusal */
+    size_t patch;    /* how many bytes are at the front of the buffer for the patch left; 0 on a refusal */
 } wosthile_fed;
 
 /*
@@ -172,7 +214,7 @@ typedef struct {
 wosthile_written wosthile_check(const uint8_t *patch, size_t patch_len, uint8_t *type, size_t type_len);
 
 /*
- * Is the file at slice a slice of the type whose file stands at type, and is it complete?
+ * Is the file at slice a slice of the type whose file is at type, and is it complete?
  * Refuses the type with 1 to 4, then the slice with 11 to 14.
  */
 wosthile_admitted wosthile_admit(const uint8_t *type, size_t type_len, const uint8_t *slice, size_t slice_len);
@@ -252,6 +294,21 @@ wosthile_written wosthile_join(const uint8_t *type, size_t type_len, const uint8
  */
 wosthile_fed wosthile_feed(const uint8_t *patch, size_t patch_len, const uint8_t *slice, size_t slice_len,
                            uint8_t *output, size_t output_len, uint8_t *left, size_t left_len);
+
+/*
+ * The WOSTHILE_ABI that the archive was built for, for callers that do not include this header.
+ *
+ * A caller that does include it cannot be linked with an archive of another ABI, which would take and give structs of
+ * another size: the header refers to a function whose name has the number, and only the right archive has it.
+ */
+uint32_t wosthile_abi(void);
+
+#define WOSTHILE_WITH_NUMBER(name, number) name##number
+#define WOSTHILE_NAMED_FOR(name, number) WOSTHILE_WITH_NUMBER(name, number)
+#define WOSTHILE_ABI_FUNCTION WOSTHILE_NAMED_FOR(wosthile_abi_, WOSTHILE_ABI)
+
+uint32_t WOSTHILE_ABI_FUNCTION(void);
+__attribute__((used)) static uint32_t (*const wosthile_abi_needed)(void) = WOSTHILE_ABI_FUNCTION;
 
 /* The layout that the archive was built for. */
 #ifdef __cplusplus

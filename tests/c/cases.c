@@ -268,7 +268,7 @@ static void check_room(enum writing operation, const struct writing_row *row, si
     uint8_t *memory = lent_memory(room);
     uint8_t *buffer = room > 0 ? memory + MARGIN : NULL;
     bool fits = row->number == WOSTHILE_ACCEPTED && room >= row->answer.count;
-    uint32_t number = row->number == WOSTHILE_ACCEPTED && !fits ? WOSTHILE_BUFFER_TOO_SHORT : row->number;
+    uint32_t number = row->number == WOSTHILE_ACCEPTED && !fits ? WOSTHILE_FAULT_NO_ROOM : row->number;
     struct bytes expected = {fits ? row->answer.at : NULL, fits ? row->answer.count : 0};
     wosthile_written answer = call(operation, row, copies, buffer, room);
     bool right = answer.number == number && answer.written == expected.count && holds(memory, room, expected);

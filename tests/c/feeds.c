@@ -125,7 +125,7 @@ static void check_rooms(const struct feed_row *row, size_t output_room, size_t l
     uint8_t *left = left_room > 0 ? left_memory + MARGIN : NULL;
     bool accepted = row->number == WOSTHILE_ACCEPTED;
     bool fits = accepted && output_room >= row->output.count && left_room >= row->left.count;
-    uint32_t number = accepted && !fits ? WOSTHILE_BUFFER_TOO_SHORT : row->number;
+    uint32_t number = accepted && !fits ? WOSTHILE_FAULT_NO_ROOM : row->number;
     struct bytes sent = fits ? row->output : none, remaining = fits ? row->left : none;
     wosthile_fed answer =
         wosthile_feed(patch, row->patch.count, slice, row->slice.count, output, output_room, left, left_room);

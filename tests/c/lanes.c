@@ -21,7 +21,7 @@ struct part {
 struct trial {
     uint64_t random;
     unsigned chance; /* of eight, that something comes where it can */
-    struct part parts[TYPE_NODES_MAX];
+    struct part parts[WOSTHILE_TYPE_NODES_MAX];
     size_t count;
     unsigned lanes;
     uint8_t slice[WOSTHILE_SLICE_FILE_MAX];
@@ -80,10 +80,10 @@ static void draw_leaf(struct trial *trial, struct part *part)
 static bool is_complete(const struct trial *trial, size_t at)
 {
     const struct part *part = &trial->parts[at];
-    if (part->kind < TYPE_SEQUENCE) {
+    if (part->kind < WOSTHILE_TYPE_SEQUENCE) {
         return part->kind == 0 || part->done;
     }
-    bool first = part->kind == TYPE_SEQUENCE ? part->done : is_complete(trial, at + 1);
+    bool first = part->kind == WOSTHILE_TYPE_SEQUENCE ? part->done : is_complete(trial, at + 1);
     return first && is_complete(trial, part->second);
 }
 
@@ -91,12 +91,12 @@ static bool is_complete(const struct trial *trial, size_t at)
 static void draw_slice(struct trial *trial, size_t at)
 {
     struct part *part = &trial->parts[at];
-    if (part->kind < TYPE_SEQUENCE) {
+    if (part->kind < WOSTHILE_TYPE_SEQUENCE) {
         draw_leaf(trial, part);
         return;
     }
     size_t kind_at = trial->length;
-    bool sequence = part->kind == TYPE_SEQUENCE, crossed = sequence && part->done;
+    bool sequence = part->kind == WOSTHILE_TYPE_SEQUENCE, crossed = sequence && part->done;
     if (!crossed) {
         put(trial, sequence ? 5 : 7);
         draw_slice(trial, at + 1);

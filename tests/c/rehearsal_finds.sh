@@ -11,7 +11,8 @@ program=$folder/rehearsal
 log=$folder/log
 
 gcc -std=c11 -O1 -g -Wall -Wextra -Werror -pedantic -fsanitize=address,undefined -fno-sanitize-recover=all -Iinclude \
-    -Wl,--wrap=wosthile_feed examples/rehearsal.c examples/show.c tests/c/losing_feed.c "$archive" -o "$program" || exit 1
+    -Iexamples/shared -pthread -Wl,--wrap=wosthile_feed examples/rehearsal.c examples/shared/*.c tests/c/losing_feed.c "$archive" \
+    -o "$program" || exit 1
 
 # Rehearses a show with a feed that loses something, or with the right one: expect STATUS WORDS SHOW [LOSING].
 failed=0

@@ -27,19 +27,16 @@ holds() {
     fi
 }
 
-# build PROGRAM SOURCES
+# A program is one file and what all programs share: build PROGRAM SOURCE
 build() {
-    local program=$1
-    shift
-    "$compiler" -std=c11 -Wall -Wextra -Werror -pedantic -Iinclude -Iexamples -pthread "${words[@]}" "$@" \
-        -o "$folder/$program"
+    "$compiler" -std=c11 -Wall -Wextra -Werror -pedantic -Iinclude -Iexamples/shared -pthread "${words[@]}" "$2" \
+        examples/shared/*.c "$archive" -o "$folder/$1"
 }
 
-holds "build make_shows" build make_shows examples/make_shows.c
-holds "build frame_loop" build frame_loop examples/frame_loop.c examples/show.c examples/lanes.c "$archive"
-holds "build rehearsal" build rehearsal examples/rehearsal.c examples/show.c "$archive"
-holds "build timeline" build timeline examples/timeline.c examples/show.c examples/lanes.c "$archive"
-holds "build the test of lanes" build lanes tests/c/lanes.c examples/show.c examples/lanes.c "$archive"
+for program in make_shows frame_loop rehearsal timeline; do
+    holds "build $program" build "$program" "examples/$program.c"
+done
+holds "build the test of lanes" build lanes tests/c/lanes.c
 [ "$failed" -eq 0 ] || exit 1
 
 # The shipped shows are what make_shows writes, byte for byte, and there are no others.

@@ -7,6 +7,7 @@ use crate::left;
 use meaning::Admitted;
 use meaning::Fed;
 use meaning::Written;
+ghost use mathlib.Core.Path.{_≡_};
 ghost use Rattle.meaning.specs.Promises.{CheckPromise, AdmitPromise, LeftPromise, JoinPromise, FeedPromise};
 
 #[no_mangle]
@@ -42,4 +43,20 @@ pub extern "C" fn wosthile_feed(patch: &[u8], slice: &[u8], out: &mut [u8], next
     ensures { λ r. ⌜ FeedPromise (now (patch .entry)) (now (slice .entry)) (now (out .entry)) (now (next .entry)) r (now (out .exit)) (now (next .exit)) ⌝ }
 {
     feed(patch, slice, out, next)
+}
+
+// The binary interface that a program is built for: WOSTHILE_ABI of the header.
+#[no_mangle]
+pub extern "C" fn wosthile_abi() -> u32
+    ensures { λ r. ⌜ r ≡ 1 ⌝ }
+{
+    1
+}
+
+// Named for the number, so that a program built for another interface does not link.
+#[no_mangle]
+pub extern "C" fn wosthile_abi_1() -> u32
+    ensures { λ r. ⌜ r ≡ 1 ⌝ }
+{
+    wosthile_abi()
 }

@@ -12,10 +12,7 @@
 #include <wosthile.h>
 
 /* A type of 255 nodes has 128 leaves. Each of its nodes brings one event at most in the whole show. */
-enum { LANES_MAX = 128, TYPE_NODES_MAX = 255, LANE_NAME_BYTES = 64 };
-
-/* The kinds of a type that the programs have to tell apart. */
-enum { TYPE_EMPTY = 0, TYPE_SEQUENCE = 3, TYPE_BESIDE = 4 };
+enum { LANES_MAX = 128, LANE_NAME_BYTES = 64 };
 
 /* Lanes that stand next to one another. */
 struct lane_range {
@@ -33,7 +30,7 @@ struct lane_event {
 /* In the order in which a stream brings them: a crossing stands behind its first part and before its second. */
 struct lane_events {
     size_t count;
-    struct lane_event list[TYPE_NODES_MAX];
+    struct lane_event list[WOSTHILE_TYPE_NODES_MAX];
 };
 
 /* A node of the starting type: the lanes below it and, if it is a fork, where its second part stands. */
@@ -46,10 +43,10 @@ struct start_node {
 struct lanes {
     unsigned count;
     size_t start_nodes;
-    struct start_node start[TYPE_NODES_MAX];
+    struct start_node start[WOSTHILE_TYPE_NODES_MAX];
     size_t nodes;                         /* of the type in force */
     uint8_t type[WOSTHILE_TYPE_FILE_MAX]; /* its file */
-    uint8_t origin[TYPE_NODES_MAX];       /* for each of its nodes, the node of the starting type that it is */
+    uint8_t origin[WOSTHILE_TYPE_NODES_MAX];       /* for each of its nodes, the node of the starting type that it is */
 };
 
 /* Begins with a type file; false if it is not one, or is cut or too large. */

@@ -1,6 +1,5 @@
 #include "show.h"
 
-#include <errno.h>
 #include <stdio.h>
 #include <stdlib.h>
 
@@ -125,12 +124,4 @@ void show_arrivals(uint64_t seed, size_t count, size_t *arrivals)
         latest = frame > latest ? frame : latest;
         arrivals[index] = latest;
     }
-}
-
-bool read_number(const char *word, uint64_t *number)
-{
-    char *behind;
-    errno = 0;
-    *number = strtoull(word, &behind, 10);
-    return word[0] >= '0' && word[0] <= '9' && *behind == '\0' && errno == 0;
 }

@@ -5,13 +5,11 @@
 #include <stdlib.h>
 #include <string.h>
 
-enum { CUE_COME = 2, LEVEL_COME = 4, IN_FIRST = 5, CROSSED = 6 };
-
 /* Reads the part that begins at a node, and notes the lanes below it. False if the bytes end before the part does. */
 static bool read_part(struct lanes *lanes, struct file type, size_t *node)
 {
     size_t here = *node;
-    if (here >= TYPE_NODES_MAX || 2 + here >= type.length || type.bytes[2 + here] > TYPE_BESIDE) {
+    if (here >= WOSTHILE_TYPE_NODES_MAX || 2 + here >= type.length || type.bytes[2 + here] > WOSTHILE_TYPE_BESIDE) {
         return false;
     }
     struct start_node *start = &lanes->start[here];
@@ -19,7 +17,7 @@ static bool read_part(struct lanes *lanes, struct file type, size_t *node)
     start->kind = lanes->type[2 + here] = kind;
     lanes->origin[here] = (uint8_t)here;
     ++*node;
-    if (kind < TYPE_SEQUENCE) {
+    if (kind < WOSTHILE_TYPE_SEQUENCE) {
         lanes->count++;
         start->lanes = (struct lane_range){lanes->count, lanes->count};
         return true;
@@ -86,7 +84,7 @@ static size_t next_node(struct walk *walk)
 /* Leaves a node; there are never more left than the walk has passed, since what a crossing drops is taken back. */
 static void leave(struct walk *walk, uint8_t kind, uint8_t origin)
 {
-    if (walk->left >= TYPE_NODES_MAX) {
+    if (walk->left >= WOSTHILE_TYPE_NODES_MAX) {
         walk->astray = true;
         return;
     }
@@ -97,7 +95,7 @@ static void leave(struct walk *walk, uint8_t kind, uint8_t origin)
 
 static void report(struct walk *walk, struct lane_event event)
 {
-    if (walk->events->count < TYPE_NODES_MAX) {
+    if (walk->events->count < WOSTHILE_TYPE_NODES_MAX) {
         walk->events->list[walk->events->count++] = event;
     }
 }
@@ -109,7 +107,7 @@ static void leave_part(struct walk *walk)
         size_t node = next_node(walk);
         uint8_t kind = walk->before->type[2 + node];
         leave(walk, kind, walk->before->origin[node]);
-        parts += kind >= TYPE_SEQUENCE ? 2 : 0;
+        parts += kind >= WOSTHILE_TYPE_SEQUENCE ? 2 : 0;
     }
 }
 
@@ -117,21 +115,21 @@ static void walk_leaf(struct walk *walk, uint8_t kind, uint8_t origin)
 {
     unsigned lane = walk->before->start[origin].lanes.first;
     uint8_t come = next_byte(walk);
-    if (come == CUE_COME) {
+    if (come == WOSTHILE_SLICE_CUE_COME) {
         report(walk, (struct lane_event){.kind = EVENT_CUE, .lane = lane});
-    } else if (come == LEVEL_COME) {
+    } else if (come == WOSTHILE_SLICE_LEVEL_COME) {
         unsigned high = next_byte(walk);
         report(walk, (struct lane_event){.kind = EVENT_LEVEL, .lane = lane, .value = high * 256 + next_byte(walk)});
     }
-    leave(walk, come == CUE_COME || come == LEVEL_COME ? TYPE_EMPTY : kind, origin);
+    leave(walk, come == WOSTHILE_SLICE_CUE_COME || come == WOSTHILE_SLICE_LEVEL_COME ? WOSTHILE_TYPE_EMPTY : kind, origin);
 }
 
 static void walk_part(struct walk *walk);
 
 static void walk_sequence(struct walk *walk, uint8_t origin)
 {
-    if (next_byte(walk) != CROSSED) {
-        leave(walk, TYPE_SEQUENCE, origin);
+    if (next_byte(walk) != WOSTHILE_SLICE_CROSSED) {
+        leave(walk, WOSTHILE_TYPE_SEQUENCE, origin);
         walk_part(walk);
         leave_part(walk);
         return;
@@ -152,9 +150,9 @@ static void walk_part(struct walk *walk)
         return;
     }
     uint8_t kind = walk->before->type[2 + node], origin = walk->before->origin[node];
-    if (kind < TYPE_SEQUENCE) {
+    if (kind < WOSTHILE_TYPE_SEQUENCE) {
         walk_leaf(walk, kind, origin);
-    } else if (kind == TYPE_SEQUENCE) {
+    } else if (kind == WOSTHILE_TYPE_SEQUENCE) {
         walk_sequence(walk, origin);
     } else {
         next_byte(walk);
@@ -311,8 +309,8 @@ void lanes_print_owed(const struct lanes *lanes, const struct side_names *names)
     size_t crossings = 0, owed = 0;
     for (size_t node = 0; node < lanes->nodes; node++) {
         uint8_t kind = lanes->type[2 + node];
-        crossings += kind == TYPE_SEQUENCE;
-        if (kind != TYPE_EMPTY && kind < TYPE_SEQUENCE) {
+        crossings += kind == WOSTHILE_TYPE_SEQUENCE;
+        if (kind != WOSTHILE_TYPE_EMPTY && kind < WOSTHILE_TYPE_SEQUENCE) {
             printf(owed++ == 0 ? "The input is not complete; still owed: \"%s\"" : ", \"%s\"",
                    names->of[lanes->start[lanes->origin[node]].lanes.first]);
         }

@@ -40,7 +40,4 @@ uint64_t next_random(uint64_t *state);
  */
 void show_arrivals(uint64_t seed, size_t count, size_t *arrivals);
 
-/* Reads a word of the command line that is a number and nothing else. */
-bool read_number(const char *word, uint64_t *number);
-
 #endif

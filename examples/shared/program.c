@@ -1,0 +1,81 @@
+#define _POSIX_C_SOURCE 200809L /* for flockfile */
+#include "program.h"
+
+#include <errno.h>
+#include <stdarg.h>
+#include <stdio.h>
+#include <stdlib.h>
+#include <string.h>
+
+/* The help of the program that runs, whose first word is its name and whose first line has its words. */
+static const char *program_help = "";
+
+void program_begin(const char *help, int count, char *const *words)
+{
+    program_help = help;
+    for (int index = 1; index < count; index++) {
+        if (strcmp(words[index], "--help") == 0) {
+            fputs(help, stdout);
+            exit(program_end(STATUS_DONE));
+        }
+    }
+}
+
+static void tell_list(const char *format, va_list list)
+{
+    flockfile(stderr); /* so that another thread's message is not printed into this one */
+    fprintf(stderr, "%.*s: ", (int)strcspn(program_help, " \n"), program_help);
+    vfprintf(stderr, format, list);
+    fputc('\n', stderr);
+    funlockfile(stderr);
+}
+
+void tell(const char *format, ...)
+{
+    va_list list;
+    va_start(list, format);
+    tell_list(format, list);
+    va_end(list);
+}
+
+void stop(const char *format, ...)
+{
+    va_list list;
+    va_start(list, format);
+    tell_list(format, list);
+    va_end(list);
+    exit(STATUS_UNUSABLE);
+}
+
+void stop_for_words(void)
+{
+    stop("the words are: %.*s (--help says more)", (int)strcspn(program_help, "\n"), program_help);
+}
+
+int program_end(enum status status)
+{
+    bool failed = ferror(stdout) != 0;
+    errno = 0;
+    if (fclose(stdout) != 0 || failed) {
+        tell("standard output cannot be written%s%s", errno == 0 ? "" : ": ", errno == 0 ? "" : strerror(errno));
+        return STATUS_UNUSABLE;
+    }
+    return status;
+}
+
+bool read_number(const char *word, uint64_t *number)
+{
+    char *behind;
+    errno = 0;
+    *number = strtoull(word, &behind, 10);
+    return word[0] >= '0' && word[0] <= '9' && *behind == '\0' && errno == 0;
+}
+
+void *memory(size_t count, size_t size)
+{
+    void *bytes = calloc(count, size);
+    if (bytes == NULL) {
+        stop("there is not enough memory");
+    }
+    return bytes;
+}
