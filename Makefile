@@ -16,6 +16,7 @@
 # make install   archive, header and wosthile.pc: make install PREFIX=/usr/local DESTDIR=
 # make clean     removes all that was built
 
+SHELL = /bin/bash
 SHOW = examples/shows/comet_to_saturn.show
 CUTS = 1000
 SEEDS = 0 19
@@ -67,12 +68,17 @@ example: target/calls
 # Specifications and proofs change no byte of the archive or the program.
 SOURCES = crates.txt $(shell find crates -name '*.rt')
 $(ARCHIVE): $(SOURCES)
-	rt staticlib wosthile
-	touch $@
+	@$(call proving, rt staticlib wosthile)
+	@touch $@
 
 $(RUNNER): $(SOURCES)
-	rt check runner
-	touch $@
+	@$(call proving, rt check runner)
+	@touch $@
+
+# The prover's log goes to a file, and a line for each crate to the screen; of a failure the end of the log too.
+PROVER_LOG = target/prover.log
+proving = mkdir -p target; echo '$(strip $(1)), with its log in $(PROVER_LOG):'; set -o pipefail; \
+	$(1) 2>&1 | tee $(PROVER_LOG) | sed -n 's/^rt: /  /p' || { tail -n 40 $(PROVER_LOG); exit 1; }
 
 # A program is one file and what all programs share.
 SHARED = $(wildcard examples/shared/*.c)
@@ -97,7 +103,7 @@ install: $(ARCHIVE)
 	install -d $(DESTDIR)$(PREFIX)/lib/pkgconfig $(DESTDIR)$(PREFIX)/include
 	install -m 644 $(ARCHIVE) $(DESTDIR)$(PREFIX)/lib
 	install -m 644 include/wosthile.h $(DESTDIR)$(PREFIX)/include
-	sed -e 's|@PREFIX@|$(PREFIX)|' -e "s|@ABI@|$$(sed -n 's/^#define WOSTHILE_ABI //p' include/wosthile.h)|" \
+	sed -e 's|@PREFIX@|$(PREFIX)|' -e "s|@RELEASE@|$$(sed -n 's/^#define WOSTHILE_RELEASE "\(.*\)"/\1/p' include/wosthile.h)|" \
 		wosthile.pc.in >$(DESTDIR)$(PREFIX)/lib/pkgconfig/wosthile.pc
 	chmod 644 $(DESTDIR)$(PREFIX)/lib/pkgconfig/wosthile.pc
 
