@@ -1,18 +1,14 @@
 -- What Check comes to, by its two passes, and what it has to write.
-use mathlib.Core.Path.{_≡_, sym, ap, _∙_}
-use mathlib.Core.List.{List, []}
+use mathlib.Core.Path.{_≡_, sym, _∙_}
+use mathlib.Core.List.{List}
 use Prim.Native.Nat.{ℕ, _+_, _≤_}
 use native.Mathlib.Omega.{arith}
-use lib.ListN.{length, take}
-use lib.Seq.{length-take-le}
+use lib.ListN.{length}
 use Rattle.stream.specs.declared.Fault.{Fault}
 use Rattle.stream.specs.Types.{Ty}
-use Rattle.stream.specs.Types.Laws.{limit-is}
-use Rattle.stream.specs.Reading.{accepted, refused, section-bytes}
-use Rattle.stream.specs.Buffers.{at-front}
-use Rattle.stream.specs.TypeFiles.{type-bytes, type-file-bytes}
-use Rattle.reading.specs.TypeReads.Laws.{bytes-at, type-width}
-use Rattle.writing.specs.Writing.Standing.{type-file-size, written-stands}
+use Rattle.stream.specs.Reading.{accepted, refused}
+use Rattle.stream.specs.TypeFiles.{type-file-bytes}
+use Rattle.writing.specs.Writing.Standing.{type-file-size, TypeHeld, type-held}
 use Rattle.node.specs.Checking.{typing}
 use Rattle.node.specs.PatchFiles.{first-pass, second-pass, patch-file}
 use Rattle.patch_reading.specs.declared.PatchPlace.{PatchPlace}
@@ -31,14 +27,12 @@ pub not-read : (file : List ℕ) {e : Fault} → first-pass file ≡ refused e �
 unfolding check patch-file
 not-read file h = rw h
 
--- A type of `many` nodes is given, and its bytes stand at the front of the work array `given`.
+-- A type of `many` nodes is given, and is held by the work array `given`.
 pub record TypeGiven (file given : List ℕ) (many : ℕ) : Type 0 where
   pub output : Ty
   pub is-typed : check file ≡ accepted (type-file-bytes output)
-  pub small : many ≤ 255
-  pub inside : many ≤ length given
+  pub held : TypeHeld output given many
   pub long : length (type-file-bytes output) ≡ 2 + many
-  pub bytes : take many given ≡ type-bytes output []
 
 module _ {file : List ℕ} {place : PatchPlace} (read : AcceptedPatch file place) {end-due : ℕ} {lent given : List ℕ} {answer : Typed}
     (answers : Answers end-due (typing (read .patch .input) (read .patch .node)) lent given answer) where
@@ -55,24 +49,9 @@ module _ {file : List ℕ} {place : PatchPlace} (read : AcceptedPatch file place
       go gives =
           let t = gives .type in
           let small = typing-small _ _ (read .node-at .carries) (gives .given) in
-          let at-front = answers .writes t (gives .given) .in-front (omega (arith, type-width t, small, limit-is)) in
           record {
             output = t;
             is-typed = rw (read .is-accepted, gives .given);
-            small = omega (arith, gives .sized, small, limit-is);
-            inside = omega (arith, gives .sized, small, limit-is, answers .long);
+            held = type-held t small room (answers .writes t (gives .given)) many (gives .sized);
             long = omega (arith, gives .sized, type-file-size t);
-            bytes = rw (gives .sized) (bytes-at (written-stands t lent at-front small));
           }
-
--- The section of those bytes is the file of the type.
-module _ {file given : List ℕ} {many : ℕ} (t : TypeGiven file given many) where
-  pub type-section-due : (out : List ℕ) → 2 + many ≤ length out → (length (take many given) ≤ 65535) × (2 + length (take many given) ≤ length out)
-  type-section-due out room =
-      let long : length (take many given) ≡ many = length-take-le many given (t .inside) in
-      (omega (arith, long, t .small), omega (arith, long))
-
-  pub type-section-written : (out : List ℕ) {out-after : List ℕ} → out-after ≡ at-front (section-bytes (take many given) []) out
-      → out-after ≡ at-front (type-file-bytes (t .output)) out
-  unfolding type-file-bytes
-  type-section-written out e = e ∙ ap (λ body. at-front (section-bytes body []) out) (t .bytes)

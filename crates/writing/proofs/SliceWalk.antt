@@ -309,20 +309,6 @@ forks-on =
     & (λ h. refl)
     & past (λ k l h. refl))
 
--- Which kinds have parts.
-pub with-parts : (k : ℕ) → k ≤ 7 → (prefix-arity k ≡ 0 → ⊥) → (k ≡ 5 → ⊥) → (k ≡ 6 → ⊥) → k ≡ 7
-with-parts =
-    every (λ k j. k ≤ 7 → (j ≡ 0 → ⊥) → (k ≡ 5 → ⊥) → (k ≡ 6 → ⊥) → k ≡ 7) 2 prefix-arities
-    ((λ l parts five six. absurd (parts refl))
-    & (λ l parts five six. absurd (parts refl))
-    & (λ l parts five six. absurd (parts refl))
-    & (λ l parts five six. absurd (parts refl))
-    & (λ l parts five six. absurd (parts refl))
-    & (λ l parts five six. absurd (five refl))
-    & (λ l parts five six. absurd (six refl))
-    & (λ l parts five six. refl)
-    & past (λ k long l parts five six. absurd (omega arith)))
-
 -- A kind with parts is read as its first part and what is behind it.
 parts-of : (t : Ty) (c d : Bool) (budget : ℕ) (s r : List ℕ) (k : ℕ) → (prefix-arity k ≡ 0 → ⊥) → k ≤ 7 → d ≡ first-complete k c
     → prefix-root (owed t c) s ≡ kind-root k t c r

@@ -132,13 +132,15 @@ fn walk_prefix(
                 let second = walk_prefix(types, type_end, slice, prefix_end, complete, left);
                 crossed(prefix, second)
             }
-            // This is 7: no other kind has parts.
-            _ => {
+            7 => {
                 let rest = within(1 + prefix.remains, left.len());
                 let other = &mut left[rest..];
                 let second = walk_prefix(types, type_end, slice, prefix_end, complete, other);
                 beside(prefix, second)
             }
+            // These have no parts, or are no slice's kinds: both were told above.
+            0..=4 => Walk::Failed(Fault::SliceMisplaced),
+            8..=255 => Walk::Failed(Fault::SliceUnlisted),
         },
     }
 }

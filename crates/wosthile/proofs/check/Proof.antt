@@ -9,8 +9,9 @@ use lib.Seq.{length-take-le}
 use Rattle.stream.specs.TypeFiles.{type-file-bytes}
 use Rattle.patch_reading.specs.PatchReads.Standing.{patch-accepted, patch-refused}
 use Rattle.patch_reading.specs.PatchReads.{AcceptedPatch}
+use Rattle.writing.specs.Writing.Standing.{section-due, section-written}
 use Rattle.wosthile.proofs.Keeping.{refusal-keeps, shortage-keeps, file-keeps}
-use Rattle.wosthile.proofs.CheckOutcome.{typing-due, not-read, TypeGiven, not-typed, type-given, type-section-due, type-section-written}
+use Rattle.wosthile.proofs.CheckOutcome.{typing-due, not-read, TypeGiven, not-typed, type-given}
 use Rattle.wosthile.proofs.check.Statement.{statement}
 use Rattle.wosthile.proofs.check.Tie as tie
 
@@ -82,7 +83,7 @@ abbrev out-of : tie.After-known-told4 → List ℕ
 out-of c = entry-before-known-told4 c .args .out .now
 
 add-needed : tie.Need-add-needed
-add-needed c = omega (arith, type-of c .small)
+add-needed c = omega (arith, type-of c .held .small)
 
 refused-requires-3 : tie.Need-refused-requires-3
 refused-requires-3 c κs = search needs
@@ -93,13 +94,13 @@ returns c =
     rw (c .refused3 .ensures) (shortage-keeps _ (type-file-bytes (t .output)) (t .is-typed) (omega (arith, t .long)))
 
 array-share-prefix-given : tie.Need-array-share-prefix-given
-array-share-prefix-given c = type-of (c .before) .inside
+array-share-prefix-given c = type-of (c .before) .held .inside
 
 slice-aggregate-write-section : tie.Need-slice-aggregate-write-section
-slice-aggregate-write-section c = sym (length-take-le _ _ (type-of (c .before .before) .inside))
+slice-aggregate-write-section c = sym (length-take-le _ _ (type-of (c .before .before) .held .inside))
 
 write-section-requires : tie.Need-write-section-requires
-write-section-requires c κs = type-section-due (type-of (c .before .before .before)) (out-of (c .before .before .before)) (omega arith)
+write-section-requires c κs = section-due (type-of (c .before .before .before) .held) (out-of (c .before .before .before)) (omega arith)
 
 returns-2 : tie.Need-returns-2
 returns-2 c =
@@ -120,7 +121,7 @@ returns-4 : tie.Need-returns-4
 returns-4 c =
     let t = type-of (known-told4-before-slice-known2 c) in
     file-keeps _ (type-file-bytes (t .output)) (t .is-typed) (omega (arith, t .long)) (sym (t .long))
-    (type-section-written t _ (c .before .before .write-section .ensures))
+    (section-written (t .held) _ (c .before .before .write-section .ensures))
 
 pub check-spec : {M : Type 1} → statement M
 check-spec =

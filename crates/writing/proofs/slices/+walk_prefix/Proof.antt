@@ -8,9 +8,11 @@ use mathlib.Core.Path.{_≡_, refl, sym, _∙_}
 use Prim.Native.Nat.{ℕ, _-_, _<_, _≤_}
 use lib.ListN.{length, getD}
 use Rattle.stream.specs.Types.Laws.{limit-is}
+use Rattle.stream.specs.Tables.{shared}
+use Rattle.stream.specs.Prefixes.Kinds.{prefix-arities}
 use Rattle.reading.specs.TypeReads.{SomeTypeAt}
 use Rattle.reading.specs.TypeReads.Laws.{starts-inside}
-use Rattle.writing.proofs.SliceWalk.{cut-short, unlisted, misplaced, Begins, Forks, with-parts, first-stands, first-failed, first-came, second-stands, further, first-sums, both-sums, split, stands}
+use Rattle.writing.proofs.SliceWalk.{cut-short, unlisted, misplaced, Begins, Forks, first-stands, first-failed, first-came, second-stands, further, first-sums, both-sums, split, stands}
 use Rattle.writing.proofs.SliceLeft.{answered-as, stopped, leaf-leaving, first-long, HalfLeft, second-due, still-first-leaving, crossing-leaving, both-leaving}
 use borrow.Fn.Kinds.{In}
 use borrow.Fn.PlainCycle.{Measures, is, falls, and}
@@ -301,14 +303,6 @@ module _ (t : ℕ) where
   same-length-4 : lts.Need-same-length-4 calls here walk-prefix.Post
   same-length-4 c = returns-7 c .long
 
-  -- No other kind has parts.
-  seven : (c : lts.At-match2-rest calls here walk-prefix.Post)
-      → let z = entry-before-type-end (c .before .before) in
-      getD (z .args .slice .now) (z .args .place) 0 ≡ 7
-  seven c =
-      let forks = half (c .before .before) .halfway .forks in
-      with-parts _ (forks .begins .listed) (forks .parts) (λ five. omega (arith, c .match2 .rest)) (λ six. omega (arith, c .match2 .rest))
-
   add-within : lts.Need-add-within calls here walk-prefix.Post
   add-within c =
       let h = half (c .before .before .before) .halfway in
@@ -339,10 +333,28 @@ module _ (t : ℕ) where
       let second = c .before .before .before in
       let within = second .before .before in
       rw (c .beside .ensures)
-      (both-leaving (half (type-end-before-within within)) (seven (within .before .before)) (within .within .ensures) _ (second .walk-prefix3 .ensures))
+      (both-leaving (half (type-end-before-within within)) (within .before .before .match2 .keys3) (within .within .ensures) _ (second .walk-prefix3 .ensures))
 
   same-length-5 : lts.Need-same-length-5 calls here walk-prefix.Post
   same-length-5 c = returns-8 c .long
+
+  -- No other kind has parts, or is listed.
+
+  returns-9 : lts.Need-returns-9 calls here walk-prefix.Post
+  returns-9 c =
+      let half-way = c .before .before .before in
+      let forks = half half-way .halfway .forks in
+      let z = entry-before-type-end half-way in
+      absurd (forks .parts (sym (shared prefix-arities 2 0 5 refl (getD (z .args .slice .now) (z .args .place) 0) (omega arith) (omega arith))))
+
+  same-length-6 : lts.Need-same-length-6 calls here walk-prefix.Post
+  same-length-6 c = returns-9 c .long
+
+  returns-10 : lts.Need-returns-10 calls here walk-prefix.Post
+  returns-10 c = absurd (omega (arith, half (c .before .before .before) .halfway .forks .begins .listed))
+
+  same-length-7 : lts.Need-same-length-7 calls here walk-prefix.Post
+  same-length-7 c = returns-10 c .long
 
   -- The walk through the first part failed.
 
@@ -406,3 +418,7 @@ pub +walk-prefix-spec : {M : Type 1} → statement M
     (returns-7 t)
     (same-length-5 t)
     (returns-8 t)
+    (same-length-6 t)
+    (returns-9 t)
+    (same-length-7 t)
+    (returns-10 t)
