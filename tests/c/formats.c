@@ -14,7 +14,7 @@
 
 enum { STATUS_DIFFERENCE = 1, STATUS_UNUSABLE = 2 };
 
-/* Reading a line. Each function begins behind blanks, and a false answer of the first five moves nothing. */
+/* Reading a line. Each of these skips blanks; where the answer is false, nothing else was read. */
 
 static void skip_blanks(const char **at) { *at += strspn(*at, " "); }
 
@@ -296,7 +296,7 @@ static bool take_example(const char **at, struct example *example)
 /* What the page has, and what of it did not hold. */
 struct page {
     const char *path;
-    size_t line;
+    size_t line; /* that is being read; 0 once all are */
     size_t differences;
     size_t examples[OPERATIONS]; /* that hold */
     bool accepted[OPERATIONS];
@@ -312,7 +312,11 @@ struct page {
 
 static void differs(struct page *page, const char *text, const char *why)
 {
-    fprintf(stderr, "%s:%zu: %s\n    %s\n", page->path, page->line, text, why);
+    fprintf(stderr, "%s", page->path);
+    if (page->line > 0) {
+        fprintf(stderr, ":%zu", page->line);
+    }
+    fprintf(stderr, ": %s\n    %s\n", text, why);
     page->differences++;
 }
 
@@ -521,6 +525,7 @@ static void read_page(struct page *page, char *text)
     if (fence != NULL) {
         differs(page, "```", "the last fence has no end");
     }
+    page->line = 0;
 }
 
 /* The next file of a show, behind its length; false if it does not come whole. */
@@ -621,16 +626,20 @@ static bool number_listed(uint8_t number)
 
 static void demand_all(struct page *page, const char *what, bool (*listed)(uint8_t), const bool met[256])
 {
-    size_t count = 0;
+    size_t count = 0, met_count = 0;
     for (unsigned value = 0; value < 256; value++) {
-        if (listed((uint8_t)value) && !met[value]) {
+        if (!listed((uint8_t)value)) {
+            continue;
+        }
+        count++;
+        met_count += met[value];
+        if (!met[value]) {
             char why[64];
             snprintf(why, sizeof why, "no example for %u holds", value);
             differs(page, what, why);
         }
-        count += listed((uint8_t)value);
     }
-    printf("%s: %zu\n", what, count);
+    printf("%s: %zu, with examples for %zu\n", what, count, met_count);
 }
 
 static size_t demand_operations(struct page *page)
@@ -653,7 +662,7 @@ static void demand_claim(struct page *page, size_t examples)
         char why[128];
         snprintf(why, sizeof why, "%zu examples hold, the show has %zu bytes and the run %zu lines", examples,
                  page->show.count, page->run_lines);
-        differs(page, "the page says otherwise, or not once, how many it has", why);
+        differs(page, "the page does not say once how many examples, bytes and lines it has", why);
     }
     if (page->explained != page->show.count) {
         differs(page, "the dump", "not every byte is explained");
@@ -700,8 +709,9 @@ int main(int words_count, char **words)
     demand_all(&page, "kinds of types", type_kind_listed, page.type_kinds);
     demand_all(&page, "kinds of slices", slice_kind_listed, page.slice_kinds);
     demand_all(&page, "kinds of nodes", node_kind_listed, page.node_kinds);
-    printf("the show: %zu bytes, each explained once; %zu lines of its run\n", page.show.count, page.run_lines);
-    printf("%zu differences\n", page.differences);
+    printf("show: %zu bytes, %zu of them explained, and %zu lines of its run\n", page.show.count, page.explained,
+           page.run_lines);
+    printf("differences: %zu\n", page.differences);
     free(text);
     if (fflush(stdout) != 0) {
         return STATUS_UNUSABLE;
