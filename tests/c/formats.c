@@ -687,6 +687,8 @@ static char *page_text(const char *path)
     return text;
 }
 
+static bool all_written(void) { return fflush(stdout) == 0 && !ferror(stdout); }
+
 int main(int words_count, char **words)
 {
     static struct page page = {.line = 1};
@@ -694,7 +696,7 @@ int main(int words_count, char **words)
                                "with the library's.\nExit status: 0 all hold, 1 a difference, 2 no page to read.\n";
     if (words_count == 2 && strcmp(words[1], "--help") == 0) {
         fputs(help, stdout);
-        return fflush(stdout) == 0 ? EXIT_SUCCESS : STATUS_UNUSABLE;
+        return all_written() ? EXIT_SUCCESS : STATUS_UNUSABLE;
     }
     char *text = words_count == 2 ? page_text(words[1]) : NULL;
     if (text == NULL) {
@@ -713,7 +715,7 @@ int main(int words_count, char **words)
            page.run_lines);
     printf("differences: %zu\n", page.differences);
     free(text);
-    if (fflush(stdout) != 0) {
+    if (!all_written()) {
         return STATUS_UNUSABLE;
     }
     return page.differences == 0 ? EXIT_SUCCESS : STATUS_DIFFERENCE;
