@@ -598,24 +598,20 @@ static void compare_run(struct page *page)
 
 /* A kind is listed if the library does not refuse it as unlisted. */
 
-static bool type_kind_listed(uint8_t kind)
+static bool patch_listed(const uint8_t patch[6])
 {
-    const uint8_t patch[] = {0, 1, kind, 0, 1, 0};
     uint8_t type[WOSTHILE_TYPE_FILE_MAX];
-    return wosthile_check(patch, sizeof patch, type, sizeof type).number != WOSTHILE_FAULT_UNLISTED;
+    return wosthile_check(patch, 6, type, sizeof type).number != WOSTHILE_FAULT_UNLISTED;
 }
+
+static bool type_kind_listed(uint8_t kind) { return patch_listed((const uint8_t[]){0, 1, kind, 0, 1, 0}); }
+
+static bool node_kind_listed(uint8_t kind) { return patch_listed((const uint8_t[]){0, 1, 0, 0, 1, kind}); }
 
 static bool slice_kind_listed(uint8_t kind)
 {
     const uint8_t type[] = {0, 1, 0}, slice[] = {0, 1, kind};
     return wosthile_admit(type, sizeof type, slice, sizeof slice).number != WOSTHILE_FAULT_SLICE_UNLISTED;
-}
-
-static bool node_kind_listed(uint8_t kind)
-{
-    const uint8_t patch[] = {0, 1, 0, 0, 1, kind};
-    uint8_t type[WOSTHILE_TYPE_FILE_MAX];
-    return wosthile_check(patch, sizeof patch, type, sizeof type).number != WOSTHILE_FAULT_UNLISTED;
 }
 
 /* A number is listed if the header has a sentence for it. */
@@ -669,6 +665,20 @@ static void demand_claim(struct page *page, size_t examples)
     }
 }
 
+/* What the page as a whole has to have; says how much of it there is. */
+static void demand_whole(struct page *page)
+{
+    compare_run(page);
+    demand_claim(page, demand_operations(page));
+    demand_all(page, "numbers", number_listed, page->numbers);
+    demand_all(page, "kinds of types", type_kind_listed, page->type_kinds);
+    demand_all(page, "kinds of slices", slice_kind_listed, page->slice_kinds);
+    demand_all(page, "kinds of nodes", node_kind_listed, page->node_kinds);
+    printf("show: %zu bytes, %zu of them explained, and %zu lines of its run\n", page->show.count, page->explained,
+           page->run_lines);
+    printf("differences: %zu\n", page->differences);
+}
+
 /* The whole page, its last byte 0; NULL if it cannot be read. */
 static char *page_text(const char *path)
 {
@@ -705,15 +715,7 @@ int main(int words_count, char **words)
     }
     page.path = words[1];
     read_page(&page, text);
-    compare_run(&page);
-    demand_claim(&page, demand_operations(&page));
-    demand_all(&page, "numbers", number_listed, page.numbers);
-    demand_all(&page, "kinds of types", type_kind_listed, page.type_kinds);
-    demand_all(&page, "kinds of slices", slice_kind_listed, page.slice_kinds);
-    demand_all(&page, "kinds of nodes", node_kind_listed, page.node_kinds);
-    printf("show: %zu bytes, %zu of them explained, and %zu lines of its run\n", page.show.count, page.explained,
-           page.run_lines);
-    printf("differences: %zu\n", page.differences);
+    demand_whole(&page);
     free(text);
     if (!all_written()) {
         return STATUS_UNUSABLE;
