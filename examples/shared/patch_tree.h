@@ -1,0 +1,46 @@
+/*
+ * A patch as a tree of nodes, each with the type that it takes and the type that it gives. The types are those that
+ * wosthile_check writes for the node on its input, so they are the library's own.
+ */
+#ifndef PATCH_TREE_H
+#define PATCH_TREE_H
+
+#include "kinds.h"
+
+/* A type file in memory of its own; of length 0 where there is none. */
+struct type_at {
+    size_t length;
+    uint8_t bytes[WOSTHILE_TYPE_FILE_MAX];
+};
+
+struct patch_node {
+    uint8_t kind;
+    size_t byte;            /* of the patch file, at which the node begins */
+    size_t end;             /* the byte behind it and its parts */
+    unsigned depth;         /* 0 for the root */
+    size_t part[PARTS_MAX]; /* the nodes that are its parts, node_kind(kind)->parts of them */
+    unsigned value;         /* of a level node */
+    struct type_at carried; /* the type that a silent node carries */
+    struct type_at input;   /* length 0 where an earlier fault leaves it open */
+    struct type_at output;  /* length 0 where the node is refused */
+    uint32_t number;        /* what wosthile_check answers for the node on its input; 0 if its input is open */
+};
+
+struct patch_tree {
+    uint32_t number; /* what wosthile_check answers for the patch; 0 if it is accepted */
+    size_t count;
+    struct patch_node nodes[WOSTHILE_PATCH_NODES_MAX]; /* in preorder; the root first */
+    size_t refused; /* the node at which a patch that was read whole is refused; its own number is then that of the
+                       patch */
+};
+
+/*
+ * Reads a patch: true if it is one whose bytes can be read whole. Then either it is accepted, and each node has both
+ * types; or one of its nodes is refused, since its input lacks the shape, or for a type that it carries or gives.
+ */
+bool patch_tree_read(struct patch_tree *tree, struct file patch);
+
+/* The files of a node's types. */
+static inline struct file type_at_file(const struct type_at *type) { return (struct file){type->bytes, type->length}; }
+
+#endif
