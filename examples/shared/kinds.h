@@ -21,6 +21,7 @@ enum { PARTS_MAX = 2 };
 struct type_kind {
     const char *name;
     unsigned parts;
+    const char *between; /* the word between two parts on a line */
 };
 
 /* A slice of a type's node: how many bytes of a value follow its kind, and of which parts of the type slices follow. */

@@ -5,25 +5,23 @@
 #ifndef PATCH_TREE_H
 #define PATCH_TREE_H
 
+#include "feeding.h"
 #include "kinds.h"
 
-/* A type file in memory of its own; of length 0 where there is none. */
-struct type_at {
-    size_t length;
-    uint8_t bytes[WOSTHILE_TYPE_FILE_MAX];
-};
-
+/* A type of length 0 is none. */
 struct patch_node {
     uint8_t kind;
     size_t byte;            /* of the patch file, at which the node begins */
+    size_t own_end;         /* the byte behind its kind and what it carries, where its first part begins */
     size_t end;             /* the byte behind it and its parts */
     unsigned depth;         /* 0 for the root */
     size_t part[PARTS_MAX]; /* the nodes that are its parts, node_kind(kind)->parts of them */
     unsigned value;         /* of a level node */
-    struct type_at carried; /* the type that a silent node carries */
-    struct type_at input;   /* length 0 where an earlier fault leaves it open */
-    struct type_at output;  /* length 0 where the node is refused */
+    struct type carried;    /* the type that a silent node carries */
+    struct type input;      /* length 0 where an earlier fault leaves it open */
+    struct type output;     /* length 0 where the node is refused */
     uint32_t number;        /* what wosthile_check answers for the node on its input; 0 if its input is open */
+    bool takes_input;       /* its input has the shape, and what it carries is allowed; its parts apart */
 };
 
 struct patch_tree {
@@ -39,8 +37,5 @@ struct patch_tree {
  * types; or one of its nodes is refused, since its input lacks the shape, or for a type that it carries or gives.
  */
 bool patch_tree_read(struct patch_tree *tree, struct file patch);
-
-/* The files of a node's types. */
-static inline struct file type_at_file(const struct type_at *type) { return (struct file){type->bytes, type->length}; }
 
 #endif
