@@ -7,6 +7,7 @@
  * it is the show as recorded. --frames draws a part of the show larger.
  */
 #include "feeding.h"
+#include "arrivals.h"
 #include "lanes.h"
 #include "program.h"
 
@@ -509,7 +510,7 @@ static void draw_header(const char *path, struct window window, double height)
 static void draw(const char *path, struct panel *const *panels, size_t count, struct window window)
 {
     struct lane_names names;
-    lane_names_read(&names, path);
+    lane_names_read(&names, path, panels[0]->in.lanes.count, panels[0]->out.lanes.count);
     unsigned lanes = panels[0]->in.lanes.count + panels[0]->out.lanes.count;
     struct drawing drawing = {window, 0, lanes <= 64 ? 17 : 14};
     drawing.frame_width = (double)(PLOT_RIGHT - PLOT_LEFT) / (double)(window.last - window.first + 1);

@@ -121,7 +121,8 @@ static void walk_leaf(struct walk *walk, uint8_t kind, uint8_t origin)
         unsigned high = next_byte(walk);
         report(walk, (struct lane_event){.kind = EVENT_LEVEL, .lane = lane, .value = high * 256 + next_byte(walk)});
     }
-    leave(walk, come == WOSTHILE_SLICE_CUE_COME || come == WOSTHILE_SLICE_LEVEL_COME ? WOSTHILE_TYPE_EMPTY : kind, origin);
+    leave(walk, come == WOSTHILE_SLICE_CUE_COME || come == WOSTHILE_SLICE_LEVEL_COME ? WOSTHILE_TYPE_EMPTY : kind,
+          origin);
 }
 
 static void walk_part(struct walk *walk);
@@ -175,109 +176,6 @@ uint32_t lanes_follow(struct lanes *lanes, struct file slice, struct lane_events
     assert(!walk.astray);
     put_count(lanes, walk.left);
     return WOSTHILE_ACCEPTED;
-}
-
-/* How many bytes the character at the front of a text has in UTF-8; 0 if it is none that can be printed. */
-static size_t character_length(const char *text)
-{
-    const unsigned char *byte = (const unsigned char *)text;
-    if (byte[0] < 0x80) {
-        return byte[0] >= 0x20 && byte[0] != 0x7f;
-    }
-    size_t length = byte[0] >= 0xf0 ? 4 : byte[0] >= 0xe0 ? 3 : 2;
-    uint32_t character = byte[0] & (0xffu >> (length + 1));
-    for (size_t place = 1; place < length; place++) {
-        if ((byte[place] & 0xc0) != 0x80) {
-            return 0;
-        }
-        character = character << 6 | (byte[place] & 0x3f);
-    }
-    static const uint32_t least[5] = {0, 0, 0xa0, 0x800, 0x10000};
-    bool lead = byte[0] >= 0xc2 && byte[0] <= 0xf4;
-    bool surrogate = character >= 0xd800 && character <= 0xdfff;
-    bool listed = character >= least[length] && character <= 0x10ffff && (character & 0xfffe) != 0xfffe;
-    return lead && listed && !surrogate ? length : 0;
-}
-
-void clean_text(char *to, size_t room, const char *text)
-{
-    size_t written = 0;
-    while (*text != '\0') {
-        size_t length = character_length(text);
-        size_t bytes = length == 0 ? 1 : length;
-        if (written + bytes >= room) {
-            break;
-        }
-        memcpy(to + written, length == 0 ? "?" : text, bytes);
-        written += bytes;
-        text += bytes;
-    }
-    to[written] = '\0';
-}
-
-/* The name that a line gives, and its lane as a number; NULL if the line is not of that side or names no lane. */
-static const char *named_lane(const char *line, const char *side, unsigned *lane)
-{
-    size_t length = strlen(side);
-    if (strncmp(line, side, length) != 0) {
-        return NULL;
-    }
-    char *behind;
-    unsigned long number = strtoul(line + length, &behind, 10);
-    if (number < 1 || number > LANES_MAX || behind[0] != ' ' || behind[1] == '\0') {
-        return NULL;
-    }
-    *lane = (unsigned)number;
-    return behind + 1;
-}
-
-static void take_line(struct lane_names *names, const char *line)
-{
-    unsigned lane;
-    const char *in = named_lane(line, "in ", &lane);
-    if (in != NULL) {
-        clean_text(names->in.of[lane], LANE_NAME_BYTES, in);
-    }
-    const char *out = named_lane(line, "out ", &lane);
-    if (out != NULL) {
-        clean_text(names->out.of[lane], LANE_NAME_BYTES, out);
-    }
-}
-
-/* Opens the file of names beside a show; NULL if there is none. */
-static FILE *open_names(const char *show_path)
-{
-    size_t length = strlen(show_path);
-    if (length >= 5 && strcmp(show_path + length - 5, ".show") == 0) {
-        length -= 5;
-    }
-    char *path = malloc(length + sizeof ".lanes");
-    if (path == NULL) {
-        return NULL;
-    }
-    memcpy(path, show_path, length);
-    memcpy(path + length, ".lanes", sizeof ".lanes");
-    FILE *stream = fopen(path, "r");
-    free(path);
-    return stream;
-}
-
-void lane_names_read(struct lane_names *names, const char *show_path)
-{
-    for (unsigned lane = 1; lane <= LANES_MAX; lane++) {
-        snprintf(names->in.of[lane], LANE_NAME_BYTES, "lane %u", lane);
-        snprintf(names->out.of[lane], LANE_NAME_BYTES, "lane %u", lane);
-    }
-    FILE *stream = open_names(show_path);
-    if (stream == NULL) {
-        return;
-    }
-    char line[256];
-    while (fgets(line, sizeof line, stream) != NULL) {
-        line[strcspn(line, "\r\n")] = '\0';
-        take_line(names, line);
-    }
-    fclose(stream);
 }
 
 /* The first lane and the last, in quotation marks, since a name may hold commas. */

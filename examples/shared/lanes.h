@@ -6,15 +6,13 @@
 #ifndef LANES_H
 #define LANES_H
 
+#include "lane_names.h"
 #include "show.h"
 
 #include <stdbool.h>
 #include <wosthile.h>
 
-/* A type of 255 nodes has 128 leaves. Each of its nodes brings one event at most in the whole show. */
-enum { LANES_MAX = 128, LANE_NAME_BYTES = 64 };
-
-/* Lanes that stand next to one another. */
+/* Lanes that lie next to one another. */
 struct lane_range {
     unsigned first, last;
 };
@@ -27,13 +25,16 @@ struct lane_event {
     struct lane_range from, to; /* of a crossing: the lanes of the first part, and of the second */
 };
 
-/* In the order in which a stream brings them: a crossing stands behind its first part and before its second. */
+/*
+ * In the order in which a stream brings them: a crossing comes behind its first part and before its second. Each node
+ * of the type brings one at most in the whole show.
+ */
 struct lane_events {
     size_t count;
     struct lane_event list[WOSTHILE_TYPE_NODES_MAX];
 };
 
-/* A node of the starting type: the lanes below it and, if it is a fork, where its second part stands. */
+/* A node of the starting type: the lanes below it and, if it is a fork, where its second part begins. */
 struct start_node {
     uint8_t kind;
     struct lane_range lanes;
@@ -44,9 +45,9 @@ struct lanes {
     unsigned count;
     size_t start_nodes;
     struct start_node start[WOSTHILE_TYPE_NODES_MAX];
-    size_t nodes;                         /* of the type in force */
-    uint8_t type[WOSTHILE_TYPE_FILE_MAX]; /* its file */
-    uint8_t origin[WOSTHILE_TYPE_NODES_MAX];       /* for each of its nodes, the node of the starting type that it is */
+    size_t nodes;                            /* of the type in force */
+    uint8_t type[WOSTHILE_TYPE_FILE_MAX];    /* its file */
+    uint8_t origin[WOSTHILE_TYPE_NODES_MAX]; /* for each of its nodes, the node of the starting type that it is */
 };
 
 /* Begins with a type file; false if it is not one, or is cut or too large. */
@@ -58,28 +59,10 @@ bool lanes_start(struct lanes *lanes, struct file type);
  */
 uint32_t lanes_follow(struct lanes *lanes, struct file slice, struct lane_events *events);
 
-/* The names of lanes, by number; place 0 is not used. */
-struct side_names {
-    char of[LANES_MAX + 1][LANE_NAME_BYTES];
-};
-
-struct lane_names {
-    struct side_names in, out;
-};
-
-/*
- * A lane is named `lane 3` unless the text file beside the show, X.lanes beside X.show, has a line for it: `in 3
- * Saturn's rings` for a lane of the input, `out 2 dome lamp` for one of the output. Other lines say nothing.
- */
-void lane_names_read(struct lane_names *names, const char *show_path);
-
 /* Prints an event in words, with the names of its side, on a line of its own. */
 void lane_event_print(const struct lane_event *event, const struct side_names *names);
 
 /* Says on a line what is left of the type: the lanes in which something has still to come, and how many crossings. */
 void lanes_print_owed(const struct lanes *lanes, const struct side_names *names);
-
-/* Copies a text, with ? for what is no printable character in UTF-8, and as much of it as there is room for. */
-void clean_text(char *to, size_t room, const char *text);
 
 #endif

@@ -1,18 +1,32 @@
-#define _POSIX_C_SOURCE 200809L /* for flockfile */
+#define _POSIX_C_SOURCE 200809L /* for fcntl and flockfile */
 #include "program.h"
 
 #include <errno.h>
+#include <fcntl.h>
 #include <stdarg.h>
 #include <stdio.h>
 #include <stdlib.h>
 #include <string.h>
+#include <unistd.h>
 
 /* The help of the program that runs, whose first word is its name and whose first line has its words. */
 static const char *program_help = "";
 
+/* A file opened later would take the place of a closed stream, and what is printed would go into that file. */
+static void need_open_streams(void)
+{
+    if (fcntl(STDERR_FILENO, F_GETFD) == -1) {
+        exit(STATUS_UNUSABLE);
+    }
+    if (fcntl(STDOUT_FILENO, F_GETFD) == -1) {
+        stop("standard output is closed");
+    }
+}
+
 void program_begin(const char *help, int count, char *const *words)
 {
     program_help = help;
+    need_open_streams();
     for (int index = 1; index < count; index++) {
         if (strcmp(words[index], "--help") == 0) {
             fputs(help, stdout);

@@ -22,9 +22,12 @@ enum status {
 /*
  * The first call of every program. The help begins with the program's name and its words, as `rehearsal SHOW [CUTS]`,
  * on a line of their own; what the program does follows. If one of the words is --help it is printed, and the program
- * ends with status 0.
+ * ends with status 0. With a closed standard output or error stream it ends with status 2.
  */
 void program_begin(const char *help, int count, char *const *words);
+
+/* Room enough for a text that becomes part of a message. */
+enum { MESSAGE_BYTES = 1024 };
 
 /* Says on the error stream, after the program's name, what is wrong. */
 void tell(const char *format, ...) __attribute__((format(printf, 1, 2)));

@@ -1,7 +1,10 @@
 #include "show.h"
+#include "program.h"
 
+#include <errno.h>
 #include <stdio.h>
 #include <stdlib.h>
+#include <string.h>
 
 /* More than two hours of the largest slices; a file beyond it is not a show that anybody recorded. */
 enum { SHOW_BYTES_MAX = 1 << 28, FIRST_BYTES = 1 << 16 };
@@ -17,6 +20,7 @@ static uint8_t *read_all(FILE *stream, size_t *length)
             break;
         }
         room *= 2;
+        errno = EFBIG; /* unless there is no memory */
         uint8_t *larger = room <= SHOW_BYTES_MAX ? realloc(bytes, room) : NULL;
         if (larger == NULL) {
             free(bytes);
@@ -31,41 +35,73 @@ static uint8_t *read_all(FILE *stream, size_t *length)
     return bytes;
 }
 
+/* How many bytes the next file of a stream of files has, with its two-byte length; 0 if the stream ends inside that. */
+static size_t next_due(struct file stream, size_t place)
+{
+    return stream.length - place < 2 ? 0 : 2 + stream.bytes[place] * 256u + stream.bytes[place + 1];
+}
+
 /* The next file of a stream of files, each after a two-byte length; false if the stream ends before the file does. */
 static bool next_file(struct file stream, size_t *place, struct file *file)
 {
-    if (stream.length - *place < 2) {
+    size_t due = next_due(stream, *place);
+    if (due == 0 || stream.length - *place < due) {
         return false;
     }
-    size_t length = stream.bytes[*place] * 256u + stream.bytes[*place + 1];
-    if (stream.length - *place - 2 < length) {
-        return false;
-    }
-    *file = (struct file){stream.bytes + *place + 2, length};
-    *place += 2 + length;
+    *file = (struct file){stream.bytes + *place + 2, due - 2};
+    *place += due;
     return true;
+}
+
+/* Counts the slices from a place on, and notes the one in which the stream ends, if it ends in one. */
+static void count_slices(struct show *show, struct file stream, size_t place)
+{
+    struct file slice;
+    while (next_file(stream, &place, &slice)) {
+        show->count++;
+    }
+    if (place < stream.length) {
+        show->unfinished = (struct unfinished){show->count + 1, stream.length - place, next_due(stream, place)};
+    }
+}
+
+static const char *say_patch_is_cut(struct show *show, struct file stream)
+{
+    size_t due = next_due(stream, 0);
+    if (due == 0) {
+        snprintf(show->fault, sizeof show->fault,
+                 "the file ends before its patch does: it has %zu of the two bytes of the patch's length",
+                 stream.length);
+    } else {
+        snprintf(show->fault, sizeof show->fault,
+                 "the file ends before its patch does: it has %zu bytes, and the patch, with its length, is to have "
+                 "%zu",
+                 stream.length, due);
+    }
+    return show->fault;
 }
 
 /* Finds the files in the bytes of the show: how many slices there are is known only behind the last one. */
 static const char *find_files(struct show *show, size_t length)
 {
-    struct file stream = {show->bytes, length}, slice;
-    size_t slices_begin = 0;
-    if (!next_file(stream, &slices_begin, &show->patch)) {
-        return "The file ends before its patch does.";
+    struct file stream = {show->bytes, length};
+    size_t place = 0;
+    if (!next_file(stream, &place, &show->patch)) {
+        return say_patch_is_cut(show, stream);
     }
-    for (size_t place = slices_begin; next_file(stream, &place, &slice);) {
-        show->count++;
-    }
-    show->slices = malloc((show->count + 1) * sizeof *show->slices);
-    if (show->slices == NULL) {
-        return "There is not enough memory for the show.";
-    }
-    size_t place = slices_begin;
+    count_slices(show, stream, place);
+    show->slices = memory(show->count + 1, sizeof *show->slices);
     for (size_t index = 0; index < show->count; index++) {
         next_file(stream, &place, &show->slices[index]);
     }
     return NULL;
+}
+
+/* Why the last call on a file failed. */
+static const char *say_reason(struct show *show, const char *what)
+{
+    snprintf(show->fault, sizeof show->fault, "the file cannot be %s: %s", what, strerror(errno));
+    return show->fault;
 }
 
 const char *show_read(const char *path, struct show *show)
@@ -73,17 +109,15 @@ const char *show_read(const char *path, struct show *show)
     *show = (struct show){0};
     FILE *stream = fopen(path, "rb");
     if (stream == NULL) {
-        return "The file cannot be opened.";
+        return say_reason(show, "opened");
     }
     size_t length = 0;
     show->bytes = read_all(stream, &length);
+    const char *fault = show->bytes == NULL ? say_reason(show, "read") : find_files(show, length);
     fclose(stream);
-    if (show->bytes == NULL) {
-        return "The file cannot be read, or is too long for a show.";
-    }
-    const char *fault = find_files(show, length);
     if (fault != NULL) {
-        show_release(show);
+        free(show->bytes);
+        show->bytes = NULL;
     }
     return fault;
 }
@@ -95,33 +129,26 @@ void show_release(struct show *show)
     *show = (struct show){0};
 }
 
-/* Splitmix64: every state gives another number, and neighbouring seeds give unlike ones. */
-uint64_t next_random(uint64_t *state)
+void show_unfinished_text(char *to, size_t room, const struct unfinished *unfinished)
 {
-    *state += 0x9e3779b97f4a7c15u;
-    uint64_t mixed = *state;
-    mixed = (mixed ^ (mixed >> 30)) * 0xbf58476d1ce4e5b9u;
-    mixed = (mixed ^ (mixed >> 27)) * 0x94d049bb133111ebu;
-    return mixed ^ (mixed >> 31);
+    size_t frame = unfinished->frame, have = unfinished->have, missing = unfinished->due - have;
+    if (unfinished->due == 0) {
+        snprintf(to, room,
+                 "the file ends inside the slice of frame %zu: its last byte is left out, half of the slice's length",
+                 frame);
+    } else {
+        snprintf(to, room,
+                 "the file ends inside the slice of frame %zu: its last %zu bytes are left out, the slice has %zu "
+                 "byte%s fewer than its length says",
+                 frame, have, missing, missing == 1 ? "" : "s");
+    }
 }
 
-/* How many frames late a slice is by itself: five in eight come in time, two are one frame late, one is two. */
-static size_t lateness(uint64_t random)
+void show_tell_unfinished(const char *path, const struct show *show)
 {
-    static const size_t frames[8] = {0, 0, 0, 0, 0, 1, 1, 2};
-    return frames[random % 8];
-}
-
-void show_arrivals(uint64_t seed, size_t count, size_t *arrivals)
-{
-    uint64_t state = seed;
-    size_t latest = 0;
-    for (size_t index = 0; index < count; index++) {
-        size_t frame = index + 1;
-        if (seed != 0) {
-            frame += lateness(next_random(&state));
-        }
-        latest = frame > latest ? frame : latest;
-        arrivals[index] = latest;
+    char text[MESSAGE_BYTES];
+    if (show->unfinished.frame != 0) {
+        show_unfinished_text(text, sizeof text, &show->unfinished);
+        tell("%s: %s", path, text);
     }
 }

@@ -5,39 +5,44 @@
 #ifndef SHOW_H
 #define SHOW_H
 
-#include <stdbool.h>
 #include <stddef.h>
 #include <stdint.h>
 
-/* The bytes of a file that stands in somebody else's memory. */
+/* The bytes of a file that lies in somebody else's memory. */
 struct file {
     const uint8_t *bytes;
     size_t length;
+};
+
+/* The slice in which a show file ends: a recording that was broken off. */
+struct unfinished {
+    size_t frame; /* the frame of that slice; 0 if the show file ends with a whole file */
+    size_t have;  /* the bytes behind the last whole file, the two of the slice's length among them */
+    size_t due;   /* how many bytes these were to be; 0 if even the length is cut */
 };
 
 struct show {
     uint8_t *bytes; /* the whole show file; the patch and the slices point into it */
     struct file patch;
     struct file *slices;
-    size_t count; /* of slices */
+    size_t count; /* of whole slices */
+    struct unfinished unfinished;
+    char fault[160]; /* why there is no show */
 };
 
 /*
- * Reads a show file. The answer is NULL, or a sentence that says why there is no show. A file that ends inside a slice
- * is a show up to the slice before; what the patch and the slices hold is not looked at here.
+ * Reads a show file. The answer is NULL, or a sentence, held in the show, that says why there is none. A file that ends
+ * inside a slice is a show up to the slice before, and the unfinished slice is noted; what the patch and the slices
+ * hold is not looked at here.
  */
 const char *show_read(const char *path, struct show *show);
 
 void show_release(struct show *show);
 
-/* The next number of a generator that depends on nothing but its state; the seed is the first state. */
-uint64_t next_random(uint64_t *state);
+/* Says in words where a show file with an unfinished slice ends, and what is left out for it. */
+void show_unfinished_text(char *to, size_t room, const struct unfinished *unfinished);
 
-/*
- * The cut by seed: the frame in which each of the recorded slices arrives, counted from 1. With seed 0 every slice
- * arrives in the frame in which it was recorded. With another seed it arrives in that frame or one or two later, and
- * never before an earlier slice; so at most three arrive in the same frame.
- */
-void show_arrivals(uint64_t seed, size_t count, size_t *arrivals);
+/* Tells the same on the error stream; a show that ends with a whole file has nothing to tell. */
+void show_tell_unfinished(const char *path, const struct show *show);
 
 #endif
