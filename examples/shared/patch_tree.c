@@ -43,7 +43,7 @@ static struct file whole_nodes(struct file patch, uint32_t number)
 {
     static const struct file none = {NULL, 0};
     struct file input = {patch.bytes, 2 + section_of(patch).length};
-    if (patch.length < input.length + 2 || patch.length >= WOSTHILE_PATCH_FILE_MAX + 1) {
+    if (patch.length < input.length + 2 || patch.length > WOSTHILE_PATCH_FILE_MAX) {
         return none;
     }
     struct file rest = {patch.bytes + input.length, patch.length - input.length};

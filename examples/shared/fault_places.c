@@ -1,0 +1,170 @@
+#include "fault_places.h"
+
+#include "program.h"
+
+#include <stdlib.h>
+#include <string.h>
+
+/* A section of a file, about which the library is asked with other counts and other bytes in a copy of the file. */
+struct reading {
+    uint8_t *copy;
+    size_t length;    /* of the file; the copy has room for a byte more */
+    size_t begins;    /* where the section's count is */
+    struct file type; /* that a slice is read against; of no length for other files */
+    uint32_t (*ask)(const struct reading *reading, size_t length);
+};
+
+/* The number of the copy's front as a type file: a slice that is not there has a fault only if the type has none. */
+static uint32_t ask_type(const struct reading *reading, size_t length)
+{
+    uint32_t number = wosthile_admit(reading->copy, length, NULL, 0).number;
+    return number == WOSTHILE_FAULT_SLICE_CUT_SHORT ? WOSTHILE_ACCEPTED : number;
+}
+
+static uint32_t ask_slice(const struct reading *reading, size_t length)
+{
+    return wosthile_admit(reading->type.bytes, reading->type.length, reading->copy, length).number;
+}
+
+/* Whether the answer would fit is no matter here. */
+static uint32_t ask_patch(const struct reading *reading, size_t length)
+{
+    uint32_t number = wosthile_check(reading->copy, length, NULL, 0).number;
+    return number == WOSTHILE_FAULT_NO_ROOM ? WOSTHILE_ACCEPTED : number;
+}
+
+static struct reading begin_reading(struct file file, uint32_t (*ask)(const struct reading *, size_t))
+{
+    struct reading reading = {memory(file.length + 1, 1), file.length, 0, {NULL, 0}, ask};
+    if (file.length > 0) {
+        memcpy(reading.copy, file.bytes, file.length);
+    }
+    return reading;
+}
+
+/* The number of the file cut behind so many bytes of the section, the count written anew. */
+static uint32_t cut_number(const struct reading *reading, size_t cut)
+{
+    reading->copy[reading->begins] = (uint8_t)(cut / 256);
+    reading->copy[reading->begins + 1] = (uint8_t)(cut % 256);
+    return reading->ask(reading, reading->begins + 2 + cut);
+}
+
+static size_t shortest_cut(const struct reading *reading, uint32_t number, size_t longest)
+{
+    size_t cut = 0;
+    while (cut < longest && cut_number(reading, cut) != number) {
+        cut++;
+    }
+    return cut;
+}
+
+static bool is_cut_short(uint32_t number)
+{
+    return number == WOSTHILE_FAULT_CUT_SHORT || number == WOSTHILE_FAULT_SLICE_CUT_SHORT;
+}
+
+/* Where the number comes from, if it comes from this section; AT_BEHIND with the section's end if it does not. */
+static struct fault fault_in_section(const struct reading *reading, uint32_t number)
+{
+    struct fault fault = {number, AT_CUT_COUNT, reading->length, reading->begins};
+    if (reading->length - reading->begins < 2) {
+        return fault;
+    }
+    struct file rest = {reading->copy + reading->begins, reading->length - reading->begins};
+    size_t count = count_of(rest);
+    fault.byte = reading->begins;
+    fault.at = AT_LARGE_COUNT;
+    if (count > rest.length - 2) {
+        return fault;
+    }
+    fault.byte = reading->begins + 2 + count;
+    fault.at = AT_BEHIND;
+    if (cut_number(reading, count) != number) {
+        return fault;
+    }
+    fault.at = AT_SECTION_END;
+    if (!is_cut_short(number)) {
+        fault.at = AT_BYTE;
+        fault.byte = reading->begins + 1 + shortest_cut(reading, number, count);
+    }
+    return fault;
+}
+
+static struct fault fault_in_file(struct reading reading)
+{
+    struct fault fault = {.number = reading.ask(&reading, reading.length)};
+    if (fault.number != WOSTHILE_ACCEPTED) {
+        fault = fault_in_section(&reading, fault.number);
+    }
+    free(reading.copy);
+    return fault;
+}
+
+struct fault type_fault(struct file type) { return fault_in_file(begin_reading(type, ask_type)); }
+
+static struct reading begin_slice(struct file type, struct file slice)
+{
+    struct reading reading = begin_reading(slice, ask_slice);
+    reading.type = type;
+    return reading;
+}
+
+struct fault slice_fault(struct file type, struct file slice) { return fault_in_file(begin_slice(type, slice)); }
+
+/* The fault is in the type's section, or else in that of the nodes. */
+static struct fault fault_while_reading(struct file patch, uint32_t number)
+{
+    struct reading reading = begin_reading(patch, ask_type);
+    struct fault fault = fault_in_section(&reading, number);
+    if (fault.at == AT_BEHIND) {
+        reading.begins = fault.byte;
+        reading.ask = ask_patch;
+        fault = fault_in_section(&reading, number);
+    }
+    free(reading.copy);
+    return fault;
+}
+
+struct fault patch_fault(struct file patch, struct patch_tree *tree)
+{
+    bool whole = patch_tree_read(tree, patch);
+    if (tree->number == WOSTHILE_ACCEPTED) {
+        return (struct fault){.number = WOSTHILE_ACCEPTED};
+    }
+    if (whole) {
+        size_t nodes = 2 + section_of(patch).length;
+        return (struct fault){tree->number, AT_NODE, tree->nodes[tree->refused].byte, nodes};
+    }
+    return fault_while_reading(patch, tree->number);
+}
+
+static bool is_refused_kind(uint32_t number)
+{
+    return number == WOSTHILE_FAULT_UNLISTED || number == WOSTHILE_FAULT_SLICE_UNLISTED ||
+           number == WOSTHILE_FAULT_SLICE_MISPLACED;
+}
+
+static struct byte_set due_in(struct reading reading, struct fault fault)
+{
+    struct byte_set due;
+    reading.begins = fault.section;
+    for (unsigned byte = 0; byte < 256; byte++) {
+        reading.copy[fault.byte] = (uint8_t)byte;
+        due.has[byte] = !is_refused_kind(cut_number(&reading, fault.byte + 1 - (fault.section + 2)));
+    }
+    free(reading.copy);
+    return due;
+}
+
+struct byte_set type_due(struct file type, struct fault fault) { return due_in(begin_reading(type, ask_type), fault); }
+
+struct byte_set slice_due(struct file type, struct file slice, struct fault fault)
+{
+    return due_in(begin_slice(type, slice), fault);
+}
+
+struct byte_set patch_due(struct file patch, struct fault fault)
+{
+    return due_in(begin_reading(patch, fault.section == 0 ? ask_type : ask_patch), fault);
+}

@@ -1,0 +1,315 @@
+#include "faults.h"
+
+#include <stdio.h>
+#include <string.h>
+
+/* A name that only says the side and the number, as lanes have that nobody named, is not worth saying twice. */
+static bool is_named(const struct side_names *names, unsigned lane)
+{
+    char in[LANE_NAME_BYTES], out[LANE_NAME_BYTES];
+    if (names == NULL) {
+        return false;
+    }
+    snprintf(in, sizeof in, "in %u", lane);
+    snprintf(out, sizeof out, "out %u", lane);
+    return strcmp(names->of[lane], in) != 0 && strcmp(names->of[lane], out) != 0;
+}
+
+static void add_lane(struct text *text, unsigned lane, const struct side_names *names)
+{
+    text_add(text, "%u", lane);
+    if (is_named(names, lane)) {
+        text_add(text, " \"%s\"", names->of[lane]);
+    }
+}
+
+void lane_range_text(struct text *text, struct lane_range lanes, const struct side_names *names)
+{
+    text_add(text, lanes.first == lanes.last ? "lane " : "lanes ");
+    add_lane(text, lanes.first, names);
+    if (lanes.first != lanes.last) {
+        text_add(text, " to ");
+        add_lane(text, lanes.last, names);
+    }
+}
+
+/* A walk down a type and a slice of it together, to the byte that is looked for. */
+struct byte_walk {
+    struct file type, slice; /* sections */
+    size_t next;             /* the next byte of the slice */
+    size_t wanted;
+    size_t node; /* of the type */
+};
+
+/* True if the walk comes to the byte in the part of the type at a node. */
+static bool walk_to_byte(struct byte_walk *walk, size_t node)
+{
+    walk->node = node;
+    if (walk->next >= walk->slice.length) {
+        return walk->wanted == walk->next;
+    }
+    const struct slice_kind *kind = slice_kind(walk->slice.bytes[walk->next]);
+    walk->next += 1 + kind->value_bytes;
+    bool found = walk->wanted < walk->next;
+    for (unsigned part = 0; !found && part < kind->parts; part++) {
+        found = walk_to_byte(walk, type_part(walk->type, node, kind->part[part]));
+    }
+    return found;
+}
+
+bool slice_byte_node(struct file type, struct file slice, size_t byte, size_t *node)
+{
+    struct byte_walk walk = {section_of(type), section_of(slice), .wanted = byte - 2};
+    bool found = byte >= 2 && walk_to_byte(&walk, 0) && walk.node < walk.type.length;
+    *node = walk.node;
+    return found;
+}
+
+/* How many bytes from one on are in the set, or are not. */
+static unsigned run_length(const struct byte_set *set, unsigned from)
+{
+    unsigned length = 0;
+    while (from + length < 256 && set->has[from + length] == set->has[from]) {
+        length++;
+    }
+    return length;
+}
+
+/* Adds the bytes of a set: `3 or 4`, `0 to 7`. */
+static void add_set(struct text *text, const struct byte_set *set)
+{
+    const char *before = "";
+    unsigned length;
+    for (unsigned from = 0; from < 256; from += length) {
+        length = run_length(set, from);
+        if (set->has[from]) {
+            text_add(text, "%s%u", before, from);
+            before = " or ";
+        }
+        if (set->has[from] && length > 1) {
+            text_add(text, length == 2 ? " or %u" : " to %u", from + length - 1);
+        }
+    }
+}
+
+/* The kind of type that all the slice kinds of a set are of; false if they are of several, or there are none. */
+static bool common_type(const struct byte_set *set, uint8_t *type)
+{
+    bool any = false, common = true;
+    for (unsigned kind = 0; kind < 256; kind++) {
+        if (set->has[kind]) {
+            common = common && (!any || slice_kind((uint8_t)kind)->of == *type);
+            *type = slice_kind((uint8_t)kind)->of;
+            any = true;
+        }
+    }
+    return any && common;
+}
+
+static unsigned set_count(const struct byte_set *set)
+{
+    unsigned count = 0;
+    for (unsigned byte = 0; byte < 256; byte++) {
+        count += set->has[byte];
+    }
+    return count;
+}
+
+/* Adds what is due in a slice: `4 (level come)`, `3 or 4 (level)`, `a byte of a value`. */
+static void add_slice_due(struct text *text, const struct byte_set *due)
+{
+    uint8_t type = 0;
+    unsigned count = set_count(due), first = due->has[0] ? 0 : run_length(due, 0);
+    if (count == 256) {
+        text_add(text, "a byte of a value");
+        return;
+    }
+    add_set(text, due);
+    if (count == 1) {
+        text_add(text, " (%s)", slice_kind((uint8_t)first)->name);
+    } else if (common_type(due, &type)) {
+        text_add(text, " (%s)", type_kind(type)->name);
+    }
+}
+
+/* Adds what the fault is where its number and its place say all: counts, and bytes behind a whole tree. */
+static bool add_plain_fault(struct text *text, struct fault fault, struct file file)
+{
+    struct file rest = {file.bytes + fault.section, file.length - fault.section};
+    size_t end = fault.section + 2 + section_of(rest).length;
+    if (fault.at == AT_CUT_COUNT) {
+        text_add(text, ": the file ends %s",
+                 rest.length == 0 ? "where a section is due" : "inside a count of two bytes");
+    } else if (fault.at == AT_LARGE_COUNT) {
+        text_add(text, ": the count promises %zu bytes, and %zu follow", count_of(rest), rest.length - 2);
+    } else if (fault.at == AT_BEHIND) {
+        text_add(text, ": the last section ends, and bytes follow it: %zu", file.length - end);
+    } else if (fault.number == WOSTHILE_FAULT_LEFT_OVER || fault.number == WOSTHILE_FAULT_SLICE_LEFT_OVER) {
+        text_add(text, ": the tree is whole, and bytes of its section follow it: %zu", end - fault.byte);
+    } else {
+        return false;
+    }
+    return true;
+}
+
+/* Adds why a slice's kind is not the one that is due, where there is more to say of it. */
+static void add_reason(struct text *text, const struct lanes *in_force, size_t node, uint8_t kind,
+                       const struct byte_set *due)
+{
+    uint8_t type = in_force->type[2 + node], start = in_force->start[in_force->origin[node]].kind;
+    uint8_t due_type = 0;
+    if (type == WOSTHILE_TYPE_EMPTY && start != WOSTHILE_TYPE_EMPTY) {
+        text_add(text, "; its %s has come already", type_kind(start)->name);
+    } else if (common_type(due, &due_type) && slice_kind(kind)->of == due_type) {
+        text_add(text, "; what a crossing leaves behind has to be complete");
+    }
+}
+
+/* Adds what is wrong at a byte of a slice that is no kind, or not the one that is due, or is missing. */
+static void add_slice_byte(struct text *text, const struct lanes *in_force, struct file slice, struct fault fault,
+                           const struct side_names *names)
+{
+    struct file type = {in_force->type, 2 + in_force->nodes};
+    struct byte_set due = slice_due(type, slice, fault);
+    size_t node;
+    bool found = slice_byte_node(type, slice, fault.byte, &node);
+    if (found) {
+        text_add(text, ", ");
+        lane_range_text(text, in_force->start[in_force->origin[node]].lanes, names);
+    }
+    if (fault.at == AT_SECTION_END) {
+        text_add(text, ": the section ends where ");
+    } else {
+        uint8_t kind = slice.bytes[fault.byte];
+        text_add(text, ": kind %u (%s) where ", kind, slice_kind(kind)->name);
+    }
+    add_slice_due(text, &due);
+    text_add(text, " is due");
+    if (found && fault.at == AT_BYTE) {
+        add_reason(text, in_force, node, slice.bytes[fault.byte], &due);
+    }
+}
+
+void slice_fault_text(char *to, size_t room, const struct lanes *in_force, struct file slice,
+                      const struct side_names *names)
+{
+    struct text text = text_begin(to, room);
+    struct fault fault = slice_fault((struct file){in_force->type, 2 + in_force->nodes}, slice);
+    if (fault.number == WOSTHILE_ACCEPTED) {
+        return;
+    }
+    text_add(&text, "byte %zu", fault.byte);
+    if (!add_plain_fault(&text, fault, slice)) {
+        add_slice_byte(&text, in_force, slice, fault, names);
+    }
+}
+
+/* Adds the lane behind which the byte of a type lies, if there is one. */
+static void add_lane_before(struct text *text, struct file section, size_t place, const struct side_names *names)
+{
+    unsigned lanes = 0;
+    for (size_t before = 0; before < place; before++) {
+        lanes += type_kind(section.bytes[before])->parts == 0;
+    }
+    if (lanes > 0 && lanes <= LANES_MAX) {
+        text_add(text, ", behind ");
+        lane_range_text(text, (struct lane_range){lanes, lanes}, names);
+    }
+}
+
+/* Adds what is wrong at a byte of a type or of nodes: it is no kind, or it is missing, or makes a tree too large. */
+static void add_tree_byte(struct text *text, struct file file, struct fault fault, const struct byte_set *due)
+{
+    const char *tree = fault.section == 0 ? "type" : "tree of nodes";
+    if (fault.number == WOSTHILE_FAULT_TYPE_TOO_LARGE) {
+        text_add(text, ": the type has %d nodes up to here and needs another", WOSTHILE_TYPE_NODES_MAX);
+    } else if (fault.number == WOSTHILE_FAULT_TOO_MANY_NODES) {
+        text_add(text, ": the patch has %d nodes up to here and needs another", WOSTHILE_PATCH_NODES_MAX);
+    } else if (fault.at == AT_SECTION_END) {
+        text_add(text, ": the section ends, and its %s needs another byte", tree);
+    } else {
+        text_add(text, ": kind %u is not listed here; ", file.bytes[fault.byte]);
+        add_set(text, due);
+        text_add(text, " are");
+    }
+}
+
+/* Adds a fault that was found while reading a type file or a patch file; the type's section comes first in both. */
+static void add_reading_fault(struct text *text, struct file file, struct fault fault, const struct byte_set *due,
+                              const struct side_names *names)
+{
+    text_add(text, "byte %zu", fault.byte);
+    if (fault.section == 0 && (fault.at == AT_BYTE || fault.at == AT_SECTION_END)) {
+        add_lane_before(text, section_of(file), fault.byte - 2, names);
+    }
+    if (!add_plain_fault(text, fault, file)) {
+        add_tree_byte(text, file, fault, due);
+    }
+}
+
+void type_fault_text(char *to, size_t room, struct file type, const struct side_names *names)
+{
+    struct text text = text_begin(to, room);
+    struct fault fault = type_fault(type);
+    if (fault.number == WOSTHILE_ACCEPTED) {
+        return;
+    }
+    struct byte_set due = {{false}};
+    if (fault.at == AT_BYTE || fault.at == AT_SECTION_END) {
+        due = type_due(type, fault);
+    }
+    add_reading_fault(&text, type, fault, &due, names);
+}
+
+/* Adds a type with the number of its nodes. */
+static void add_sized_type(struct text *text, const struct type *type)
+{
+    char line[TYPE_TEXT_BYTES];
+    struct file section = section_of(type_file(type));
+    type_text(line, section);
+    text_add(text, section.length > 9 ? "%s" : "%s (%zu nodes)", line, section.length);
+}
+
+/* Adds what is wrong at a node: it does not take its input, or what it carries, or what its parts give. */
+static void add_node_fault(struct text *text, const struct patch_tree *tree)
+{
+    const struct patch_node *node = &tree->nodes[tree->refused];
+    const struct node_kind *kind = node_kind(node->kind);
+    char line[TYPE_TEXT_BYTES];
+    text_add(text, "byte %zu, node %zu (%s): ", node->byte, tree->refused + 1, kind->name);
+    if (node->number == WOSTHILE_FAULT_WRONG_SHAPE) {
+        shape_text(line, kind->takes);
+        text_add(text, "it takes %s, and its input is ", line);
+        type_text(line, section_of(type_file(&node->input)));
+        text_add(text, "%s", line);
+    } else if (node->number == WOSTHILE_FAULT_NOT_NULLABLE) {
+        type_text(line, section_of(type_file(&node->carried)));
+        text_add(text, "it carries %s", line);
+    } else if (kind->parts == 0) {
+        text_add(text, "its input is ");
+        add_sized_type(text, &node->input);
+    }
+    for (unsigned part = 0; node->takes_input && part < kind->parts; part++) {
+        text_add(text, part == 0 ? "its parts give " : " and ");
+        add_sized_type(text, &tree->nodes[node->part[part]].output);
+    }
+}
+
+void patch_fault_text(char *to, size_t room, struct file patch, const struct side_names *names)
+{
+    struct text text = text_begin(to, room);
+    struct patch_tree tree;
+    struct fault fault = patch_fault(patch, &tree);
+    if (fault.number == WOSTHILE_ACCEPTED) {
+        return;
+    }
+    if (fault.at == AT_NODE) {
+        add_node_fault(&text, &tree);
+        return;
+    }
+    struct byte_set due = {{false}};
+    if (fault.at == AT_BYTE || fault.at == AT_SECTION_END) {
+        due = patch_due(patch, fault);
+    }
+    add_reading_fault(&text, patch, fault, &due, names);
+}
