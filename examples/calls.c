@@ -67,12 +67,16 @@ int main(void)
     wosthile_written joined =
         wosthile_join(show, sizeof show, comet, sizeof comet, saturn, sizeof saturn, both, sizeof both);
     print_file("comet and Saturn as one", both, joined.written);
-    wosthile_fed fed = wosthile_feed(start, sizeof start, both, joined.written, output, sizeof output, buffers[0],
-                                     sizeof buffers[0]);
+    wosthile_fed fed =
+        wosthile_feed(start, sizeof start, both, joined.written, output, sizeof output, buffers[0], sizeof buffers[0]);
     print_file("fed as one", output, fed.output);
 
     wosthile_written rest = wosthile_left(show, sizeof show, both, joined.written, type, sizeof type);
     wosthile_admitted seen = wosthile_admit(type, rest.written, lamp, sizeof lamp);
     printf("the lamp, of what they leave: number %u, complete %u\n", seen.number, seen.complete);
+    if (ferror(stdout) || fclose(stdout) != 0) {
+        fprintf(stderr, "calls: standard output cannot be written\n");
+        return 2;
+    }
     return 0;
 }

@@ -2,23 +2,33 @@
  * A frame loop: it takes what has come in since the frame before, feeds it to the patch, and sends on what the patch
  * sends. Here a second thread plays the part of the outside: it delivers the slices of a recorded show, some of them
  * late, and what the loop sends is printed.
- *
- *   frame_loop SHOW [--seed N] [--frames-per-second N | --fast]
- *
- * At 60 frames a second, or another number, the outside is half a frame ahead: a slice that comes in time is there when
- * its frame is taken, and a thread that is held up for longer cuts the stream in another way than the seed says. With
- * --fast the two go in lock step, frame by frame, so that the seed alone decides it.
  */
-#define _POSIX_C_SOURCE 200809L /* for clock_nanosleep and flockfile */
-#include "feeding.h"
-#include "lanes.h"
-#include "program.h"
+#define _POSIX_C_SOURCE 200809L /* for clock_nanosleep */
+#include "arrivals.h"
+#include "faults.h"
+#include "opening.h"
 
 #include <errno.h>
 #include <pthread.h>
 #include <stdio.h>
 #include <stdlib.h>
 #include <time.h>
+
+static const char help[] =
+    "frame_loop SHOW [--seed N] [--frames-per-second N | --fast]\n"
+    "\n"
+    "Plays a show file and prints what is sent on in each frame, in the words of its lanes.\n"
+    "\n"
+    "  --seed N               slices are late as the number N says; with 0, and without this word, none is late\n"
+    "  --frames-per-second N  1 to 1000; 60 without this word\n"
+    "  --fast                 as fast as can be: the seed alone decides how the stream is cut\n"
+    "\n"
+    "At 60 frames a second, or another number, slices are delivered half a frame ahead. A thread that is held up for\n"
+    "longer cuts the stream in another way than the seed says. The same is sent all the same.\n"
+    "\n"
+    "A slice that is refused, and a last slice in which the file ends, are told on the error stream and left out; the\n"
+    "show goes on. Status: 0 the show was played, 1 its patch is refused, 2 the words or the file cannot be used, or\n"
+    "what is sent cannot be written.\n";
 
 /*
  * Where the two threads meet: the slices that wait for the next frame, as one. Nobody prints, sleeps or feeds while
@@ -42,20 +52,19 @@ struct pace {
     long nanoseconds; /* between frames, unless in lock step */
 };
 
+/*
+ * The producer reads the show, the arrivals and the names, and until its thread has ended has `delivered` and `refused`
+ * for itself; the patch and the lanes of the opened show are the frame loop's.
+ */
 struct player {
-    const struct show *show;
+    struct opened_show *opened;
     const size_t *arrivals;
     struct pace pace;
     struct timespec start; /* of the show, by the clock that both threads go by */
     struct mailbox mailbox;
-    size_t refused; /* slices refused on delivery; the producer's until its thread has ended */
+    struct lanes delivered; /* the input, behind the last slice that was delivered */
+    size_t refused;         /* slices, on delivery */
 };
-
-/* What was refused in a frame, and what follows from it. */
-static void print_refusal(size_t frame, const char *what, uint32_t number, const char *follows)
-{
-    printf("frame %zu: %s is refused with %u, and %s: %s\n", frame, what, number, follows, wosthile_sentence(number));
-}
 
 static void mailbox_open(struct mailbox *mailbox, struct file input_type)
 {
@@ -63,7 +72,7 @@ static void mailbox_open(struct mailbox *mailbox, struct file input_type)
     memcpy(mailbox->begins.bytes, input_type.bytes, input_type.length);
     mailbox->begins.length = input_type.length;
     if (pthread_mutex_init(&mailbox->lock, NULL) != 0 || pthread_cond_init(&mailbox->changed, NULL) != 0) {
-        stop("There is no lock for the mailbox.");
+        stop("there is no lock for the mailbox");
     }
 }
 
@@ -118,7 +127,7 @@ static void move_on(struct type *begins, struct file slice)
     wosthile_written written =
         wosthile_left(begins->bytes, begins->length, slice.bytes, slice.length, left.bytes, sizeof left.bytes);
     if (written.number != WOSTHILE_ACCEPTED) {
-        stop("A slice that was admitted is refused.");
+        stop("a slice that was admitted is refused");
     }
     left.length = written.written;
     *begins = left;
@@ -155,23 +164,35 @@ static void await_frame(struct timespec *due, struct pace pace)
     }
 }
 
-/* Delivers a slice, and says so if it is refused; then it is as if it had not come. */
+/* Moves a side on; the slice is one of what the slices before it leave, since it was delivered, or sent. */
+static void follow(struct lanes *side, struct file slice, struct lane_events *events)
+{
+    if (lanes_follow(side, slice, events) != WOSTHILE_ACCEPTED) {
+        stop("a slice that was delivered or sent is not one of what the slices before it leave");
+    }
+}
+
+/* Delivers a slice, and tells if it is refused; then it is as if it had not come. */
 static void deliver(struct player *player, size_t frame, size_t index)
 {
-    uint32_t number = mailbox_deliver(&player->mailbox, player->show->slices[index]);
-    if (number != WOSTHILE_ACCEPTED) {
-        char what[40];
-        snprintf(what, sizeof what, "recorded slice %zu", index + 1);
-        print_refusal(frame, what, number, "left out");
-        player->refused++;
+    struct file slice = player->opened->show.slices[index];
+    struct lane_events events;
+    uint32_t number = mailbox_deliver(&player->mailbox, slice);
+    if (number == WOSTHILE_ACCEPTED) {
+        follow(&player->delivered, slice, &events);
+        return;
     }
+    char text[MESSAGE_BYTES];
+    slice_fault_text(text, sizeof text, &player->delivered, slice, &player->opened->names.in);
+    tell("frame %zu: recorded slice %zu is refused with %u, and left out: %s", frame, index + 1, number, text);
+    player->refused++;
 }
 
 /* The outside: delivers each slice in the frame in which it arrives. */
 static void *produce(void *argument)
 {
     struct player *player = argument;
-    size_t next = 0, count = player->show->count;
+    size_t next = 0, count = player->opened->show.count;
     struct timespec due = player->start;
     for (size_t frame = 1; next < count; frame++) {
         if (player->pace.lock_step) {
@@ -187,39 +208,26 @@ static void *produce(void *argument)
     return NULL;
 }
 
-/* What the presenter is told, in the words of the lanes. Here the output is printed; a box sends it to the lamps. */
-struct screen {
-    struct lanes in, out;
-    struct lane_names names;
-};
-
-/* Moves a side on; the slice is one of what the slices before it leave, since it was fed, or sent. */
-static void follow(struct lanes *side, struct file slice, struct lane_events *events)
-{
-    if (lanes_follow(side, slice, events) != WOSTHILE_ACCEPTED) {
-        stop("A slice that was fed or sent is not one of what the slices before it leave.");
-    }
-}
-
-/* Sends on what a frame gave; a frame that gave nothing new prints nothing. */
-static void send_on(struct screen *screen, size_t frame, const struct joined *taken, struct file output)
+/*
+ * Sends on what a frame gave: here it is printed in the words of the lanes; a box sends it to the lamps. A frame that
+ * gave nothing new prints nothing.
+ */
+static void send_on(struct opened_show *opened, size_t frame, const struct joined *taken, struct file output)
 {
     struct lane_events events;
-    follow(&screen->in, joined_file(taken), &events);
-    follow(&screen->out, output, &events);
+    follow(&opened->in, joined_file(taken), &events);
+    follow(&opened->out, output, &events);
     if (events.count == 0) {
         return;
     }
-    flockfile(stdout); /* so that a refusal from the other thread is not printed between these lines */
     printf("frame %zu", frame);
     if (taken->count > 1) {
         printf(", %zu slices as one", taken->count);
     }
     printf("\n");
     for (size_t index = 0; index < events.count; index++) {
-        lane_event_print(&events.list[index], &screen->names.out);
+        lane_event_print(&events.list[index], &opened->names.out);
     }
-    funlockfile(stdout);
 }
 
 struct tally {
@@ -230,8 +238,9 @@ struct tally {
  * The frame loop. Whatever is fed here was admitted on delivery, so no feed is refused. In a loop that does not try its
  * slices before, a refused feed is as if the slice had not come: the patch stays, and the show goes on.
  */
-static struct tally draw_frames(struct player *player, struct patch *patch, struct screen *screen)
+static struct tally draw_frames(struct player *player)
 {
+    struct opened_show *opened = player->opened;
     struct tally tally = {0};
     struct joined taken;
     uint8_t output[WOSTHILE_SLICE_FILE_MAX];
@@ -249,59 +258,45 @@ static struct tally draw_frames(struct player *player, struct patch *patch, stru
         if (taken.count == 0) {
             continue;
         }
-        wosthile_fed fed = patch_feed(patch, joined_file(&taken), output);
+        wosthile_fed fed = patch_feed(&opened->patch, joined_file(&taken), output);
         if (fed.number != WOSTHILE_ACCEPTED) {
-            print_refusal(frame, "the feed", fed.number, "the patch stays");
+            tell("frame %zu: the feed is refused with %u, and the patch stays: %s", frame, fed.number,
+                 wosthile_sentence(fed.number));
             tally.refused++;
             continue;
         }
         tally.feeds++;
-        send_on(screen, frame, &taken, (struct file){output, fed.output});
+        send_on(opened, frame, &taken, (struct file){output, fed.output});
     }
 }
 
-/* Plays the show from an accepted patch: the producer in a thread of its own, the frame loop in this one. */
-static void play(struct player *player, struct patch *patch, struct screen *screen)
+/* Plays an opened show: the producer in a thread of its own, the frame loop in this one. */
+static void play(struct player *player)
 {
+    struct opened_show *opened = player->opened;
     pthread_t producer;
-    mailbox_open(&player->mailbox, patch_input_type(patch));
-    player->mailbox.over = player->show->count == 0;
+    mailbox_open(&player->mailbox, patch_input_type(&opened->patch));
+    player->mailbox.over = opened->show.count == 0;
     clock_gettime(CLOCK_MONOTONIC, &player->start);
     if (pthread_create(&producer, NULL, produce, player) != 0) {
-        stop("There is no thread for the producer.");
+        stop("there is no thread for the producer");
     }
-    struct tally tally = draw_frames(player, patch, screen);
+    struct tally tally = draw_frames(player);
     pthread_join(producer, NULL);
     mailbox_close(&player->mailbox);
-    printf("The show is over: %zu frames, %zu slices, %zu feeds, %zu refused.\n", tally.frames, player->show->count,
+    printf("The show is over: %zu frames, %zu slices, %zu feeds, %zu refused.\n", tally.frames, opened->show.count,
            tally.feeds, tally.refused + player->refused);
-    lanes_print_owed(&screen->in, &screen->names.in);
+    lanes_print_owed(&opened->in, &opened->names.in);
 }
 
-/* Checks the patch of the show and plays it; the answer is the exit status. */
-static int check_and_play(const char *path, const struct show *show, uint64_t seed, struct pace pace)
+/* Plays an opened show, its slices late as the seed says. */
+static void play_late(struct opened_show *opened, uint64_t seed, struct pace pace)
 {
-    struct patch patch;
-    struct type output_type;
-    struct screen screen;
-    uint32_t number = patch_start(&patch, show->patch, &output_type);
-    if (number != WOSTHILE_ACCEPTED) {
-        printf("The patch is refused with %u: %s\n", number, wosthile_sentence(number));
-        return 1;
-    }
-    if (!lanes_start(&screen.in, patch_input_type(&patch)) || !lanes_start(&screen.out, type_file(&output_type))) {
-        stop("A type of the patch cannot be read.");
-    }
-    lane_names_read(&screen.names, path);
-    size_t *arrivals = calloc(show->count + 1, sizeof *arrivals);
-    if (arrivals == NULL) {
-        stop("There is not enough memory for the show.");
-    }
-    show_arrivals(seed, show->count, arrivals);
-    struct player player = {.show = show, .arrivals = arrivals, .pace = pace};
-    play(&player, &patch, &screen);
+    size_t *arrivals = memory(opened->show.count + 1, sizeof *arrivals);
+    show_arrivals(seed, opened->show.count, arrivals);
+    struct player player = {.opened = opened, .arrivals = arrivals, .pace = pace, .delivered = opened->in};
+    play(&player);
     free(arrivals);
-    return 0;
 }
 
 struct words {
@@ -337,18 +332,16 @@ static bool read_words(int count, char **list, struct words *words)
 int main(int count, char **list)
 {
     struct words words;
-    struct show show;
+    struct opened_show opened;
+    program_begin(help, count, list);
     if (!read_words(count, list, &words)) {
         stop_for_words();
     }
-    const char *fault = show_read(words.path, &show);
-    if (fault != NULL) {
-        fprintf(stderr, "%s: %s\n", words.path, fault);
-        return 1;
-    }
     setvbuf(stdout, NULL, _IOLBF, BUFSIZ); /* a line is seen at once, through a pipe too */
-    struct pace pace = {words.fast, 1000000000 / (long)words.frames_per_second};
-    int status = check_and_play(words.path, &show, words.seed, pace);
-    show_release(&show);
-    return status;
+    enum status status = open_show(words.path, &opened);
+    if (status == STATUS_DONE) {
+        play_late(&opened, words.seed, (struct pace){words.fast, 1000000000 / (long)words.frames_per_second});
+    }
+    close_show(&opened);
+    return program_end(status);
 }

@@ -1,35 +1,45 @@
 /*
- * Makes the recorded shows in examples/shows: make_shows FOLDER.
+ * Makes the recorded shows in examples/shows.
  *
  * A show is written here as a score: a line for each thing that comes, with its frame and its lane. Every frame is
  * recorded as a slice of its own, and most frames bring nothing. A lane is a leaf of the type, counted from the left
  * and from 1; a crossing is named by the first lane of the part that it opens.
  */
-#include <stdbool.h>
-#include <stdint.h>
+#include "program.h"
+#include "show.h"
+
 #include <stdio.h>
+#include <wosthile.h>
 
-enum type_kind { EMPTY, CUE, LEVEL, SEQUENCE, BESIDE };
+static const char help[] =
+    "make_shows FOLDER\n"
+    "\n"
+    "Writes the shipped shows, each as X.show with the names of its lanes in X.lanes, to a folder.\n"
+    "\n"
+    "Status: 0 they are written, 2 the words cannot be used or a file cannot be written.\n";
 
-/* The nodes of a patch that the shows use. */
-enum node_kind {
-    PASS = 0,
-    SEND_CUE = 2,
-    SEND_LEVEL = 3, /* then the level, two bytes */
-    BOTH = 4,
-    LEFT = 5,
-    RIGHT = 6,
-    THEN = 9,
-    CHAIN = 10,
-    REGROUP_RIGHT = 11,
-    REGROUP_LEFT = 12,
-    SPREAD = 13,
-    FRONT = 14
+/* Short names for the scores. */
+enum type_kind {
+    EMPTY = WOSTHILE_TYPE_EMPTY,
+    CUE = WOSTHILE_TYPE_CUE,
+    LEVEL = WOSTHILE_TYPE_LEVEL,
+    SEQUENCE = WOSTHILE_TYPE_SEQUENCE,
+    BESIDE = WOSTHILE_TYPE_BESIDE
 };
 
-struct bytes {
-    const uint8_t *at;
-    size_t count;
+enum node_kind {
+    PASS = WOSTHILE_NODE_PASS,
+    SEND_CUE = WOSTHILE_NODE_CUE,
+    SEND_LEVEL = WOSTHILE_NODE_LEVEL, /* then the level, two bytes */
+    BOTH = WOSTHILE_NODE_BOTH,
+    LEFT = WOSTHILE_NODE_LEFT,
+    RIGHT = WOSTHILE_NODE_RIGHT,
+    THEN = WOSTHILE_NODE_THEN,
+    CHAIN = WOSTHILE_NODE_CHAIN,
+    REGROUP_RIGHT = WOSTHILE_NODE_REGROUP_RIGHT,
+    REGROUP_LEFT = WOSTHILE_NODE_REGROUP_LEFT,
+    SPREAD = WOSTHILE_NODE_SPREAD,
+    FRONT = WOSTHILE_NODE_FRONT
 };
 
 /* A line of a score: a cue or a level comes in a lane, a sequence is crossed to a lane, or a frame is damaged. */
@@ -37,14 +47,14 @@ struct line {
     size_t frame;
     enum { COMES, CROSSES, DAMAGED } action;
     size_t lane;
-    unsigned value;      /* of a level */
-    struct bytes damage; /* the slice file that was recorded in place of a good one */
+    unsigned value;     /* of a level */
+    struct file damage; /* the slice file that was recorded in place of a good one */
 };
 
 /* Types and nodes are in preorder: a fork, then its two parts. */
 struct score {
     const char *name;
-    struct bytes type, nodes;
+    struct file type, nodes;
     size_t frames;
     const struct line *lines;
     size_t count;
@@ -52,6 +62,7 @@ struct score {
     const char *lanes; /* the text that names them */
 };
 
+/* clang-format off */
 #define BYTES(...) {(const uint8_t[]){__VA_ARGS__}, sizeof((const uint8_t[]){__VA_ARGS__})}
 
 /* A line of a score each: the frame, the lane, and what comes. */
@@ -62,7 +73,7 @@ struct score {
 #define LINES(lines) lines, sizeof lines / sizeof lines[0]
 
 /*
- * From the comet to Saturn. The star field stands over everything. The comet rises, its lamp goes up and down again,
+ * From the comet to Saturn. The star field lies over everything. The comet rises, its lamp goes up and down again,
  * it sets; then the dome crosses to Saturn, with its rings, two moons and a lamp. The patch sends stars and comet as
  * they are, and of Saturn the lamps first.
  *
@@ -305,29 +316,29 @@ static const struct score damaged = {
              "out 3 curtain\n",
 };
 
-/* A type while a show runs. A leaf is done when it has come, a sequence when it is crossed. */
-enum { PARTS_MAX = 255, SLICE_MAX = 513 };
+/* clang-format on */
 
+/* A part of a type while a show runs. A leaf is done when it has come, a sequence when it is crossed. */
 struct part {
     enum type_kind kind;
     bool done;
     size_t first_lane; /* the first lane in it */
-    size_t second;     /* of a fork: where its second part stands */
+    size_t second;     /* of a fork: where its second part begins */
 };
 
 struct stage {
-    struct part parts[PARTS_MAX];
+    struct part parts[WOSTHILE_TYPE_NODES_MAX];
     size_t count, lanes;
 };
 
 /* A slice as it is written, and how many of its places were those of the score's line. */
 struct slice {
-    uint8_t bytes[SLICE_MAX];
+    uint8_t bytes[WOSTHILE_SLICE_FILE_MAX];
     size_t count;
     size_t placed;
 };
 
-/* Adds the part whose bytes stand next, with the parts below it. */
+/* Adds the part whose bytes come next, with the parts below it. */
 static void add_part(struct stage *stage, const uint8_t *type)
 {
     struct part *part = &stage->parts[stage->count];
@@ -358,13 +369,13 @@ static bool is_line(const struct stage *stage, const struct part *part, const st
 static void put_leaf(struct slice *slice, const struct part *part, const struct line *line, bool comes)
 {
     if (part->kind == EMPTY || part->done) {
-        put(slice, 0);
+        put(slice, WOSTHILE_SLICE_NOTHING);
     } else if (part->kind == CUE) {
-        put(slice, comes ? 2 : 1);
+        put(slice, comes ? WOSTHILE_SLICE_CUE_COME : WOSTHILE_SLICE_CUE_AWAITED);
     } else if (!comes) {
-        put(slice, 3);
+        put(slice, WOSTHILE_SLICE_LEVEL_AWAITED);
     } else {
-        put(slice, 4);
+        put(slice, WOSTHILE_SLICE_LEVEL_COME);
         put(slice, line->value / 256);
         put(slice, line->value % 256);
     }
@@ -382,7 +393,9 @@ static void put_part(struct slice *slice, const struct stage *stage, size_t at, 
     }
     bool crossed = part->kind == SEQUENCE && part->done;
     if (!crossed) {
-        put(slice, part->kind == BESIDE ? 7 : comes ? 6 : 5);
+        put(slice, part->kind == BESIDE ? WOSTHILE_SLICE_BESIDE
+                   : comes              ? WOSTHILE_SLICE_CROSSED
+                                        : WOSTHILE_SLICE_IN_FIRST);
         put_part(slice, stage, at + 1, line);
     }
     if (crossed || comes || part->kind == BESIDE) {
@@ -404,13 +417,13 @@ static void write_count(FILE *stream, size_t count)
 }
 
 /* A file after its length, as a show has them, or a section, which is the same on a smaller scale. */
-static void write_counted(FILE *stream, struct bytes bytes)
+static void write_counted(FILE *stream, struct file file)
 {
-    write_count(stream, bytes.count);
-    fwrite(bytes.at, 1, bytes.count, stream);
+    write_count(stream, file.length);
+    fwrite(file.bytes, 1, file.length, stream);
 }
 
-/* A damaged frame stands as the score has it. False if what should come has no place in the show at that time. */
+/* A damaged frame is written as the score has it. False if what should come has no place in the show at that time. */
 static bool write_frame(FILE *stream, struct stage *stage, const struct line *line, size_t broken_off)
 {
     if (line != NULL && line->action == DAMAGED) {
@@ -428,7 +441,7 @@ static bool write_frame(FILE *stream, struct stage *stage, const struct line *li
 
 static void write_patch(FILE *stream, const struct score *score)
 {
-    write_count(stream, 2 + score->type.count + 2 + score->nodes.count);
+    write_count(stream, 2 + score->type.length + 2 + score->nodes.length);
     write_counted(stream, score->type);
     write_counted(stream, score->nodes);
 }
@@ -439,7 +452,7 @@ static bool write_show(FILE *stream, const struct score *score)
     struct stage stage = {.count = 0};
     bool good = true;
     size_t next = 0;
-    add_part(&stage, score->type.at);
+    add_part(&stage, score->type.bytes);
     write_patch(stream, score);
     for (size_t frame = 1; frame <= score->frames; frame++) {
         const struct line *line = NULL;
@@ -455,36 +468,35 @@ static bool write_show(FILE *stream, const struct score *score)
 static bool write_lanes(FILE *stream, const struct score *score) { return fputs(score->lanes, stream) >= 0; }
 
 /* Writes one of the two files of a show: the show itself, or the names of its lanes. */
-static bool make_file(const char *folder, const struct score *score, const char *ending,
+static void make_file(const char *folder, const struct score *score, const char *ending,
                       bool (*write)(FILE *, const struct score *))
 {
     char path[4096];
     int length = snprintf(path, sizeof path, "%s/%s%s", folder, score->name, ending);
     FILE *stream = length > 0 && (size_t)length < sizeof path ? fopen(path, "wb") : NULL;
     if (stream == NULL) {
-        fprintf(stderr, "%s/%s%s cannot be opened.\n", folder, score->name, ending);
-        return false;
+        stop("%s/%s%s cannot be opened", folder, score->name, ending);
     }
     bool good = write(stream, score);
-    good = !ferror(stream) && good;
-    good = fclose(stream) == 0 && good;
-    if (!good) {
-        fprintf(stderr, "%s cannot be written, or its score has a line that has no place.\n", path);
+    bool written = !ferror(stream);
+    if (fclose(stream) != 0 || !written) {
+        stop("%s cannot be written", path);
     }
-    return good;
+    if (!good) {
+        stop("%s has a line that has no place", score->name);
+    }
 }
 
 int main(int count, char **words)
 {
     static const struct score *const scores[] = {&comet_to_saturn, &two_skies_evening, &lamp_fade, &damaged};
-    if (count != 2) {
-        fprintf(stderr, "make_shows FOLDER\n");
-        return 2;
+    program_begin(help, count, words);
+    if (count != 2 || words[1][0] == '-') {
+        stop_for_words();
     }
-    bool good = true;
     for (size_t index = 0; index < sizeof scores / sizeof scores[0]; index++) {
-        good = make_file(words[1], scores[index], ".show", write_show) && good;
-        good = make_file(words[1], scores[index], ".lanes", write_lanes) && good;
+        make_file(words[1], scores[index], ".show", write_show);
+        make_file(words[1], scores[index], ".lanes", write_lanes);
     }
-    return good ? 0 : 1;
+    return program_end(STATUS_DONE);
 }

@@ -2,20 +2,32 @@
  * A rehearsal that tells something about the next show: it feeds a recorded stream as it was recorded, then cuts it
  * anew, many times at random, and compares what is sent and which patch is left, byte for byte.
  *
- *   rehearsal SHOW [CUTS] [SEED]
- *
  * A cut is a list of groups: each group of neighbouring slices is joined and fed as one. The first cut takes all slices
- * as one group; for each other one it is drawn anew how readily neighbours are joined. The exit status is 0 if no cut
- * made a difference, 1 if one did, and 2 if nothing could be compared.
+ * as one group; for each other one it is drawn anew how readily neighbours are joined.
  */
 #define _POSIX_C_SOURCE 200809L /* for clock_gettime and isatty */
-#include "feeding.h"
-#include "program.h"
+#include "arrivals.h"
+#include "faults.h"
+#include "opening.h"
 
 #include <stdio.h>
 #include <stdlib.h>
 #include <time.h>
 #include <unistd.h>
+
+static const char help[] =
+    "rehearsal SHOW [CUTS [SEED]]\n"
+    "\n"
+    "Feeds a show file as it was recorded, then cuts the recording anew and feeds each cut: neighbouring slices are\n"
+    "joined and fed as one. All that is sent, joined, and the patch left at the end have to be the same, byte for "
+    "byte.\n"
+    "\n"
+    "  CUTS  how many cuts are tried; 1000 without this word. The first takes all slices as one\n"
+    "  SEED  the number that the other cuts are drawn by; 1 without this word\n"
+    "\n"
+    "A slice that is refused as recorded, and a last slice in which the file ends, are told on the error stream and\n"
+    "left out of all cuts. Status: 0 no cut made a difference, 1 one did, or the patch is refused, 2 the words or the\n"
+    "file cannot be used, nothing could be compared, or the answer cannot be written.\n";
 
 /* A patch that is being fed, from its start, and all that it has sent so far. */
 struct run {
@@ -26,9 +38,11 @@ struct run {
 
 /* Where a call was refused, if one was. */
 struct refusal {
-    const char *call;
+    enum call { JOINING_SLICES, FEEDING, JOINING_OUTPUTS } call;
     uint32_t number;
 };
+
+static const char *const call_names[] = {"joining the slices", "the feed", "joining the outputs"};
 
 /* The slices of the show that were accepted as recorded. */
 struct slices {
@@ -36,7 +50,7 @@ struct slices {
     size_t count;
 };
 
-/* For each of the slices whether it stands in one group with the next. */
+/* For each of the slices whether it is in one group with the next. */
 struct cut {
     bool *joins;
     size_t count;
@@ -46,7 +60,7 @@ struct tally {
     size_t feeds, largest;
 };
 
-static const struct refusal none = {"", WOSTHILE_ACCEPTED};
+static const struct refusal none = {FEEDING, WOSTHILE_ACCEPTED};
 
 /* Feeds a group of slices as one. A refusal by any of the calls is told, and the group is not fed. */
 static struct refusal feed_group(struct run *run, const struct file *slices, size_t size)
@@ -55,16 +69,16 @@ static struct refusal feed_group(struct run *run, const struct file *slices, siz
     for (size_t index = 0; index < size; index++) {
         uint32_t number = joined_add(&group, patch_input_type(&run->patch), slices[index]);
         if (number != WOSTHILE_ACCEPTED) {
-            return (struct refusal){"joining the slices", number};
+            return (struct refusal){JOINING_SLICES, number};
         }
     }
     uint8_t output[WOSTHILE_SLICE_FILE_MAX];
     wosthile_fed fed = patch_feed(&run->patch, joined_file(&group), output);
     if (fed.number != WOSTHILE_ACCEPTED) {
-        return (struct refusal){"the feed", fed.number};
+        return (struct refusal){FEEDING, fed.number};
     }
     uint32_t number = joined_add(&run->sent, type_file(&run->output_type), (struct file){output, fed.output});
-    return number == WOSTHILE_ACCEPTED ? none : (struct refusal){"joining the outputs", number};
+    return number == WOSTHILE_ACCEPTED ? none : (struct refusal){JOINING_OUTPUTS, number};
 }
 
 static bool same_file(struct file one, struct file other)
@@ -78,17 +92,31 @@ static bool same_state(const struct run *one, const struct run *other)
            same_file(patch_file(&one->patch), patch_file(&other->patch));
 }
 
-/* Feeds the show as recorded. A refused slice is told and left out of all cuts. */
-static struct slices feed_as_recorded(struct run *run, const struct show *show)
+/* Tells that a recorded slice is left out, and why. */
+static void tell_refusal(const struct opened_show *opened, size_t index, struct refusal refusal)
 {
-    struct slices accepted = {calloc(show->count + 1, sizeof(struct file)), 0};
-    for (size_t index = 0; accepted.list != NULL && index < show->count; index++) {
+    char text[MESSAGE_BYTES];
+    if (refusal.call == JOINING_SLICES) {
+        slice_fault_text(text, sizeof text, &opened->in, opened->show.slices[index], &opened->names.in);
+    } else {
+        snprintf(text, sizeof text, "%s: %s", call_names[refusal.call], wosthile_sentence(refusal.number));
+    }
+    tell("recorded slice %zu is refused with %u, and left out: %s", index + 1, refusal.number, text);
+}
+
+/* Feeds the show as recorded, and its input's lanes follow. A refused slice is told and left out of all cuts. */
+static struct slices feed_as_recorded(struct run *run, struct opened_show *opened)
+{
+    const struct show *show = &opened->show;
+    struct slices accepted = {memory(show->count + 1, sizeof(struct file)), 0};
+    struct lane_events events;
+    for (size_t index = 0; index < show->count; index++) {
         struct refusal refusal = feed_group(run, &show->slices[index], 1);
         if (refusal.number == WOSTHILE_ACCEPTED) {
+            lanes_follow(&opened->in, show->slices[index], &events);
             accepted.list[accepted.count++] = show->slices[index];
         } else {
-            printf("Recorded slice %zu is left out; it is refused with %u: %s\n", index + 1, refusal.number,
-                   wosthile_sentence(refusal.number));
+            tell_refusal(opened, index, refusal);
         }
     }
     return accepted;
@@ -111,7 +139,7 @@ static void cut_out(struct cut *cut, size_t first, size_t size)
     }
 }
 
-/* How many slices stand in the group that begins with this one. */
+/* How many slices are in the group that begins with this one. */
 static size_t group_size(const struct cut *cut, size_t first)
 {
     size_t size = 1;
@@ -170,7 +198,7 @@ static void print_file(const char *what, struct file file)
     printf("\n");
 }
 
-/* The sizes of the groups up to one of them, which stands in brackets, and some behind it; dots are more of them. */
+/* The sizes of the groups up to one of them, which is in brackets, and some behind it; dots are more of them. */
 static void print_sizes(const struct cut *cut, size_t marked)
 {
     enum { PRINTED = 20, BEHIND = 10 };
@@ -228,7 +256,7 @@ static void explain(const struct run *start, const struct slices *slices, const 
     print_sizes(cut, first);
     printf("The two part at the group in brackets, slices %zu to %zu of the accepted ones.\n", first + 1, first + size);
     if (refusal.number != WOSTHILE_ACCEPTED) {
-        printf("The cut cannot be made: %s is refused with %u: %s\n", refusal.call, refusal.number,
+        printf("The cut cannot be made: %s is refused with %u: %s\n", call_names[refusal.call], refusal.number,
                wosthile_sentence(refusal.number));
     }
     print_state("The recording, behind these slices:", &recorded);
@@ -289,16 +317,12 @@ static void report_difference(const struct run *start, const struct run *recorde
     }
 }
 
-/* Compares cuts with the recording and reports; the answer is the exit status. */
-static int compare(const struct run *start, const struct run *recorded, const struct slices *slices, size_t cuts,
-                   uint64_t seed)
+/* Compares cuts with the recording and reports. */
+static enum status compare(const struct run *start, const struct run *recorded, const struct slices *slices,
+                           size_t cuts, uint64_t seed)
 {
     struct tally tally = {0};
-    struct cut cut = {calloc(slices->count, sizeof *cut.joins), slices->count};
-    if (cut.joins == NULL) {
-        fprintf(stderr, "There is not enough memory for a cut.\n");
-        return 2;
-    }
+    struct cut cut = {memory(slices->count, sizeof *cut.joins), slices->count};
     double began = seconds_now();
     size_t same = compare_cuts(start, recorded, slices, &cut, cuts, seed, &tally);
     if (same < cuts) {
@@ -311,26 +335,21 @@ static int compare(const struct run *start, const struct run *recorded, const st
                cuts, slices->count, tally.feeds, tally.largest, seconds_now() - began);
     }
     free(cut.joins);
-    return same < cuts ? 1 : 0;
+    return same < cuts ? STATUS_REFUSED : STATUS_DONE;
 }
 
-static int rehearse(const struct show *show, size_t cuts, uint64_t seed)
+static enum status rehearse(struct opened_show *opened, size_t cuts, uint64_t seed)
 {
-    struct run start;
-    start.sent.count = 0;
-    uint32_t number = patch_start(&start.patch, show->patch, &start.output_type);
-    if (number != WOSTHILE_ACCEPTED) {
-        printf("The patch is refused with %u: %s\n", number, wosthile_sentence(number));
-        return 2;
-    }
+    struct run start = {.patch = opened->patch, .output_type = opened->output_type, .sent = {.count = 0}};
     struct run recorded = start;
-    struct slices slices = feed_as_recorded(&recorded, show);
-    if (slices.count < show->count) {
-        printf("%zu of %zu recorded slices are left out.\n", show->count - slices.count, show->count);
+    struct slices slices = feed_as_recorded(&recorded, opened);
+    size_t left_out = opened->show.count - slices.count;
+    if (left_out > 0) {
+        tell("%zu of %zu recorded slices are left out", left_out, opened->show.count);
     }
-    int status = 2;
+    enum status status = STATUS_UNUSABLE;
     if (slices.count == 0) {
-        printf("No slice was accepted, so there is nothing to compare.\n");
+        tell("no slice was accepted, so there is nothing to compare");
     } else {
         status = compare(&start, &recorded, &slices, cuts, seed);
     }
@@ -341,18 +360,16 @@ static int rehearse(const struct show *show, size_t cuts, uint64_t seed)
 int main(int count, char **words)
 {
     uint64_t cuts = 1000, seed = 1;
-    if (count < 2 || count > 4 || (count > 2 && !read_number(words[2], &cuts)) ||
+    struct opened_show opened;
+    program_begin(help, count, words);
+    if (count < 2 || count > 4 || words[1][0] == '-' || (count > 2 && !read_number(words[2], &cuts)) ||
         (count > 3 && !read_number(words[3], &seed)) || cuts == 0) {
-        fprintf(stderr, "rehearsal SHOW [CUTS] [SEED]\n");
-        return 2;
+        stop_for_words();
     }
-    struct show show;
-    const char *fault = show_read(words[1], &show);
-    if (fault != NULL) {
-        fprintf(stderr, "%s: %s\n", words[1], fault);
-        return 2;
+    enum status status = open_show(words[1], &opened);
+    if (status == STATUS_DONE) {
+        status = rehearse(&opened, cuts, seed);
     }
-    int status = rehearse(&show, cuts, seed);
-    show_release(&show);
-    return status;
+    close_show(&opened);
+    return program_end(status);
 }

@@ -1,0 +1,33 @@
+#include "opening.h"
+#include "faults.h"
+
+/* Which lanes a refused patch has is not known, so any of them may have a name. */
+static void tell_refused_patch(const char *path, struct opened_show *opened, uint32_t number)
+{
+    char text[MESSAGE_BYTES];
+    lane_names_read(&opened->names, path, LANES_MAX, LANES_MAX);
+    patch_fault_text(text, sizeof text, opened->show.patch, &opened->names.in);
+    tell("%s: the patch is refused with %u: %s", path, number, text);
+}
+
+enum status open_show(const char *path, struct opened_show *opened)
+{
+    const char *fault = show_read(path, &opened->show);
+    if (fault != NULL) {
+        stop("%s: %s", path, fault);
+    }
+    show_tell_unfinished(path, &opened->show);
+    uint32_t number = patch_start(&opened->patch, opened->show.patch, &opened->output_type);
+    if (number != WOSTHILE_ACCEPTED) {
+        tell_refused_patch(path, opened, number);
+        return STATUS_REFUSED;
+    }
+    if (!lanes_start(&opened->in, patch_input_type(&opened->patch)) ||
+        !lanes_start(&opened->out, type_file(&opened->output_type))) {
+        stop("a type of the patch cannot be read");
+    }
+    lane_names_read(&opened->names, path, opened->in.count, opened->out.count);
+    return STATUS_DONE;
+}
+
+void close_show(struct opened_show *opened) { show_release(&opened->show); }

@@ -1,0 +1,28 @@
+/*
+ * A show that is ready to be played: its file is read, its patch is accepted and in force, and its lanes have names.
+ */
+#ifndef OPENING_H
+#define OPENING_H
+
+#include "feeding.h"
+#include "lanes.h"
+#include "program.h"
+
+struct opened_show {
+    struct show show;
+    struct patch patch;
+    struct type output_type; /* the one that the patch gives, at the start */
+    struct lanes in, out;    /* of the input type and of the output type, at the start */
+    struct lane_names names;
+};
+
+/*
+ * Opens a show. If the file cannot be used, the program stops. If the patch is refused, this is told with its place,
+ * and the answer is STATUS_REFUSED. An unfinished last slice, and lines beside the show that name no lane, are told,
+ * and the answer is STATUS_DONE.
+ */
+enum status open_show(const char *path, struct opened_show *opened);
+
+void close_show(struct opened_show *opened);
+
+#endif
