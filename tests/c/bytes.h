@@ -20,22 +20,25 @@ struct bytes {
  * RAW is a file byte by byte; FILE_OF is the file of one section, given by its contents; PATCH_OF is the file of two,
  * each given by its contents in parentheses.
  */
+/* clang-format off */
 #define LENGTH(...) sizeof((const uint8_t[]){__VA_ARGS__})
 #define RAW(...) {(const uint8_t[]){__VA_ARGS__}, LENGTH(__VA_ARGS__)}
 #define FILE_OF(...) {(const uint8_t[]){0, LENGTH(__VA_ARGS__), __VA_ARGS__}, 2 + LENGTH(__VA_ARGS__)}
 #define PATCH_OF(type, nodes) RAW(0, LENGTH type, CONTENTS type, 0, LENGTH nodes, CONTENTS nodes)
 #define CONTENTS(...) __VA_ARGS__
 #define NONE {NULL, 0}
+/* clang-format on */
 
 static int passed, failed;
 
-static inline void count(bool holds, const char *operation, const char *name, size_t room)
+/* Counts what holds or does not; which of several it was is the length of a buffer in most tests. */
+static inline void count(bool holds, const char *what, const char *name, size_t which)
 {
     if (holds) {
         passed++;
     } else {
         failed++;
-        printf("%s, %s, buffer of %zu: FAILED\n", operation, name, room);
+        printf("%s, %s, %zu: FAILED\n", what, name, which);
     }
 }
 
@@ -60,11 +63,8 @@ static inline bool unaltered(const uint8_t *copy, struct bytes bytes)
 
 enum { MARGIN = 16 };
 
-/* What stands at a place of the memory around and in a lent buffer before a call: no two neighbours alike, never 0. */
-static inline uint8_t before(size_t place)
-{
-    return (uint8_t)(place % 251 + 5);
-}
+/* What is at a place of the memory around and in a lent buffer before a call: no two neighbours alike, never 0. */
+static inline uint8_t before(size_t place) { return (uint8_t)(place % 251 + 5); }
 
 /* Memory for a lent buffer of this length, with its margins. */
 static inline uint8_t *lent_memory(size_t room)
@@ -148,9 +148,25 @@ static inline void release(struct bytes *files, size_t number)
     }
 }
 
+/* A patch file of two sections, which are released. */
+static inline struct bytes patch_of(struct bytes type, struct bytes nodes)
+{
+    size_t length = type.count + nodes.count;
+    uint8_t *patch = malloc(length);
+    if (patch == NULL) {
+        abort();
+    }
+    append(append(patch, type), nodes);
+    struct bytes files[] = {type, nodes};
+    release(files, sizeof files / sizeof files[0]);
+    return (struct bytes){patch, length};
+}
+
 /* SECTION is given by its contents; LANES is a type of one node more than twice its number. */
+/* clang-format off */
 #define SECTION(...) {RAW(__VA_ARGS__), NONE, 0, NONE}
 #define LANES(times) {NONE, RAW(4, 1), times, RAW(1)}
 #define NO_SECTION {NONE, NONE, 0, NONE}
+/* clang-format on */
 
 #endif

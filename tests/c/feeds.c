@@ -1,6 +1,6 @@
 /*
  * Calls of Feed through the header alone, each with the answer that document 01 gives for it: single feeds with every
- * length of either buffer, and a run of feeds with two patch buffers. Files and buffers stand as in cases.c: in memory
+ * length of either buffer, and a run of feeds with two patch buffers. Files and buffers are as in cases.c: in memory
  * of their exact size, and between margins.
  */
 #include "bytes.h"
@@ -165,20 +165,6 @@ static void check_feed(const struct feed_row *row)
     check_rooms(row, 0, 0);
 }
 
-/* A patch file of two sections, which are released. */
-static struct bytes patch_of(struct bytes type, struct bytes nodes)
-{
-    size_t length = type.count + nodes.count;
-    uint8_t *patch = malloc(length);
-    if (patch == NULL) {
-        abort();
-    }
-    append(append(patch, type), nodes);
-    struct bytes files[] = {type, nodes};
-    release(files, sizeof files / sizeof files[0]);
-    return (struct bytes){patch, length};
-}
-
 /* A feed with files of many bytes, all of which are released. */
 static void check_large(const char *name, struct bytes patch, struct bytes slice, uint32_t number, struct bytes output,
                         struct bytes left)
@@ -260,8 +246,8 @@ static void check_run(void)
     append(patch, run_start);
     for (size_t index = 0; index < sizeof run_steps / sizeof run_steps[0]; index++) {
         const struct run_step *step = &run_steps[index];
-        wosthile_fed fed = wosthile_feed(patch, length, step->slice.at, step->slice.count, output, sizeof output, left,
-                                         step->room);
+        wosthile_fed fed =
+            wosthile_feed(patch, length, step->slice.at, step->slice.count, output, sizeof output, left, step->room);
         bool right = fed.number == step->number && fed.output == step->output.count && fed.patch == step->left.count;
         right = right && unaltered(output, step->output) && unaltered(left, step->left);
         count(right, "Feed", "a run of feeds, step", index);

@@ -3,6 +3,7 @@
  * never takes a part away, as the lanes do. Both have to tell the same events, and what the lanes take to be left of
  * the type has to be what the library leaves.
  */
+#include "arrivals.h"
 #include "lanes.h"
 
 #include <stdio.h>
@@ -34,14 +35,15 @@ static unsigned draw(struct trial *trial, unsigned below) { return (unsigned)(ne
 /* Draws a part with a number of leaves; sequences and parts side by side are as likely. */
 static void draw_part(struct trial *trial, unsigned leaves)
 {
+    static const uint8_t leaf_kinds[3] = {WOSTHILE_TYPE_EMPTY, WOSTHILE_TYPE_CUE, WOSTHILE_TYPE_LEVEL};
     struct part *part = &trial->parts[trial->count++];
-    *part = (struct part){.kind = (uint8_t)draw(trial, 3), .lanes = {trial->lanes + 1, trial->lanes + leaves}};
+    *part = (struct part){.kind = leaf_kinds[draw(trial, 3)], .lanes = {trial->lanes + 1, trial->lanes + leaves}};
     if (leaves == 1) {
         trial->lanes++;
         return;
     }
     unsigned first = 1 + draw(trial, leaves - 1);
-    part->kind = (uint8_t)(3 + draw(trial, 2));
+    part->kind = draw(trial, 2) == 0 ? WOSTHILE_TYPE_SEQUENCE : WOSTHILE_TYPE_BESIDE;
     draw_part(trial, first);
     part->second = trial->count;
     draw_part(trial, leaves - first);
@@ -58,18 +60,18 @@ static void expect(struct trial *trial, struct lane_event event)
 
 static void draw_leaf(struct trial *trial, struct part *part)
 {
-    if (part->kind == 0 || part->done) {
-        put(trial, 0);
+    if (part->kind == WOSTHILE_TYPE_EMPTY || part->done) {
+        put(trial, WOSTHILE_SLICE_NOTHING);
     } else if (!comes(trial)) {
-        put(trial, part->kind == 1 ? 1 : 3);
-    } else if (part->kind == 1) {
+        put(trial, part->kind == WOSTHILE_TYPE_CUE ? WOSTHILE_SLICE_CUE_AWAITED : WOSTHILE_SLICE_LEVEL_AWAITED);
+    } else if (part->kind == WOSTHILE_TYPE_CUE) {
         part->done = true;
-        put(trial, 2);
+        put(trial, WOSTHILE_SLICE_CUE_COME);
         expect(trial, (struct lane_event){.kind = EVENT_CUE, .lane = part->lanes.first});
     } else {
         unsigned value = draw(trial, 65536);
         part->done = true;
-        put(trial, 4);
+        put(trial, WOSTHILE_SLICE_LEVEL_COME);
         put(trial, value / 256);
         put(trial, value % 256);
         expect(trial, (struct lane_event){.kind = EVENT_LEVEL, .lane = part->lanes.first, .value = value});
@@ -81,7 +83,7 @@ static bool is_complete(const struct trial *trial, size_t at)
 {
     const struct part *part = &trial->parts[at];
     if (part->kind < WOSTHILE_TYPE_SEQUENCE) {
-        return part->kind == 0 || part->done;
+        return part->kind == WOSTHILE_TYPE_EMPTY || part->done;
     }
     bool first = part->kind == WOSTHILE_TYPE_SEQUENCE ? part->done : is_complete(trial, at + 1);
     return first && is_complete(trial, part->second);
@@ -98,12 +100,12 @@ static void draw_slice(struct trial *trial, size_t at)
     size_t kind_at = trial->length;
     bool sequence = part->kind == WOSTHILE_TYPE_SEQUENCE, crossed = sequence && part->done;
     if (!crossed) {
-        put(trial, sequence ? 5 : 7);
+        put(trial, sequence ? WOSTHILE_SLICE_IN_FIRST : WOSTHILE_SLICE_BESIDE);
         draw_slice(trial, at + 1);
     }
     if (sequence && !crossed && is_complete(trial, at + 1) && comes(trial)) {
         part->done = true;
-        trial->slice[kind_at] = 6;
+        trial->slice[kind_at] = WOSTHILE_SLICE_CROSSED;
         struct lane_range from = trial->parts[at + 1].lanes, to = trial->parts[part->second].lanes;
         expect(trial, (struct lane_event){.kind = EVENT_CROSSING, .from = from, .to = to});
     }
@@ -130,7 +132,7 @@ static bool agrees_on_any_bytes(struct trial *trial, const struct lanes *lanes)
     struct lanes tried = *lanes;
     struct lane_events events;
     for (size_t place = 2; place < sizeof bytes; place++) {
-        bytes[place] = (uint8_t)draw(trial, 8);
+        bytes[place] = (uint8_t)draw(trial, WOSTHILE_SLICE_BESIDE + 1);
     }
     size_t length = draw(trial, sizeof bytes + 1);
     wosthile_admitted admitted = wosthile_admit(lanes->type, 2 + lanes->nodes, bytes, length);

@@ -1,9 +1,9 @@
 /*
  * Feeds that are wrong when slices come as one, to try that the rehearsal finds them. Linked with
- * -Wl,--wrap=wosthile_feed, they stand in for the feed of the library. The environment variable LOSING says which:
+ * -Wl,--wrap=wosthile_feed, they take the place of the feed of the library. The environment variable LOSING says which:
  *
  *   crossing   the interpreter of old: a slice that crosses, and brings something before that, is not crossed
- *   behind     what stands behind a crossing, in a slice that brings something before it, has not come
+ *   behind     what is behind a crossing, in a slice that brings something before it, has not come
  *   patch      sends all, but after such a slice leaves a patch with two nodes more
  *
  * Without it the feed is that of the library.
@@ -18,7 +18,6 @@ wosthile_fed __real_wosthile_feed(const uint8_t *patch, size_t patch_len, const 
 wosthile_fed __wrap_wosthile_feed(const uint8_t *patch, size_t patch_len, const uint8_t *slice, size_t slice_len,
                                   uint8_t *output, size_t output_len, uint8_t *left, size_t left_len);
 
-enum { CUE_AWAITED = 1, CUE_COME, LEVEL_AWAITED, LEVEL_COME, IN_FIRST, CROSSED, BESIDE };
 enum loss { NOTHING, CROSSING, BEHIND, PATCH };
 
 /* An accepted slice as it is read, and as it is written anew. */
@@ -40,14 +39,14 @@ static bool copy_slice(struct copy *copy, bool emptied);
 static bool copy_crossed(struct copy *copy, bool emptied)
 {
     size_t at = copy->written;
-    put(copy, emptied ? IN_FIRST : CROSSED);
+    put(copy, emptied ? WOSTHILE_SLICE_IN_FIRST : WOSTHILE_SLICE_CROSSED);
     bool brings = copy_slice(copy, emptied);
     bool loses = brings && !emptied;
     copy->lost = copy->lost || loses;
     size_t second = copy->written;
     copy_slice(copy, emptied || (loses && copy->loss == BEHIND));
     if (loses && copy->loss == CROSSING) {
-        copy->to[at] = IN_FIRST;
+        copy->to[at] = WOSTHILE_SLICE_IN_FIRST;
     }
     if (emptied || (loses && copy->loss == CROSSING)) {
         copy->written = second;
@@ -59,23 +58,23 @@ static bool copy_slice(struct copy *copy, bool emptied)
 {
     uint8_t kind = copy->from[copy->read++];
     switch (kind) {
-    case CUE_COME:
-        put(copy, emptied ? CUE_AWAITED : CUE_COME);
+    case WOSTHILE_SLICE_CUE_COME:
+        put(copy, emptied ? WOSTHILE_SLICE_CUE_AWAITED : WOSTHILE_SLICE_CUE_COME);
         return true;
-    case LEVEL_COME:
-        put(copy, emptied ? LEVEL_AWAITED : LEVEL_COME);
+    case WOSTHILE_SLICE_LEVEL_COME:
+        put(copy, emptied ? WOSTHILE_SLICE_LEVEL_AWAITED : WOSTHILE_SLICE_LEVEL_COME);
         for (int byte = 0; byte < 2; byte++, copy->read++) {
             if (!emptied) {
                 put(copy, copy->from[copy->read]);
             }
         }
         return true;
-    case IN_FIRST:
+    case WOSTHILE_SLICE_IN_FIRST:
         put(copy, kind);
         return copy_slice(copy, emptied);
-    case CROSSED:
+    case WOSTHILE_SLICE_CROSSED:
         return copy_crossed(copy, emptied);
-    case BESIDE: {
+    case WOSTHILE_SLICE_BESIDE: {
         put(copy, kind);
         bool left = copy_slice(copy, emptied);
         return copy_slice(copy, emptied) || left;
@@ -103,8 +102,8 @@ static size_t with_chain(uint8_t *patch, size_t length)
     memmove(patch + nodes + 4, patch + nodes + 2, count - 2);
     patch[nodes] = (uint8_t)(count / 256);
     patch[nodes + 1] = (uint8_t)(count % 256);
-    patch[nodes + 2] = 10;
-    patch[nodes + 3] = 0;
+    patch[nodes + 2] = WOSTHILE_NODE_CHAIN;
+    patch[nodes + 3] = WOSTHILE_NODE_PASS;
     return length + 2;
 }
 

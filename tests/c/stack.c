@@ -23,7 +23,7 @@ struct files {
     struct file whole, first, second;
 };
 
-/* What stands at a leaf of a tree; at most silent with the largest type. */
+/* What is at a leaf of a tree; at most silent with the largest type. */
 struct leaf {
     uint8_t bytes[WOSTHILE_TYPE_FILE_MAX];
     size_t length;
@@ -31,7 +31,7 @@ struct leaf {
 
 #define LEAF(...) ((struct leaf){{__VA_ARGS__}, sizeof((const uint8_t[]){__VA_ARGS__})})
 
-/* The side on which the forks of a tree stand one below the other. */
+/* The side on which the forks of a tree are one below the other. */
 enum side { FIRST_PARTS, SECOND_PARTS };
 
 static void put(struct file *file, int byte) { file->bytes[file->length++] = (uint8_t)byte; }
@@ -43,7 +43,7 @@ static void put_leaf(struct file *file, struct leaf leaf)
     }
 }
 
-/* Begins a section and answers where its contents stand. */
+/* Begins a section and answers where its contents begin. */
 static size_t begin(struct file *file)
 {
     file->length += 2;
@@ -57,7 +57,7 @@ static void end(struct file *file, size_t contents)
     file->bytes[contents - 1] = (uint8_t)(count % 256);
 }
 
-/* What stands before the deepest part of a tree: every fork, or each fork followed by its first leaf. */
+/* What comes before the deepest part of a tree: every fork, or each fork followed by its first leaf. */
 static void put_above(struct file *file, int forks, int fork, struct leaf leaf, enum side side)
 {
     for (int count = 0; count < forks; count++) {
@@ -68,7 +68,7 @@ static void put_above(struct file *file, int forks, int fork, struct leaf leaf, 
     }
 }
 
-/* What stands behind it: the leaves that are second parts. */
+/* What comes behind it: the leaves that are second parts. */
 static void put_behind(struct file *file, int forks, struct leaf leaf, enum side side)
 {
     for (int count = 0; count < forks && side == FIRST_PARTS; count++) {
@@ -283,7 +283,7 @@ static void make_silents(struct files *files, struct depth depth)
 
 /* Calls of Feed, each made for every depth. */
 static void (*const feeds[])(struct files *, struct depth) = {
-    make_passing, make_waiting_in_chains, make_waiting_in_pairs, make_waiting_in_thens,
+    make_passing, make_waiting_in_chains,  make_waiting_in_pairs,    make_waiting_in_thens,
     make_silents, make_crossing_in_chains, make_spreading_in_chains,
 };
 

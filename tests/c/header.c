@@ -1,0 +1,236 @@
+/*
+ * The header and the archive agree: on the interface, and on every kind and every number that the header names. Each is
+ * tried by a feed. The header cannot name a kind that the library lacks, or lack one that the library has.
+ */
+#include "bytes.h"
+
+/* A feed of a slice to a patch. */
+struct example {
+    struct bytes patch, slice;
+};
+
+#define FOUR_TIMES(...) __VA_ARGS__, __VA_ARGS__, __VA_ARGS__, __VA_ARGS__
+
+/* A feed with each kind, all of which are accepted. */
+static const struct example type_examples[] = {
+    [WOSTHILE_TYPE_EMPTY] = {PATCH_OF((WOSTHILE_TYPE_EMPTY), (0)), FILE_OF(0)},
+    [WOSTHILE_TYPE_CUE] = {PATCH_OF((WOSTHILE_TYPE_CUE), (0)), FILE_OF(1)},
+    [WOSTHILE_TYPE_LEVEL] = {PATCH_OF((WOSTHILE_TYPE_LEVEL), (0)), FILE_OF(3)},
+    [WOSTHILE_TYPE_SEQUENCE] = {PATCH_OF((WOSTHILE_TYPE_SEQUENCE, 1, 2), (0)), FILE_OF(5, 1)},
+    [WOSTHILE_TYPE_BESIDE] = {PATCH_OF((WOSTHILE_TYPE_BESIDE, 1, 2), (0)), FILE_OF(7, 1, 3)},
+};
+
+static const struct example slice_examples[] = {
+    [WOSTHILE_SLICE_NOTHING] = {PATCH_OF((0), (0)), FILE_OF(WOSTHILE_SLICE_NOTHING)},
+    [WOSTHILE_SLICE_CUE_AWAITED] = {PATCH_OF((1), (0)), FILE_OF(WOSTHILE_SLICE_CUE_AWAITED)},
+    [WOSTHILE_SLICE_CUE_COME] = {PATCH_OF((1), (0)), FILE_OF(WOSTHILE_SLICE_CUE_COME)},
+    [WOSTHILE_SLICE_LEVEL_AWAITED] = {PATCH_OF((2), (0)), FILE_OF(WOSTHILE_SLICE_LEVEL_AWAITED)},
+    [WOSTHILE_SLICE_LEVEL_COME] = {PATCH_OF((2), (0)), FILE_OF(WOSTHILE_SLICE_LEVEL_COME, 1, 44)},
+    [WOSTHILE_SLICE_IN_FIRST] = {PATCH_OF((3, 1, 2), (0)), FILE_OF(WOSTHILE_SLICE_IN_FIRST, 1)},
+    [WOSTHILE_SLICE_CROSSED] = {PATCH_OF((3, 1, 2), (0)), FILE_OF(WOSTHILE_SLICE_CROSSED, 2, 3)},
+    [WOSTHILE_SLICE_BESIDE] = {PATCH_OF((4, 1, 2), (0)), FILE_OF(WOSTHILE_SLICE_BESIDE, 2, 3)},
+};
+
+static const struct example node_examples[] = {
+    [WOSTHILE_NODE_PASS] = {PATCH_OF((1), (WOSTHILE_NODE_PASS)), FILE_OF(1)},
+    [WOSTHILE_NODE_SILENT] = {PATCH_OF((1), (WOSTHILE_NODE_SILENT, 0)), FILE_OF(1)},
+    [WOSTHILE_NODE_CUE] = {PATCH_OF((1), (WOSTHILE_NODE_CUE)), FILE_OF(1)},
+    [WOSTHILE_NODE_LEVEL] = {PATCH_OF((1), (WOSTHILE_NODE_LEVEL, 1, 44)), FILE_OF(1)},
+    [WOSTHILE_NODE_BOTH] = {PATCH_OF((1), (WOSTHILE_NODE_BOTH, 0, 0)), FILE_OF(1)},
+    [WOSTHILE_NODE_LEFT] = {PATCH_OF((4, 1, 1), (WOSTHILE_NODE_LEFT)), FILE_OF(7, 1, 1)},
+    [WOSTHILE_NODE_RIGHT] = {PATCH_OF((4, 1, 1), (WOSTHILE_NODE_RIGHT)), FILE_OF(7, 1, 1)},
+    [WOSTHILE_NODE_FIRST] = {PATCH_OF((3, 1, 1), (WOSTHILE_NODE_FIRST)), FILE_OF(5, 1)},
+    [WOSTHILE_NODE_SECOND] = {PATCH_OF((3, 1, 1), (WOSTHILE_NODE_SECOND)), FILE_OF(5, 1)},
+    [WOSTHILE_NODE_THEN] = {PATCH_OF((3, 1, 1), (WOSTHILE_NODE_THEN, 0, 0)), FILE_OF(5, 1)},
+    [WOSTHILE_NODE_CHAIN] = {PATCH_OF((1), (WOSTHILE_NODE_CHAIN, 0, 0)), FILE_OF(1)},
+    [WOSTHILE_NODE_REGROUP_RIGHT] = {PATCH_OF((3, 3, 1, 1, 1), (WOSTHILE_NODE_REGROUP_RIGHT)), FILE_OF(5, 5, 1)},
+    [WOSTHILE_NODE_REGROUP_LEFT] = {PATCH_OF((3, 1, 3, 1, 1), (WOSTHILE_NODE_REGROUP_LEFT)), FILE_OF(5, 1)},
+    [WOSTHILE_NODE_SPREAD] = {PATCH_OF((3, 1, 4, 1, 1), (WOSTHILE_NODE_SPREAD)), FILE_OF(5, 1)},
+    [WOSTHILE_NODE_FRONT] = {PATCH_OF((1), (WOSTHILE_NODE_FRONT)), FILE_OF(1)},
+};
+
+/* A feed with each number as its answer; for the last the buffers are too short. */
+static const struct example number_examples[] = {
+    [WOSTHILE_ACCEPTED] = {PATCH_OF((1), (0)), FILE_OF(1)},
+    [WOSTHILE_FAULT_CUT_SHORT] = {PATCH_OF((1), (4, 0)), FILE_OF(1)},
+    [WOSTHILE_FAULT_UNLISTED] = {PATCH_OF((200), (0)), FILE_OF(1)},
+    [WOSTHILE_FAULT_LEFT_OVER] = {PATCH_OF((1), (0, 0)), FILE_OF(1)},
+    [WOSTHILE_FAULT_TYPE_TOO_LARGE] = {RAW(1, 0, FOUR_TIMES(FOUR_TIMES(FOUR_TIMES(FOUR_TIMES(3)))), 0, 1, 0),
+                                       FILE_OF(1)},
+    [WOSTHILE_FAULT_TOO_MANY_NODES] = {PATCH_OF((1), (FOUR_TIMES(FOUR_TIMES(FOUR_TIMES(10))))), FILE_OF(1)},
+    [WOSTHILE_FAULT_NOT_NULLABLE] = {PATCH_OF((1), (1, 1)), FILE_OF(1)},
+    [WOSTHILE_FAULT_WRONG_SHAPE] = {PATCH_OF((1), (5)), FILE_OF(1)},
+    [WOSTHILE_FAULT_SLICE_CUT_SHORT] = {PATCH_OF((2), (0)), FILE_OF(4, 1)},
+    [WOSTHILE_FAULT_SLICE_UNLISTED] = {PATCH_OF((1), (0)), FILE_OF(200)},
+    [WOSTHILE_FAULT_SLICE_LEFT_OVER] = {PATCH_OF((1), (0)), FILE_OF(1, 1)},
+    [WOSTHILE_FAULT_SLICE_MISPLACED] = {PATCH_OF((1), (0)), FILE_OF(3)},
+    [WOSTHILE_FAULT_NO_ROOM] = {PATCH_OF((1), (0)), FILE_OF(1)},
+};
+
+/*
+ * What the header names. The switches have no default: all warnings are errors, so a kind or a number that the header
+ * has and the switch has not does not compile.
+ */
+static bool names_type_kind(unsigned byte)
+{
+    switch ((enum wosthile_type_kind)byte) {
+    case WOSTHILE_TYPE_EMPTY:
+    case WOSTHILE_TYPE_CUE:
+    case WOSTHILE_TYPE_LEVEL:
+    case WOSTHILE_TYPE_SEQUENCE:
+    case WOSTHILE_TYPE_BESIDE:
+        return true;
+    }
+    return false;
+}
+
+static bool names_slice_kind(unsigned byte)
+{
+    switch ((enum wosthile_slice_kind)byte) {
+    case WOSTHILE_SLICE_NOTHING:
+    case WOSTHILE_SLICE_CUE_AWAITED:
+    case WOSTHILE_SLICE_CUE_COME:
+    case WOSTHILE_SLICE_LEVEL_AWAITED:
+    case WOSTHILE_SLICE_LEVEL_COME:
+    case WOSTHILE_SLICE_IN_FIRST:
+    case WOSTHILE_SLICE_CROSSED:
+    case WOSTHILE_SLICE_BESIDE:
+        return true;
+    }
+    return false;
+}
+
+static bool names_node_kind(unsigned byte)
+{
+    switch ((enum wosthile_node_kind)byte) {
+    case WOSTHILE_NODE_PASS:
+    case WOSTHILE_NODE_SILENT:
+    case WOSTHILE_NODE_CUE:
+    case WOSTHILE_NODE_LEVEL:
+    case WOSTHILE_NODE_BOTH:
+    case WOSTHILE_NODE_LEFT:
+    case WOSTHILE_NODE_RIGHT:
+    case WOSTHILE_NODE_FIRST:
+    case WOSTHILE_NODE_SECOND:
+    case WOSTHILE_NODE_THEN:
+    case WOSTHILE_NODE_CHAIN:
+    case WOSTHILE_NODE_REGROUP_RIGHT:
+    case WOSTHILE_NODE_REGROUP_LEFT:
+    case WOSTHILE_NODE_SPREAD:
+    case WOSTHILE_NODE_FRONT:
+        return true;
+    }
+    return false;
+}
+
+static bool names_number(unsigned number)
+{
+    switch ((enum wosthile_number)number) {
+    case WOSTHILE_ACCEPTED:
+    case WOSTHILE_FAULT_CUT_SHORT:
+    case WOSTHILE_FAULT_UNLISTED:
+    case WOSTHILE_FAULT_LEFT_OVER:
+    case WOSTHILE_FAULT_TYPE_TOO_LARGE:
+    case WOSTHILE_FAULT_TOO_MANY_NODES:
+    case WOSTHILE_FAULT_NOT_NULLABLE:
+    case WOSTHILE_FAULT_WRONG_SHAPE:
+    case WOSTHILE_FAULT_SLICE_CUT_SHORT:
+    case WOSTHILE_FAULT_SLICE_UNLISTED:
+    case WOSTHILE_FAULT_SLICE_LEFT_OVER:
+    case WOSTHILE_FAULT_SLICE_MISPLACED:
+    case WOSTHILE_FAULT_NO_ROOM:
+        return true;
+    }
+    return false;
+}
+
+/* The number of a feed whose buffers have room for any answer, or for none. */
+static uint32_t number_of_feed(struct bytes patch, struct bytes slice, bool room)
+{
+    static uint8_t output[WOSTHILE_SLICE_FILE_MAX], left[WOSTHILE_PATCH_FILE_MAX];
+    size_t output_room = room ? sizeof output : 0, left_room = room ? sizeof left : 0;
+    return wosthile_feed(patch.at, patch.count, slice.at, slice.count, output, output_room, left, left_room).number;
+}
+
+/* The numbers of feeds in which a byte is alone where a type, a slice or the nodes are due. */
+static uint32_t number_as_type(uint8_t byte)
+{
+    const struct bytes patch = PATCH_OF((byte), (0)), slice = FILE_OF(0);
+    return number_of_feed(patch, slice, true);
+}
+
+static uint32_t number_as_slice(uint8_t byte)
+{
+    const struct bytes patch = PATCH_OF((1), (0)), slice = FILE_OF(byte);
+    return number_of_feed(patch, slice, true);
+}
+
+static uint32_t number_as_nodes(uint8_t byte)
+{
+    const struct bytes patch = PATCH_OF((1), (byte)), slice = FILE_OF(1);
+    return number_of_feed(patch, slice, true);
+}
+
+struct family {
+    const char *name;
+    bool (*names)(unsigned byte);
+    uint32_t (*number_as)(uint8_t byte);
+    uint32_t unlisted; /* the number for a byte that is no kind */
+    const struct example *examples;
+    size_t count;
+};
+
+#define EXAMPLES(list) list, sizeof list / sizeof list[0]
+
+static const struct family families[] = {
+    {"kinds of types", names_type_kind, number_as_type, WOSTHILE_FAULT_UNLISTED, EXAMPLES(type_examples)},
+    {"kinds of slices", names_slice_kind, number_as_slice, WOSTHILE_FAULT_SLICE_UNLISTED, EXAMPLES(slice_examples)},
+    {"kinds of nodes", names_node_kind, number_as_nodes, WOSTHILE_FAULT_UNLISTED, EXAMPLES(node_examples)},
+};
+
+/* Every byte is a kind for the library exactly if the header names it; and then its example is accepted. */
+static void check_kinds(const struct family *family)
+{
+    for (unsigned byte = 0; byte < 256; byte++) {
+        bool named = family->names(byte);
+        bool listed = family->number_as((uint8_t)byte) != family->unlisted;
+        count(named == listed, family->name, "named exactly if the library lists it, byte", byte);
+        if (named) {
+            const struct example *example = &family->examples[byte];
+            bool accepted = byte < family->count && number_of_feed(example->patch, example->slice, true) == 0;
+            count(accepted, family->name, "an example is accepted, byte", byte);
+        }
+    }
+}
+
+/* Every number that the header names is met, and has a sentence of its own; no other number has one. */
+static void check_numbers(void)
+{
+    const char *unlisted = wosthile_sentence(UINT32_MAX);
+    for (uint32_t number = 0; number < 100; number++) {
+        bool named = names_number(number), has_sentence = strcmp(wosthile_sentence(number), unlisted) != 0;
+        count(named == has_sentence, "numbers", "a sentence exactly if it is named", number);
+        for (uint32_t other = 0; named && other < number; other++) {
+            count(strcmp(wosthile_sentence(number), wosthile_sentence(other)) != 0, "numbers", "a sentence of its own",
+                  number);
+        }
+        if (named) {
+            const struct example *example = &number_examples[number];
+            bool room = number != WOSTHILE_FAULT_NO_ROOM, tried = number < sizeof number_examples / sizeof *example;
+            count(tried && number_of_feed(example->patch, example->slice, room) == number, "numbers",
+                  "an example is answered with", number);
+        }
+    }
+}
+
+int main(void)
+{
+    count(wosthile_abi() == WOSTHILE_ABI, "interface", "the archive's and the header's", wosthile_abi());
+    count(WOSTHILE_ABI_FUNCTION() == WOSTHILE_ABI, "interface", "the function named for it", WOSTHILE_ABI_FUNCTION());
+    for (size_t family = 0; family < sizeof families / sizeof families[0]; family++) {
+        check_kinds(&families[family]);
+    }
+    check_numbers();
+    printf("%d passed, %d failed\n", passed, failed);
+    return failed != 0;
+}
