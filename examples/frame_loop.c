@@ -12,6 +12,7 @@
 #include <pthread.h>
 #include <stdio.h>
 #include <stdlib.h>
+#include <string.h>
 #include <time.h>
 
 static const char help[] =
@@ -182,9 +183,10 @@ static void deliver(struct player *player, size_t frame, size_t index)
         follow(&player->delivered, slice, &events);
         return;
     }
-    char text[MESSAGE_BYTES];
-    slice_fault_text(text, sizeof text, &player->delivered, slice, &player->opened->names.in);
-    tell("frame %zu: recorded slice %zu is refused with %u, and left out: %s", frame, index + 1, number, text);
+    char place[MESSAGE_BYTES];
+    slice_fault_text(place, sizeof place, &player->delivered, slice, &player->opened->names.in);
+    tell("frame %zu: recorded slice %zu is refused with %u, and left out: %s\n    %s", frame, index + 1, number,
+         wosthile_sentence(number), place);
     player->refused++;
 }
 

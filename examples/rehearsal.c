@@ -12,6 +12,7 @@
 
 #include <stdio.h>
 #include <stdlib.h>
+#include <string.h>
 #include <time.h>
 #include <unistd.h>
 
@@ -95,13 +96,15 @@ static bool same_state(const struct run *one, const struct run *other)
 /* Tells that a recorded slice is left out, and why. */
 static void tell_refusal(const struct opened_show *opened, size_t index, struct refusal refusal)
 {
-    char text[MESSAGE_BYTES];
-    if (refusal.call == JOINING_SLICES) {
-        slice_fault_text(text, sizeof text, &opened->in, opened->show.slices[index], &opened->names.in);
-    } else {
-        snprintf(text, sizeof text, "%s: %s", call_names[refusal.call], wosthile_sentence(refusal.number));
+    const char *sentence = wosthile_sentence(refusal.number);
+    if (refusal.call != JOINING_SLICES) {
+        tell("recorded slice %zu is left out: %s is refused with %u: %s", index + 1, call_names[refusal.call],
+             refusal.number, sentence);
+        return;
     }
-    tell("recorded slice %zu is refused with %u, and left out: %s", index + 1, refusal.number, text);
+    char place[MESSAGE_BYTES];
+    slice_fault_text(place, sizeof place, &opened->in, opened->show.slices[index], &opened->names.in);
+    tell("recorded slice %zu is refused with %u, and left out: %s\n    %s", index + 1, refusal.number, sentence, place);
 }
 
 /* Feeds the show as recorded, and its input's lanes follow. A refused slice is told and left out of all cuts. */

@@ -4,10 +4,10 @@
 /* Which lanes a refused patch has is not known, so any of them may have a name. */
 static void tell_refused_patch(const char *path, struct opened_show *opened, uint32_t number)
 {
-    char text[MESSAGE_BYTES];
+    char place[MESSAGE_BYTES];
     lane_names_read(&opened->names, path, LANES_MAX, LANES_MAX);
-    patch_fault_text(text, sizeof text, opened->show.patch, &opened->names.in);
-    tell("%s: the patch is refused with %u: %s", path, number, text);
+    patch_fault_text(place, sizeof place, opened->show.patch, &opened->names.in);
+    tell("%s: the patch is refused with %u: %s\n    %s", path, number, wosthile_sentence(number), place);
 }
 
 enum status open_show(const char *path, struct opened_show *opened)
