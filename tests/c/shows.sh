@@ -42,15 +42,19 @@ holds "build the test of lanes" build lanes tests/c/lanes.c
 # The shipped shows are what make_shows writes, byte for byte, and there are no others.
 same_shows() {
     mkdir "$folder/shows" && "$folder/make_shows" "$folder/shows" || return 1
-    diff -r --exclude='*.expected' --exclude='*.svg' "$folder/shows" examples/shows
+    diff -r --exclude='*.expected' --exclude='*.messages' --exclude='*.explained' --exclude='*.svg' "$folder/shows" examples/shows
 }
 
-# What the frame loop prints with the seed that stands in the name of the stored text: X.seed-7.expected
+# What the frame loop sends with the seed in the name of the stored text, X.seed-7.expected, and what it tells on the error
+# stream, X.seed-7.messages; without that file it tells nothing. Each stream is written by one thread.
 prints_as_stored() {
-    local stored=$1 name seed
+    local stored=$1 name seed messages
     name=$(basename "$stored" .expected)
     seed=${name##*.seed-}
-    "$folder/frame_loop" "examples/shows/${name%.seed-*}.show" --fast --seed "$seed" | diff "$stored" -
+    messages=${stored%.expected}.messages
+    [ -f "$messages" ] || messages=/dev/null
+    "$folder/frame_loop" "examples/shows/${name%.seed-*}.show" --fast --seed "$seed" 2>"$folder/messages" |
+        diff "$stored" - && diff "$messages" "$folder/messages"
 }
 
 # However the show is cut, the same things are sent, and the same is owed at the end.
@@ -116,16 +120,95 @@ plays_in_time() {
         sent examples/shows/damaged.show --seed 3 --frames-per-second 1000 | diff "$folder/recorded" -
 }
 
-# A show without slices, one without a patch, a patch that is refused.
+# A show without slices, whose only lane has no name; the rehearsal has nothing to compare.
 ends_by_itself() {
     printf '\0\6\0\1\1\0\1\0' >"$folder/empty.show"
     timeout 60 "$folder/frame_loop" "$folder/empty.show" | grep -q '^The show is over: 0 frames, 0 slices' || return 1
-    timeout 60 "$folder/frame_loop" "$folder/empty.show" --fast | grep -q 'still owed: "lane 1"' || return 1
-    : >"$folder/nothing.show"
-    "$folder/frame_loop" "$folder/nothing.show" --fast && return 1
-    printf '\0\6\0\1\1\0\1\5' >"$folder/refused.show"
-    "$folder/frame_loop" "$folder/refused.show" --fast >"$folder/refused"
-    [ $? -eq 1 ] && grep -q 'refused with 7: ' "$folder/refused"
+    timeout 60 "$folder/frame_loop" "$folder/empty.show" --fast | grep -q 'still owed: "in 1"' || return 1
+    "$folder/rehearsal" "$folder/empty.show" 2>"$folder/messages"
+    [ $? -eq 2 ] && grep -q 'nothing to compare' "$folder/messages"
+}
+
+# All that is wrong with the damaged show is told: five slices with number and place of their faults, and the broken end.
+tells_all_six() {
+    local command wrong
+    for command in "frame_loop examples/shows/damaged.show --fast" "rehearsal examples/shows/damaged.show 3"; do
+        # shellcheck disable=SC2086 # the command is several words
+        "$folder"/$command 2>"$folder/messages" || return 1
+        for wrong in 'slice 10 is refused with 14' 'slice 14 is refused with 11' 'slice 18 is refused with 14' \
+            'slice 22 is refused with 12' 'slice 26 is refused with 13' 'ends inside the slice of frame 48'; do
+            grep -q "$wrong" "$folder/messages" || return 1
+        done
+        [ "$(grep -c 'is refused with\|ends inside' "$folder/messages")" -eq 6 ] || return 1
+        [ "$(grep -c '^    byte [0-9]' "$folder/messages")" -eq 5 ] || return 1
+    done
+}
+
+# For each place at which a show file can be cut: the place, the frame loop's exit status, and what has to be told. Found
+# from the lengths alone; where the cut is between two files, there is nothing to tell.
+cuts_of() {
+    od -An -v -tu1 -w1 "$1" | awk -v OFS='\t' '
+        { byte[NR - 1] = $1 }
+        function told(have, due, files) {
+            if (files == 0) {
+                return have < 2 ? "it has " have " of the two bytes" : "it has " have " bytes, and the patch"
+            }
+            if (have < 2) {
+                return have == 0 ? "" : "slice of frame " files ": its last byte is left out"
+            }
+            return "slice of frame " files ": its last " have " bytes are left out, the slice has " due - have " byte"
+        }
+        END {
+            for (place = begin = files = 0; place <= NR; place++) {
+                due = place < begin + 2 ? 0 : 2 + byte[begin] * 256 + byte[begin + 1]
+                if (due > 0 && place == begin + due) {
+                    begin = place
+                    files++
+                }
+                print place, files == 0 ? 2 : 0, told(place - begin, due, files)
+            }
+        }'
+}
+
+# A show that is cut at a place is told so, with the frame and the bytes: tells_cuts SHOW STEP
+tells_cuts() {
+    local show=$1 step=$2 place status told
+    while IFS=$'\t' read -r place status told; do
+        [ $((place % step)) -eq 0 ] || continue
+        head -c "$place" "$show" >"$folder/cut.show"
+        "$folder/frame_loop" "$folder/cut.show" --fast >"$folder/sent" 2>"$folder/messages"
+        [ $? -eq "$status" ] && tells_of_end "$told" || return 1
+        "$folder/rehearsal" "$folder/cut.show" 1 >"$folder/sent" 2>"$folder/messages"
+        [ $? -le 2 ] && tells_of_end "$told" || return 1
+    done < <(cuts_of "$show")
+}
+
+# The messages have these words; without words they say nothing of an end.
+tells_of_end() {
+    if [ -n "$1" ]; then
+        grep -qF "$1" "$folder/messages"
+    else
+        ! grep -q 'file ends' "$folder/messages"
+    fi || { cat "$folder/messages"; echo "where '$1' is due, in a show of $(stat -c %s "$folder/cut.show") bytes"; return 1; }
+}
+
+# Lines that name no lane of the show are told, and the others count.
+tells_wrong_names() {
+    cp examples/shows/damaged.show "$folder/names.show"
+    printf '%s\n' '# a comment' '' 'in 1 fanfare' 'inn 2 lamp' 'in 2' 'in 2x lamp' 'in 4 curtain' 'out 0 lamp' \
+        'in 1 trumpets' "out 2 $(printf 'lamp %.0s' {1..14})" 'in -1 lamp' 'in 18446744073709551617 lamp' >"$folder/names.lanes"
+    (cd "$folder" && ./frame_loop names.show --fast >sent 2>messages) || return 1
+    diff - <(grep 'names.lanes' "$folder/messages") <<'END' && grep -q '^    out 1: cue$' "$folder/sent"
+frame_loop: names.lanes, line 4: "inn 2 lamp" names no lane; a line that does is as: in 3 Saturn's rings
+frame_loop: names.lanes, line 5: "in 2" names no lane; a line that does is as: in 3 Saturn's rings
+frame_loop: names.lanes, line 6: "in 2x lamp" names no lane; a line that does is as: in 3 Saturn's rings
+frame_loop: names.lanes, line 7: "in 4 curtain" is left out: the lanes of that side are in 1 to in 3
+frame_loop: names.lanes, line 8: "out 0 lamp" is left out: the lanes of that side are out 1 to out 3
+frame_loop: names.lanes, line 9: "in 1 trumpets" is left out: line 3 has named that lane
+frame_loop: names.lanes, line 10: "out 2 lamp lamp lamp lamp lamp lamp lamp lamp lamp lamp lamp lamp lamp lamp " is too long: of a name 63 bytes are kept
+frame_loop: names.lanes, line 11: "in -1 lamp" names no lane; a line that does is as: in 3 Saturn's rings
+frame_loop: names.lanes, line 12: "in 18446744073709551617 lamp" is left out: the lanes of that side are in 1 to in 3
+END
 }
 
 export ASAN_OPTIONS=exitcode=99 UBSAN_OPTIONS=halt_on_error=1:exitcode=99 TSAN_OPTIONS=exitcode=99
@@ -140,7 +223,11 @@ for show in examples/shows/*.show; do
     holds "$show rehearsed" "$folder/rehearsal" "$show" 200
     holds "$show damaged" survives_damage "$show"
 done
+holds "damaged.show says what is wrong with it" tells_all_six
+holds "damaged.show cut at every byte" tells_cuts examples/shows/damaged.show 1
+holds "comet_to_saturn.show cut" tells_cuts examples/shows/comet_to_saturn.show 37
+holds "lines that name no lane" tells_wrong_names
 holds "60 frames a second" plays_in_time
-holds "no slices, no patch, a refused patch" ends_by_itself
+holds "no slices" ends_by_itself
 [ "$failed" -eq 0 ] && echo "the example programs and the shows, $compiler ${words[*]}: all held"
 exit "$failed"

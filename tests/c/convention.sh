@@ -1,0 +1,124 @@
+#!/usr/bin/env bash
+# The example programs keep one convention: exit status 0 done, 1 refused or a difference, 2 words or files that cannot be
+# used; answers on standard output, messages on the error stream; what cannot be written is told.
+#   tests/c/convention.sh ARCHIVE [COMPILER [WORDS]]
+# The exit status tells whether everything held.
+# shellcheck disable=SC2317 # some functions below are called by `expect`
+set -u
+archive=$(realpath "$1") || exit 2
+compiler=${2-gcc}
+words=("${@:3}")
+[ "${#words[@]}" -gt 0 ] || words=(-O2)
+cd "$(dirname "$0")/../.." || exit 2
+
+folder=$(mktemp -d)
+trap 'rm -rf "$folder"' EXIT
+mkdir "$folder/made"
+failed=0
+
+# A program, how it is called with a FILE, and what its answer is: text on standard output, or files in a folder.
+programs='
+frame_loop  FILE --fast  text
+rehearsal   FILE 3       text
+timeline    FILE         text
+diagram     FILE         text
+explain     FILE         text
+make_shows  FILE         files
+'
+
+# A show that can be played; one whose patch is refused, left on a cue; and one that ends before its patch does.
+good=examples/shows/damaged.show
+refused=$folder/refused.show
+cut=$folder/cut.show
+printf '\0\6\0\1\1\0\1\5' >"$refused"
+printf '\0\6\0\1\1' >"$cut"
+
+wrong() {
+    head -n 20 "$folder/answer" "$folder/messages"
+    echo "$*: FAILED"
+    failed=1
+}
+
+# Runs a command and holds it to an exit status, and to what it writes on the two streams, each some, none or any:
+# expect STATUS ANSWER MESSAGES COMMAND
+expect() {
+    local status=$1 answer=$2 messages=$3 met
+    shift 3
+    "$@" >"$folder/answer" 2>"$folder/messages"
+    met=$?
+    if [ "$met" -ne "$status" ] || ! has "$answer" "$folder/answer" || ! has "$messages" "$folder/messages"; then
+        wrong "${*#"$folder/"}: status $met where $status is due, answer $answer, messages $messages"
+    fi
+}
+
+has() {
+    case $1 in
+    some) [ -s "$2" ] ;;
+    none) [ ! -s "$2" ] ;;
+    *) true ;;
+    esac
+}
+
+# The same command with an output that cannot be written; called by `expect`.
+to_full_disk() { "$@" >/dev/full; }
+to_closed_output() { "$@" >&-; }
+
+build() {
+    "$compiler" -std=c11 -Wall -Wextra -Werror -pedantic -Iinclude -Iexamples/shared -pthread "${words[@]}" \
+        "examples/$1.c" examples/shared/*.c "$archive" -o "$folder/$1" || exit 1
+}
+
+# Words alone: help, none, one that the program does not know.
+try_words() {
+    local program=$1
+    expect 0 some none "$folder/$program" --help
+    head -n 1 "$folder/answer" | grep -q "^$program " || wrong "$program --help does not begin with its name"
+    expect 2 none some "$folder/$program"
+    expect 2 none some "$folder/$program" --unknown
+    expect 2 none some to_full_disk "$folder/$program" --help
+    expect 2 none some to_closed_output "$folder/$program" --help
+}
+
+# Shows, for a program that writes text: try_shows PROGRAM WORDS, with FILE in place of the show.
+try_shows() {
+    local program=$folder/$1
+    shift
+    expect 0 some any "$program" "${@/FILE/$good}"
+    expect 1 any any "$program" "${@/FILE/$refused}"
+    grep -q 'refused with 7' "$folder/answer" "$folder/messages" || wrong "$program does not tell the number of a refusal"
+    expect 2 none some "$program" "${@/FILE/$cut}"
+    expect 2 none some "$program" "${@/FILE/$folder/not_there.show}"
+    expect 2 none some to_full_disk "$program" "${@/FILE/$good}"
+    expect 2 none some to_closed_output "$program" "${@/FILE/$good}"
+}
+
+# Folders, for a program that writes files.
+try_folders() {
+    local program=$folder/$1
+    shift
+    expect 0 none none "$program" "${@/FILE/$folder/made}"
+    expect 2 none some "$program" "${@/FILE/$folder/not_there}"
+    expect 2 none some to_closed_output "$program" "${@/FILE/$folder/made}"
+}
+
+export ASAN_OPTIONS=exitcode=99 UBSAN_OPTIONS=halt_on_error=1:exitcode=99 TSAN_OPTIONS=exitcode=99
+tried=0
+while read -r program called; do
+    [ -f "examples/$program.c" ] || continue
+    build "$program"
+    try_words "$program"
+    read -ra call <<<"${called% *}"
+    case ${called##* } in
+    text) try_shows "$program" "${call[@]}" ;;
+    files) try_folders "$program" "${call[@]}" ;;
+    esac
+    tried=$((tried + 1))
+done < <(grep . <<<"$programs")
+
+# The README's example takes no words.
+build calls
+expect 0 some none "$folder/calls"
+expect 2 none some to_full_disk "$folder/calls"
+expect 2 none some to_closed_output "$folder/calls"
+[ "$failed" -eq 0 ] && echo "the convention of the programs, $tried of them and calls, $compiler ${words[*]}: all held"
+exit "$failed"
