@@ -1,19 +1,13 @@
 #!/usr/bin/env bash
-# The example programs keep one convention: exit status 0 done, 1 refused or a difference, 2 words or files that cannot be
-# used; answers on standard output, messages on the error stream; what cannot be written is told.
+# The example programs keep one convention: exit status 0 done, 1 refused or a difference, 2 words or files that cannot
+# be used; answers on standard output, messages on the error stream; what cannot be written is told.
 #   tests/c/convention.sh ARCHIVE [COMPILER [WORDS]]
 # The exit status tells whether everything held.
 # shellcheck disable=SC2317 # some functions below are called by `expect`
-set -u
-archive=$(realpath "$1") || exit 2
-compiler=${2-gcc}
-words=("${@:3}")
-[ "${#words[@]}" -gt 0 ] || words=(-O2)
-cd "$(dirname "$0")/../.." || exit 2
+# shellcheck source=tests/c/building.sh
+source "$(dirname "$0")/building.sh"
 
-folder=$(mktemp -d)
-trap 'rm -rf "$folder"' EXIT
-mkdir "$folder/made"
+mkdir "$folder/made" "$folder/empty"
 failed=0
 
 # A program, how it is called with a FILE, and what its answer is: text on standard output, or files in a folder.
@@ -62,11 +56,7 @@ has() {
 # The same command with an output that cannot be written; called by `expect`.
 to_full_disk() { "$@" >/dev/full; }
 to_closed_output() { "$@" >&-; }
-
-build() {
-    "$compiler" -std=c11 -Wall -Wextra -Werror -pedantic -Iinclude -Iexamples/shared -pthread "${words[@]}" \
-        "examples/$1.c" examples/shared/*.c "$archive" -o "$folder/$1" || exit 1
-}
+with_closed_messages() { "$@" 2>&-; }
 
 # Words alone: help, none, one that the program does not know.
 try_words() {
@@ -85,7 +75,7 @@ try_shows() {
     shift
     expect 0 some any "$program" "${@/FILE/$good}"
     expect 1 any any "$program" "${@/FILE/$refused}"
-    grep -q 'refused with 7' "$folder/answer" "$folder/messages" || wrong "$program does not tell the number of a refusal"
+    grep -q 'refused with 7' "$folder/answer" "$folder/messages" || wrong "$program does not tell the number, 7"
     expect 2 none some "$program" "${@/FILE/$cut}"
     expect 2 none some "$program" "${@/FILE/$folder/not_there.show}"
     expect 2 none some to_full_disk "$program" "${@/FILE/$good}"
@@ -98,14 +88,16 @@ try_folders() {
     shift
     expect 0 none none "$program" "${@/FILE/$folder/made}"
     expect 2 none some "$program" "${@/FILE/$folder/not_there}"
-    expect 2 none some to_closed_output "$program" "${@/FILE/$folder/made}"
+    # A file would take the place of the closed stream, so none is opened.
+    expect 2 none some to_closed_output "$program" "${@/FILE/$folder/empty}"
+    expect 2 none none with_closed_messages "$program" "${@/FILE/$folder/empty}"
+    [ -z "$(ls -A "$folder/empty")" ] || wrong "$program writes files without a stream for its messages"
 }
 
-export ASAN_OPTIONS=exitcode=99 UBSAN_OPTIONS=halt_on_error=1:exitcode=99 TSAN_OPTIONS=exitcode=99
 tried=0
 while read -r program called; do
     [ -f "examples/$program.c" ] || continue
-    build "$program"
+    build "$program" "examples/$program.c" || exit 1
     try_words "$program"
     read -ra call <<<"${called% *}"
     case ${called##* } in
@@ -116,7 +108,7 @@ while read -r program called; do
 done < <(grep . <<<"$programs")
 
 # The README's example takes no words.
-build calls
+build calls examples/calls.c || exit 1
 expect 0 some none "$folder/calls"
 expect 2 none some to_full_disk "$folder/calls"
 expect 2 none some to_closed_output "$folder/calls"

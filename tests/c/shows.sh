@@ -4,15 +4,9 @@
 #   tests/c/shows.sh target/staticlib/libwosthile.a clang -O1 -g -fsanitize=thread
 # The exit status tells whether everything held.
 # shellcheck disable=SC2317 # the functions below are called by `holds`
-set -u
-archive=$(realpath "$1") || exit 2
-compiler=${2-gcc}
-words=("${@:3}")
-[ "${#words[@]}" -gt 0 ] || words=(-O2)
-cd "$(dirname "$0")/../.." || exit 2
+# shellcheck source=tests/c/building.sh
+source "$(dirname "$0")/building.sh"
 
-folder=$(mktemp -d)
-trap 'rm -rf "$folder"' EXIT
 log=$folder/log
 failed=0
 
@@ -27,12 +21,6 @@ holds() {
     fi
 }
 
-# A program is one file and what all programs share: build PROGRAM SOURCE
-build() {
-    "$compiler" -std=c11 -Wall -Wextra -Werror -pedantic -Iinclude -Iexamples/shared -pthread "${words[@]}" "$2" \
-        examples/shared/*.c "$archive" -o "$folder/$1"
-}
-
 for program in make_shows frame_loop rehearsal timeline; do
     holds "build $program" build "$program" "examples/$program.c"
 done
@@ -42,11 +30,12 @@ holds "build the test of lanes" build lanes tests/c/lanes.c
 # The shipped shows are what make_shows writes, byte for byte, and there are no others.
 same_shows() {
     mkdir "$folder/shows" && "$folder/make_shows" "$folder/shows" || return 1
-    diff -r --exclude='*.expected' --exclude='*.messages' --exclude='*.explained' --exclude='*.svg' "$folder/shows" examples/shows
+    diff -r --exclude='*.expected' --exclude='*.messages' --exclude='*.explained' --exclude='*.svg' \
+        "$folder/shows" examples/shows
 }
 
-# What the frame loop sends with the seed in the name of the stored text, X.seed-7.expected, and what it tells on the error
-# stream, X.seed-7.messages; without that file it tells nothing. Each stream is written by one thread.
+# What the frame loop sends with the seed in the name of the stored text, X.seed-7.expected, and what it tells on the
+# error stream, X.seed-7.messages; without that file it tells nothing. Each stream is written by one thread.
 prints_as_stored() {
     local stored=$1 name seed messages
     name=$(basename "$stored" .expected)
@@ -67,7 +56,7 @@ sends_the_same() {
     done
 }
 
-# What the frame loop sends and what is owed at the end. In one frame the lanes decide the order, so here it is left out.
+# What the frame loop sends and what is owed at the end. In one frame the lanes decide the order, so it is left out.
 sent() {
     timeout 60 "$folder/frame_loop" "$@" | grep -E '^(    |The input)' | sort
 }
@@ -88,7 +77,7 @@ draws() {
     fi
 }
 
-# Cut short at any byte, and damaged at some, a show ends by itself: played, refused or not read, and never with a fault.
+# Cut short at some bytes, and damaged there, a show ends by itself: played, refused or not read, never with a fault.
 survives_damage() {
     local show=$1 length place
     length=$(stat -c %s "$show")
@@ -129,7 +118,7 @@ ends_by_itself() {
     [ $? -eq 2 ] && grep -q 'nothing to compare' "$folder/messages"
 }
 
-# All that is wrong with the damaged show is told: five slices with number and place of their faults, and the broken end.
+# All that is wrong with the damaged show is told: five slices with number and place of their faults, the broken end.
 tells_all_six() {
     local command wrong
     for command in "frame_loop examples/shows/damaged.show --fast" "rehearsal examples/shows/damaged.show 3"; do
@@ -144,8 +133,8 @@ tells_all_six() {
     done
 }
 
-# For each place at which a show file can be cut: the place, the frame loop's exit status, and what has to be told. Found
-# from the lengths alone; where the cut is between two files, there is nothing to tell.
+# For each place at which a show file can be cut: the place, the frame loop's exit status, and what has to be told.
+# Found from the lengths alone; where the cut is between two files, there is nothing to tell.
 cuts_of() {
     od -An -v -tu1 -w1 "$1" | awk -v OFS='\t' '
         { byte[NR - 1] = $1 }
@@ -186,17 +175,20 @@ tells_cuts() {
 # The messages have these words; without words they say nothing of an end.
 tells_of_end() {
     if [ -n "$1" ]; then
-        grep -qF "$1" "$folder/messages"
+        grep -qF "$1" "$folder/messages" && return
     else
-        ! grep -q 'file ends' "$folder/messages"
-    fi || { cat "$folder/messages"; echo "where '$1' is due, in a show of $(stat -c %s "$folder/cut.show") bytes"; return 1; }
+        ! grep -q 'file ends' "$folder/messages" && return
+    fi
+    cat "$folder/messages"
+    echo "'$1' is due, in a show of $(stat -c %s "$folder/cut.show") bytes"
+    return 1
 }
 
 # Lines that name no lane of the show are told, and the others count.
 tells_wrong_names() {
     cp examples/shows/damaged.show "$folder/names.show"
     printf '%s\n' '# a comment' '' 'in 1 fanfare' 'inn 2 lamp' 'in 2' 'in 2x lamp' 'in 4 curtain' 'out 0 lamp' \
-        'in 1 trumpets' "out 2 $(printf 'lamp %.0s' {1..14})" 'in -1 lamp' 'in 18446744073709551617 lamp' >"$folder/names.lanes"
+        'in 1 trumpets' "out 2 $(printf '%064d' 7)" 'in -1 lamp' 'in 18446744073709551617 lamp' >"$folder/names.lanes"
     (cd "$folder" && ./frame_loop names.show --fast >sent 2>messages) || return 1
     diff - <(grep 'names.lanes' "$folder/messages") <<'END' && grep -q '^    out 1: cue$' "$folder/sent"
 frame_loop: names.lanes, line 4: "inn 2 lamp" names no lane; a line that does is as: in 3 Saturn's rings
@@ -205,13 +197,12 @@ frame_loop: names.lanes, line 6: "in 2x lamp" names no lane; a line that does is
 frame_loop: names.lanes, line 7: "in 4 curtain" is left out: the lanes of that side are in 1 to in 3
 frame_loop: names.lanes, line 8: "out 0 lamp" is left out: the lanes of that side are out 1 to out 3
 frame_loop: names.lanes, line 9: "in 1 trumpets" is left out: line 3 has named that lane
-frame_loop: names.lanes, line 10: "out 2 lamp lamp lamp lamp lamp lamp lamp lamp lamp lamp lamp lamp lamp lamp " is too long: of a name 63 bytes are kept
+frame_loop: names.lanes, line 10: "out 2 0000000000000000000000000000000000000000000000000000000000000007" is too long: of a name 63 bytes are kept
 frame_loop: names.lanes, line 11: "in -1 lamp" names no lane; a line that does is as: in 3 Saturn's rings
 frame_loop: names.lanes, line 12: "in 18446744073709551617 lamp" is left out: the lanes of that side are in 1 to in 3
 END
 }
 
-export ASAN_OPTIONS=exitcode=99 UBSAN_OPTIONS=halt_on_error=1:exitcode=99 TSAN_OPTIONS=exitcode=99
 holds "shipped shows" same_shows
 holds "lanes" "$folder/lanes"
 for stored in examples/shows/*.expected; do

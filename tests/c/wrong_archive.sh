@@ -1,12 +1,9 @@
 #!/usr/bin/env bash
 # A program links with an archive of its header's interface, and with no other: tests/c/wrong_archive.sh ARCHIVE.
 # The exit status tells.
-set -u
-archive=$(realpath "$1") || exit 2
-cd "$(dirname "$0")/../.." || exit 2
+# shellcheck source=tests/c/building.sh
+source "$(dirname "$0")/building.sh"
 
-folder=$(mktemp -d)
-trap 'rm -rf "$folder"' EXIT
 interface=$(sed -n 's/^#define WOSTHILE_ABI \([0-9]*\)$/\1/p' include/wosthile.h)
 other=$((interface + 1))
 sed "s/^#define WOSTHILE_ABI $interface\$/#define WOSTHILE_ABI $other/" include/wosthile.h >"$folder/wosthile.h"
@@ -32,5 +29,5 @@ for compiler in gcc clang; do
         fi
     done
 done
-[ "$failed" -eq 0 ] && echo "an archive of interface $interface is linked with its header, and not with one of interface $other"
+[ "$failed" -eq 0 ] && echo "an archive of interface $interface links with its header, and not with that of $other"
 exit "$failed"

@@ -1,0 +1,21 @@
+# shellcheck shell=bash
+# What the scripts beside this one begin with. Their words are ARCHIVE [COMPILER [WORDS]]; this leaves them in the root
+# of the repository, with a folder for what they build and write.
+set -u
+archive=$(realpath "$1") || exit 2
+compiler=${2-gcc}
+words=("${@:3}")
+[ "${#words[@]}" -gt 0 ] || words=(-O2)
+cd "$(dirname "$0")/../.." || exit 2
+
+folder=$(mktemp -d)
+trap 'rm -rf "$folder"' EXIT
+
+# A sanitizer's exit status is none of the three that the programs have.
+export ASAN_OPTIONS=exitcode=99 UBSAN_OPTIONS=halt_on_error=1:exitcode=99 TSAN_OPTIONS=exitcode=99
+
+# A program is its sources and what all programs share: build PROGRAM SOURCES
+build() {
+    "$compiler" -std=c11 -Wall -Wextra -Werror -pedantic -Iinclude -Iexamples/shared -pthread "${words[@]}" "${@:2}" \
+        examples/shared/*.c "$archive" -o "$folder/$1"
+}
