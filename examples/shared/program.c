@@ -58,7 +58,8 @@ void stop(const char *format, ...)
     va_start(list, format);
     tell_list(format, list);
     va_end(list);
-    exit(STATUS_UNUSABLE);
+    fflush(stdout);
+    _Exit(STATUS_UNUSABLE); /* at once: another thread may be at work, and what is allocated goes with the program */
 }
 
 void stop_for_words(void)
