@@ -20,8 +20,8 @@ explain     FILE         text
 make_shows  FILE         files
 '
 
-# A show that can be played; one whose patch is refused, left on a cue; and one that ends before its patch does.
-good=examples/shows/damaged.show
+# A show with nothing wrong; one whose patch is refused, left on a cue; and one that ends before its patch does.
+good=examples/shows/lamp_fade.show
 refused=$folder/refused.show
 cut=$folder/cut.show
 printf '\0\6\0\1\1\0\1\5' >"$refused"
