@@ -216,7 +216,7 @@ for show in examples/shows/*.show; do
 done
 holds "damaged.show says what is wrong with it" tells_all_six
 holds "damaged.show cut at every byte" tells_cuts examples/shows/damaged.show 1
-holds "comet_to_saturn.show cut" tells_cuts examples/shows/comet_to_saturn.show 37
+holds "comet_to_saturn.show cut" tells_cuts examples/shows/comet_to_saturn.show 17
 holds "lines that name no lane" tells_wrong_names
 holds "60 frames a second" plays_in_time
 holds "no slices" ends_by_itself
