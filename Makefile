@@ -31,7 +31,7 @@ ARCHIVE = target/staticlib/libwosthile.a
 RUNNER = target/bin/runner
 CFLAGS = -std=c11 -O2 -Wall -Wextra -pedantic
 PICTURE = target/$(basename $(notdir $(SHOW))).svg
-EXAMPLES = target/calls target/frame_loop target/rehearsal target/timeline target/make_shows
+EXAMPLES = target/calls target/frame_loop target/rehearsal target/timeline target/make_shows target/explain
 CARGO = CARGO_TARGET_DIR=target/cargo cargo
 LOCKED = --quiet --release --offline --locked
 

@@ -261,13 +261,16 @@ void type_fault_text(char *to, size_t room, struct file type, const struct side_
     add_reading_fault(&text, type, fault, &due, names);
 }
 
-/* Adds a type with the number of its nodes. */
-static void add_sized_type(struct text *text, const struct type *type)
+/* Adds a type, or no more than its size where that is what is wrong. */
+static void add_given_type(struct text *text, const struct type *type, uint32_t number)
 {
     char line[TYPE_TEXT_BYTES];
     struct file section = section_of(type_file(type));
     type_text(line, section);
-    text_add(text, section.length > 9 ? "%s" : "%s (%zu nodes)", line, section.length);
+    if (number == WOSTHILE_FAULT_TYPE_TOO_LARGE) {
+        snprintf(line, sizeof line, "a type of %zu node%s", section.length, section.length == 1 ? "" : "s");
+    }
+    text_add(text, "%s", line);
 }
 
 /* Adds what is wrong at a node: it does not take its input, or what it carries, or what its parts give. */
@@ -280,18 +283,17 @@ static void add_node_fault(struct text *text, const struct patch_tree *tree)
     if (node->number == WOSTHILE_FAULT_WRONG_SHAPE) {
         shape_text(line, kind->takes);
         text_add(text, "it takes %s, and its input is ", line);
-        type_text(line, section_of(type_file(&node->input)));
-        text_add(text, "%s", line);
+        add_given_type(text, &node->input, node->number);
     } else if (node->number == WOSTHILE_FAULT_NOT_NULLABLE) {
-        type_text(line, section_of(type_file(&node->carried)));
-        text_add(text, "it carries %s", line);
+        text_add(text, "it carries ");
+        add_given_type(text, &node->carried, node->number);
     } else if (kind->parts == 0) {
         text_add(text, "its input is ");
-        add_sized_type(text, &node->input);
+        add_given_type(text, &node->input, node->number);
     }
     for (unsigned part = 0; node->takes_input && part < kind->parts; part++) {
         text_add(text, part == 0 ? "its parts give " : " and ");
-        add_sized_type(text, &tree->nodes[node->part[part]].output);
+        add_given_type(text, &tree->nodes[node->part[part]].output, node->number);
     }
 }
 

@@ -13,10 +13,10 @@
 #include "lanes.h"
 #include "text.h"
 
-/* Room for every text; what there is no room for is left out at the end. */
-enum { FAULT_TEXT_BYTES = 600 };
-
-/* Of a type file; the names are those of its lanes. */
+/*
+ * Of a type file; the names are those of its lanes. MESSAGE_BYTES is room enough for every text; what there is no room
+ * for is left out at the end.
+ */
 void type_fault_text(char *to, size_t room, struct file type, const struct side_names *names);
 
 /* Of a slice of the type in force; the names are those of the lanes' side. */

@@ -1,0 +1,346 @@
+/*
+ * Explains a show, a patch, or a type with a slice: what its bytes say and, if it is refused, where and why.
+ */
+#include "listing.h"
+#include "program.h"
+
+#include <errno.h>
+#include <stdio.h>
+#include <stdlib.h>
+#include <string.h>
+
+static const char help[] =
+    "explain SHOW [--all] | --patch PATCH | --type TYPE | --slice TYPE SLICE\n"
+    "\n"
+    "Prints what is in a file as a person reads it. PATCH, TYPE and SLICE are each a file, or its bytes in decimal as\n"
+    "one word: explain --slice \"0 3 3 1 2\" \"0 2 5 2\".\n"
+    "\n"
+    "  SHOW      a show file: its patch; then frame by frame what comes and what is sent for it; how it ends. Lanes\n"
+    "            have the names in X.lanes beside X.show. With --all also the frames in which nothing comes.\n"
+    "  --patch   a patch: the type of its input, its nodes with the types that each takes and gives, its output type\n"
+    "  --type    a type\n"
+    "  --slice   a slice of a type, whether it is complete, and what it leaves of the type\n"
+    "\n"
+    "Bytes are counted from 0 at the front of the file; a count or a length has two bytes, the high byte first. What\n"
+    "is refused is told with its number, the number's sentence, and the place of the fault.\n"
+    "\n"
+    "Exit status: 0 if nothing is wrong; 1 if something is refused, or a show file ends inside a slice; 2 if the "
+    "words\n"
+    "or the files cannot be used.\n";
+
+/* A file is at most two sections of 65,535 bytes, and a byte more shows that there is one too many. */
+enum { FILE_BYTES = 2 * (2 + 65535) + 1 };
+
+struct bytes {
+    size_t length;
+    uint8_t at[FILE_BYTES];
+};
+
+static struct file file_of(const struct bytes *bytes) { return (struct file){bytes->at, bytes->length}; }
+
+/* Reads bytes in decimal; false if the word is not made of digits and spaces, and then it is the name of a file. */
+static bool read_decimal(const char *word, struct bytes *bytes)
+{
+    if (word[strspn(word, "0123456789 ")] != '\0') {
+        return false;
+    }
+    bytes->length = 0;
+    for (const char *next = word + strspn(word, " "); *next != '\0'; next += strspn(next, " ")) {
+        char *behind;
+        unsigned long value = strtoul(next, &behind, 10);
+        if (value > 255 || bytes->length == FILE_BYTES) {
+            stop("\"%.40s\" has a number above 255, or more bytes than a file can have", next);
+        }
+        bytes->at[bytes->length++] = (uint8_t)value;
+        next = behind;
+    }
+    return true;
+}
+
+static void read_file(const char *path, struct bytes *bytes)
+{
+    FILE *stream = fopen(path, "rb");
+    if (stream == NULL) {
+        stop("%s cannot be opened: %s", path, strerror(errno));
+    }
+    bytes->length = fread(bytes->at, 1, FILE_BYTES, stream);
+    if (ferror(stream)) {
+        stop("%s cannot be read: %s", path, strerror(errno));
+    }
+    fclose(stream);
+    if (bytes->length == FILE_BYTES) {
+        stop("%s is longer than a patch, a type or a slice can be", path);
+    }
+}
+
+/* The bytes that a word gives, or the file that it names; the caller frees them. */
+static struct bytes *read_word(const char *word)
+{
+    struct bytes *bytes = memory(1, sizeof *bytes);
+    if (!read_decimal(word, bytes)) {
+        read_file(word, bytes);
+    }
+    return bytes;
+}
+
+static void print_refusal(const char *what, uint32_t number, const char *place)
+{
+    printf("%s refused with %u: %s\n    %s\n", what, number, wosthile_sentence(number), place);
+}
+
+/* Where the listing of a section ends: at its fault, or with the section. */
+static size_t listing_end(struct file file, size_t section, struct fault fault)
+{
+    struct file rest = {file.bytes + section, file.length - section};
+    bool here = fault.number != WOSTHILE_ACCEPTED && fault.section == section;
+    return here && (fault.at == AT_BYTE) ? fault.byte : section + 2 + section_of(rest).length;
+}
+
+/* Lists a type, whose section begins at a byte of the file, under its notation on one line. */
+static void explain_type_section(const struct listed *listed, const char *what, size_t end)
+{
+    char line[TYPE_TEXT_BYTES];
+    type_text(line, (struct file){listed->file.bytes + 2, end - 2});
+    printf("%s: %s\n", what, line);
+    list_type(listed, 0, end);
+}
+
+static enum status explain_type(struct file type)
+{
+    struct listed listed = {.file = type};
+    struct fault fault = type_fault(type);
+    if (type.length >= 2) {
+        explain_type_section(&listed, "Type", listing_end(type, 0, fault));
+    }
+    if (fault.number == WOSTHILE_ACCEPTED) {
+        return STATUS_DONE;
+    }
+    char place[MESSAGE_BYTES];
+    type_fault_text(place, sizeof place, type, NULL);
+    print_refusal("The type is", fault.number, place);
+    return STATUS_REFUSED;
+}
+
+/* What an admitted slice leaves of its type. */
+static void print_left(struct file type, struct file slice)
+{
+    struct type left;
+    char line[TYPE_TEXT_BYTES];
+    left.length =
+        wosthile_left(type.bytes, type.length, slice.bytes, slice.length, left.bytes, sizeof left.bytes).written;
+    type_text(line, section_of(type_file(&left)));
+    bool complete = wosthile_admit(type.bytes, type.length, slice.bytes, slice.length).complete != 0;
+    printf("The slice is %scomplete. It leaves: %s\n", complete ? "" : "not ", line);
+}
+
+static enum status explain_slice(struct file type, struct file slice)
+{
+    struct lanes lanes;
+    if (explain_type(type) != STATUS_DONE || !lanes_start(&lanes, type)) {
+        return STATUS_REFUSED;
+    }
+    struct listed listed = {.file = slice};
+    struct fault fault = slice_fault(type, slice);
+    printf("Slice\n");
+    if (slice.length >= 2) {
+        list_slice(&listed, &lanes, listing_end(slice, 0, fault));
+    }
+    if (fault.number == WOSTHILE_ACCEPTED) {
+        print_left(type, slice);
+        return STATUS_DONE;
+    }
+    char place[MESSAGE_BYTES];
+    slice_fault_text(place, sizeof place, &lanes, slice, NULL);
+    print_refusal("The slice is", fault.number, place);
+    return STATUS_REFUSED;
+}
+
+/* Lists the two sections of a patch as far as they are there. */
+static void list_patch(const struct listed *listed, const struct patch_tree *tree, struct fault fault)
+{
+    struct file patch = listed->file;
+    size_t nodes = 2 + section_of(patch).length;
+    if (patch.length < 2) {
+        return;
+    }
+    explain_type_section(listed, "Input type", listing_end(patch, 0, fault));
+    bool reached = fault.number == WOSTHILE_ACCEPTED || fault.section > 0;
+    if (reached && patch.length >= nodes + 2) {
+        printf("Nodes\n");
+        list_nodes(listed, tree, nodes, listing_end(patch, nodes, fault));
+    }
+}
+
+/* Explains a patch; the names of the output's lanes are apart from those of the file, which are the input's. */
+static enum status explain_patch(const struct listed *listed, const struct side_names *out)
+{
+    struct patch_tree *tree = memory(1, sizeof *tree);
+    struct fault fault = patch_fault(listed->file, tree);
+    list_patch(listed, tree, fault);
+    if (fault.number == WOSTHILE_ACCEPTED) {
+        struct listed output = {.file = type_file(&tree->nodes[0].output), .names = out};
+        explain_type_section(&output, "Output type", output.file.length);
+    } else {
+        char place[MESSAGE_BYTES];
+        patch_fault_text(place, sizeof place, listed->file, listed->names);
+        print_refusal("The patch is", fault.number, place);
+        if (listed->in_show) {
+            printf("    This is byte %zu of the show.\n", listed->begins + fault.byte);
+        }
+    }
+    free(tree);
+    return fault.number == WOSTHILE_ACCEPTED ? STATUS_DONE : STATUS_REFUSED;
+}
+
+/* A show that is fed slice by slice, as it was recorded. */
+struct playing {
+    const struct show *show;
+    const struct lane_names *names;
+    bool all; /* also the frames in which nothing comes */
+    struct patch patch;
+    struct lanes in, out;
+    size_t bringing, refused;
+};
+
+static void print_events(const char *what, const struct lane_events *events, const struct side_names *names)
+{
+    if (events->count > 0) {
+        printf("  %s\n", what);
+    }
+    for (size_t index = 0; index < events->count; index++) {
+        lane_event_print(&events->list[index], names);
+    }
+}
+
+static void explain_refused(struct playing *playing, size_t index, uint32_t number)
+{
+    struct file slice = playing->show->slices[index];
+    char what[MESSAGE_BYTES], place[MESSAGE_BYTES];
+    size_t begins = (size_t)(slice.bytes - playing->show->bytes);
+    struct file type = {playing->in.type, 2 + playing->in.nodes};
+    slice_fault_text(place, sizeof place, &playing->in, slice, &playing->names->in);
+    snprintf(what, sizeof what, "frame %zu: the slice is", index + 1);
+    print_refusal(what, number, place);
+    printf("    This is byte %zu of the show.\n", begins + slice_fault(type, slice).byte);
+    playing->refused++;
+}
+
+static void explain_frame(struct playing *playing, size_t index)
+{
+    struct file slice = playing->show->slices[index];
+    struct lane_events come, sent;
+    uint8_t output[WOSTHILE_SLICE_FILE_MAX];
+    wosthile_fed fed = patch_feed(&playing->patch, slice, output);
+    if (fed.number != WOSTHILE_ACCEPTED) {
+        explain_refused(playing, index, fed.number);
+        return;
+    }
+    lanes_follow(&playing->in, slice, &come);
+    lanes_follow(&playing->out, (struct file){output, fed.output}, &sent);
+    playing->bringing += come.count > 0;
+    if (come.count > 0 || sent.count > 0) {
+        printf("frame %zu, the slice at byte %zu of the show\n", index + 1,
+               (size_t)(slice.bytes - playing->show->bytes));
+    } else if (playing->all) {
+        printf("frame %zu: nothing\n", index + 1);
+    }
+    print_events("comes", &come, &playing->names->in);
+    print_events("is sent", &sent, &playing->names->out);
+}
+
+static enum status explain_end(const struct playing *playing)
+{
+    const struct show *show = playing->show;
+    bool broken_off = show->unfinished.frame != 0;
+    printf("%zu slices: %zu bring something, %zu bring nothing, %zu are refused.\n", show->count, playing->bringing,
+           show->count - playing->bringing - playing->refused, playing->refused);
+    lanes_print_owed(&playing->in, &playing->names->in);
+    if (broken_off) {
+        char text[MESSAGE_BYTES];
+        show_unfinished_text(text, sizeof text, &show->unfinished);
+        printf("At the end %s.\n", text);
+    }
+    return playing->refused > 0 || broken_off ? STATUS_REFUSED : STATUS_DONE;
+}
+
+static enum status explain_slices(struct playing *playing)
+{
+    printf("Frames\n");
+    for (size_t index = 0; index < playing->show->count; index++) {
+        explain_frame(playing, index);
+    }
+    return explain_end(playing);
+}
+
+/* Explains the patch and, if it is accepted, the slices. */
+static enum status explain_show(const char *path, const struct show *show, bool all)
+{
+    struct playing *playing = memory(1, sizeof *playing);
+    struct lane_names *names = memory(1, sizeof *names);
+    struct type output;
+    *playing = (struct playing){.show = show, .names = names, .all = all};
+    bool accepted = patch_start(&playing->patch, show->patch, &output) == WOSTHILE_ACCEPTED &&
+                    lanes_start(&playing->in, patch_input_type(&playing->patch)) &&
+                    lanes_start(&playing->out, type_file(&output));
+    lane_names_read(names, path, accepted ? playing->in.count : LANES_MAX, accepted ? playing->out.count : LANES_MAX);
+    size_t begins = (size_t)(show->patch.bytes - show->bytes);
+    printf("Patch: bytes %zu to %zu of the show; it has %zu slices\n", begins, begins + show->patch.length - 1,
+           show->count);
+    struct listed listed = {show->patch, true, begins, &names->in};
+    enum status status = explain_patch(&listed, &names->out);
+    if (accepted) {
+        status = explain_slices(playing);
+    }
+    free(names);
+    free(playing);
+    return status;
+}
+
+static enum status explain_show_file(const char *path, bool all)
+{
+    struct show show;
+    const char *fault = show_read(path, &show);
+    if (fault != NULL) {
+        stop("%s: %s", path, fault);
+    }
+    enum status status = explain_show(path, &show, all);
+    show_release(&show);
+    return status;
+}
+
+static enum status explain_words(int count, char **words)
+{
+    struct bytes *first = read_word(words[2]), *second = count > 3 ? read_word(words[3]) : NULL;
+    enum status status;
+    if (strcmp(words[1], "--patch") == 0) {
+        struct listed listed = {.file = file_of(first)};
+        status = explain_patch(&listed, NULL);
+    } else if (second == NULL) {
+        status = explain_type(file_of(first));
+    } else {
+        status = explain_slice(file_of(first), file_of(second));
+    }
+    free(first);
+    free(second);
+    return status;
+}
+
+/* The words that take files or bytes, and how many of them follow. */
+static bool takes_bytes(const char *word, int files)
+{
+    return files == 1 ? strcmp(word, "--patch") == 0 || strcmp(word, "--type") == 0
+                      : files == 2 && strcmp(word, "--slice") == 0;
+}
+
+int main(int count, char **words)
+{
+    program_begin(help, count, words);
+    bool all = count == 3 && strcmp(words[2], "--all") == 0;
+    if (count >= 3 && takes_bytes(words[1], count - 2)) {
+        return program_end(explain_words(count, words));
+    }
+    if ((count != 2 && !all) || words[1][0] == '-') {
+        stop_for_words();
+    }
+    return program_end(explain_show_file(words[1], all));
+}

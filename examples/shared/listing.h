@@ -1,0 +1,30 @@
+/*
+ * Listings: the bytes of a type, of a slice or of a patch's nodes on standard output, a line for each node of the tree,
+ * with its byte, its kind in words, and its lanes. A tree that is refused is listed up to the byte of its fault.
+ */
+#ifndef LISTING_H
+#define LISTING_H
+
+#include "faults.h"
+
+/* A file that is listed, alone or as part of a show. */
+struct listed {
+    struct file file;
+    bool in_show;
+    size_t begins;                  /* the byte of the show at which the file begins, if it is part of one */
+    const struct side_names *names; /* NULL if there are none */
+};
+
+/* Lists the type whose section begins at a byte of the file. */
+void list_type(const struct listed *listed, size_t section, size_t end);
+
+/* Lists a slice of the type in force. */
+void list_slice(const struct listed *listed, const struct lanes *in_force, size_t end);
+
+/*
+ * Lists the nodes of a patch, whose section begins at a byte of the file. If the tree has been read whole, each has the
+ * type that it takes and the type that it gives below it.
+ */
+void list_nodes(const struct listed *listed, const struct patch_tree *tree, size_t section, size_t end);
+
+#endif
