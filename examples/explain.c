@@ -96,12 +96,12 @@ static size_t listing_end(struct file file, size_t section, struct fault fault)
     return here && (fault.at == AT_BYTE) ? fault.byte : section + 2 + section_of(rest).length;
 }
 
-/* Lists a type, whose section begins at a byte of the file, under its notation on one line. */
-static void explain_type_section(const struct listed *listed, const char *what, size_t end)
+/* Lists the type at the front of a file, with its notation on one line if it is whole. */
+static void explain_type_section(const struct listed *listed, const char *what, size_t end, bool whole)
 {
     char line[TYPE_TEXT_BYTES];
     type_text(line, (struct file){listed->file.bytes + 2, end - 2});
-    printf("%s: %s\n", what, line);
+    printf("%s%s%s\n", what, whole ? ": " : "", whole ? line : "");
     list_type(listed, 0, end);
 }
 
@@ -110,7 +110,7 @@ static enum status explain_type(struct file type)
     struct listed listed = {.file = type};
     struct fault fault = type_fault(type);
     if (type.length >= 2) {
-        explain_type_section(&listed, "Type", listing_end(type, 0, fault));
+        explain_type_section(&listed, "Type", listing_end(type, 0, fault), fault.number == WOSTHILE_ACCEPTED);
     }
     if (fault.number == WOSTHILE_ACCEPTED) {
         return STATUS_DONE;
@@ -163,9 +163,9 @@ static void list_patch(const struct listed *listed, const struct patch_tree *tre
     if (patch.length < 2) {
         return;
     }
-    explain_type_section(listed, "Input type", listing_end(patch, 0, fault));
-    bool reached = fault.number == WOSTHILE_ACCEPTED || fault.section > 0;
-    if (reached && patch.length >= nodes + 2) {
+    bool type_is_whole = fault.number == WOSTHILE_ACCEPTED || fault.section > 0;
+    explain_type_section(listed, "Input type", listing_end(patch, 0, fault), type_is_whole);
+    if (type_is_whole && patch.length >= nodes + 2) {
         printf("Nodes\n");
         list_nodes(listed, tree, nodes, listing_end(patch, nodes, fault));
     }
@@ -179,7 +179,7 @@ static enum status explain_patch(const struct listed *listed, const struct side_
     list_patch(listed, tree, fault);
     if (fault.number == WOSTHILE_ACCEPTED) {
         struct listed output = {.file = type_file(&tree->nodes[0].output), .names = out};
-        explain_type_section(&output, "Output type", output.file.length);
+        explain_type_section(&output, "Output type", output.file.length, true);
     } else {
         char place[MESSAGE_BYTES];
         patch_fault_text(place, sizeof place, listed->file, listed->names);

@@ -161,7 +161,7 @@ static void add_reason(struct text *text, const struct lanes *in_force, size_t n
     if (type == WOSTHILE_TYPE_EMPTY && start != WOSTHILE_TYPE_EMPTY) {
         text_add(text, "; its %s has come already", type_kind(start)->name);
     } else if (common_type(due, &due_type) && slice_kind(kind)->of == due_type) {
-        text_add(text, "; what a crossing leaves behind has to be complete");
+        text_add(text, "; the first part of a crossing has to be complete");
     }
 }
 

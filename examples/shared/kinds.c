@@ -130,13 +130,22 @@ static size_t add_type(struct text *text, struct file section, size_t place, con
     return next;
 }
 
+/* Takes back what follows the last space, so that no word is cut. */
+static void end_at_word(struct text *text)
+{
+    while (text->length > 0 && text->to[text->length - 1] != ' ') {
+        text->length--;
+    }
+}
+
 void type_text(char to[TYPE_TEXT_BYTES], struct file section)
 {
     struct text text = text_begin(to, TYPE_TEXT_BYTES / 2);
     add_type(&text, section, 0, NULL);
     if (text.full) {
+        end_at_word(&text);
         text.room = TYPE_TEXT_BYTES;
-        text_add(&text, " .. (%zu nodes)", section.length);
+        text_add(&text, ".. (%zu nodes)", section.length);
     }
 }
 
