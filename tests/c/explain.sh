@@ -1,0 +1,193 @@
+#!/usr/bin/env bash
+# The program that explains, and the places of faults, built by a compiler with some words and run:
+#   tests/c/explain.sh ARCHIVE [COMPILER [WORDS]]
+#   tests/c/explain.sh target/staticlib/libwosthile.a clang -O1 -g -fsanitize=address,undefined
+# The exit status tells whether everything held. The stored texts are written anew by
+#   for show in examples/shows/*.show; do target/explain "$show" >"${show%.show}.explained"; done
+# shellcheck disable=SC2317 # the functions below are called by `holds`
+set -u
+archive=$(realpath "$1") || exit 2
+compiler=${2-gcc}
+words=("${@:3}")
+[ "${#words[@]}" -gt 0 ] || words=(-O2)
+cd "$(dirname "$0")/../.." || exit 2
+
+folder=$(mktemp -d)
+trap 'rm -rf "$folder"' EXIT
+log=$folder/log
+failed=0
+# A sanitizer's exit status is none of those that the program has.
+export ASAN_OPTIONS=exitcode=99 UBSAN_OPTIONS=halt_on_error=1:exitcode=99 TSAN_OPTIONS=exitcode=99
+
+# One thing that holds or does not; its output is shown only if it does not: holds WHAT COMMAND
+holds() {
+    local what=$1
+    shift
+    if ! "$@" >"$log" 2>&1; then
+        cat "$log"
+        echo "$what: FAILED"
+        failed=1
+    fi
+}
+
+# build PROGRAM SOURCE
+build() {
+    "$compiler" -std=c11 -Wall -Wextra -Werror -pedantic -Iinclude -Iexamples/shared -pthread "${words[@]}" "$2" \
+        examples/shared/*.c "$archive" -o "$folder/$1"
+}
+
+# Explains and holds the exit status: explains STATUS WORDS
+explains() {
+    local status=$1
+    shift
+    "$folder/explain" "$@" >"$folder/out" 2>"$folder/errors"
+    local ended=$?
+    [ "$ended" -eq "$status" ] && return 0
+    cat "$folder/out" "$folder/errors"
+    echo "explain $*: status $ended in place of $status"
+    return 1
+}
+
+# A shipped show; the damaged one has refused slices and a broken end.
+explains_as_stored() {
+    local show=$1 status=0
+    [ "$(basename "$show")" = damaged.show ] && status=1
+    explains "$status" "$show" && diff "${show%.show}.explained" "$folder/out"
+}
+
+# With --all no frame is left out, and nothing else changes.
+explains_all_frames() {
+    local show=examples/shows/comet_to_saturn.show
+    explains 0 "$show" --all && grep -v ': nothing$' "$folder/out" | diff "${show%.show}.explained" - &&
+        [ "$(grep -c '^frame ' "$folder/out")" -eq 240 ]
+}
+
+# A refusal with its number and its place in words: refused NUMBER PLACE WORDS
+refused() {
+    local number=$1 place=$2
+    shift 2
+    explains 1 "$@" || return 1
+    tail -n 2 "$folder/out" >"$folder/refusal"
+    if ! grep -q " is refused with $number: [A-Z].*\.$" "$folder/refusal" || ! grep -qxF "    $place" "$folder/refusal"; then
+        cat "$folder/out"
+        echo "explain $*: not refused with $number at '$place'"
+        return 1
+    fi
+}
+
+# Bytes again and again: times 3 '4 1'
+times() {
+    local bytes=''
+    for _ in $(seq "$1"); do
+        bytes+="$2 "
+    done
+    echo "$bytes"
+}
+
+# Each number, and each kind of place that it can have.
+explains_each_number() {
+    local doubled
+    doubled=$(times 8 '10 4 0 0')
+    refused 1 'byte 0: the file ends where a section is due' --patch '' &&
+        refused 1 'byte 1: the file ends inside a count of two bytes' --patch '0' &&
+        refused 1 'byte 0: the count promises 5 bytes, and 2 follow' --type '0 5 4 1' &&
+        refused 1 'byte 4, behind lane 1: the section ends, and its type needs another byte' --type '0 2 4 1' &&
+        refused 1 'byte 3: the file ends where a section is due' --patch '0 1 1' &&
+        refused 1 'byte 3: the count promises 2 bytes, and 1 follow' --patch '0 1 1 0 2 0' &&
+        refused 1 'byte 7: the section ends, and its tree of nodes needs another byte' --patch '0 1 1 0 2 4 0' &&
+        refused 2 'byte 4, behind lane 1: kind 7 is not listed here; 0 to 4 are' --patch '0 3 3 1 7 0 1 0' &&
+        refused 2 'byte 6: kind 99 is not listed here; 0 to 14 are' --patch '0 1 1 0 3 4 99 0' &&
+        refused 2 'byte 7: kind 5 is not listed here; 0 to 4 are' --patch '0 1 1 0 4 1 4 5 0' &&
+        refused 3 'byte 3, behind lane 1: the tree is whole, and bytes of its section follow it: 2' --type '0 3 1 1 1' &&
+        refused 3 'byte 3: the last section ends, and bytes follow it: 1' --type '0 1 1 1' &&
+        refused 3 'byte 6: the tree is whole, and bytes of its section follow it: 1' --patch '0 1 1 0 2 5 0' &&
+        refused 3 'byte 6: the last section ends, and bytes follow it: 2' --patch '0 1 1 0 1 5 0 0' &&
+        refused 4 'byte 256, behind lane 127: the type has 255 nodes up to here and needs another' \
+            --type "1 145 $(times 200 '4 1') 1" &&
+        refused 4 'byte 260: the type has 255 nodes up to here and needs another' --patch "0 1 1 1 44 1 $(times 299 4)" &&
+        refused 4 'byte 34, node 30 (both): its parts give a type of 255 nodes and a type of 255 nodes' \
+            --patch "0 1 1 0 33 $doubled 0" &&
+        refused 5 'byte 67: the patch has 63 nodes up to here and needs another' --patch "0 1 1 0 81 $(times 40 '4 0') 0" &&
+        refused 6 'byte 6, node 2 (silent): it carries empty then empty' --patch '0 1 1 0 6 4 1 3 0 0 0' &&
+        refused 7 'byte 9, node 3 (left): it takes s beside t, and its input is cue' --patch '0 3 3 1 1 0 3 9 0 5' &&
+        refused 7 'byte 5, node 1 (spread): it takes s then (t beside r), and its input is cue' --patch '0 1 1 0 1 13' &&
+        explains_each_slice_number
+}
+
+explains_each_slice_number() {
+    local type='0 5 4 1 3 2 1' # a cue beside a level and then a cue
+    refused 11 'byte 0: the count promises 4 bytes, and 2 follow' --slice "$type" '0 4 7 2' &&
+        refused 11 'byte 4, lanes 2 to 3: the section ends where 5 or 6 (sequence) is due' --slice "$type" '0 2 7 2' &&
+        refused 11 'byte 7, lane 2: the section ends where a byte of a value is due' --slice "$type" '0 5 7 2 5 4 1' &&
+        refused 12 'byte 3, lane 1: kind 200 (not listed) where 1 or 2 (cue) is due' --slice "$type" '0 2 7 200' &&
+        refused 13 'byte 6: the tree is whole, and bytes of its section follow it: 2' --slice "$type" '0 6 7 1 5 3 3 3' &&
+        refused 13 'byte 6: the last section ends, and bytes follow it: 1' --slice "$type" '0 4 7 1 5 3 9' &&
+        refused 14 'byte 5, lane 2: kind 2 (cue come) where 3 or 4 (level) is due' --slice "$type" '0 4 7 1 5 2' &&
+        refused 14 'byte 5, lane 2: kind 3 (level awaited) where 4 (level come) is due; the first part of a crossing has to be complete' \
+            --slice "$type" '0 5 7 1 6 3 1' &&
+        refused 14 'byte 2, lanes 1 to 3: kind 5 (in first part) where 7 (side by side) is due' --slice "$type" '0 2 5 1' &&
+        refused 2 'byte 2: kind 9 is not listed here; 0 to 4 are' --slice '0 1 9' '0 1 0'
+}
+
+# What is accepted; a file does as well as its bytes.
+explains_what_is_accepted() {
+    printf '\0\1\1\0\1\0' >"$folder/patch"
+    explains 0 --type '0 5 4 1 3 2 1' && grep -qx 'Type: cue beside (level then cue)' "$folder/out" &&
+        explains 0 --slice '0 3 3 1 2' '0 5 6 2 4 1 44' && grep -q '4 level come 300' "$folder/out" &&
+        grep -qx 'The slice is complete. It leaves: empty' "$folder/out" &&
+        explains 0 --patch '0 1 1 0 1 0' && mv "$folder/out" "$folder/by-bytes" &&
+        explains 0 --patch "$folder/patch" && diff "$folder/by-bytes" "$folder/out"
+}
+
+# Words and files that cannot be used.
+explains_nothing() {
+    explains 2 && explains 2 --patch && explains 2 --slice '0 1 1' && explains 2 --type '0 1 300' &&
+        explains 2 --patch "$folder/missing" && explains 2 "$folder/missing" && explains 2 --unknown && [ ! -s "$folder/out" ]
+}
+
+# Each line that tells a refusal is followed by its place.
+has_places() {
+    awk '/refused with [0-9]+: / { due = 1; next }
+         due && !/^    byte [0-9]+[,:]/ { print "no place: " $0; missing = 1 }
+         { due = 0 }
+         END { exit missing || due }' "$folder/out"
+}
+
+# The program itself on a damaged show: it ends with 0 or 1; or with 2, and says that the patch is cut, and where.
+explains_damaged() {
+    "$folder/explain" "$1" >"$folder/out" 2>"$folder/errors"
+    local ended=$?
+    if [ "$ended" -eq 2 ]; then
+        grep -q 'ends before its patch does: it has [0-9]* ' "$folder/errors" && [ ! -s "$folder/out" ]
+    else
+        [ "$ended" -le 1 ] && has_places
+    fi && return 0
+    cat "$folder/out" "$folder/errors"
+    return 1
+}
+
+explains_damaged_shows() {
+    local show=$1 length place
+    length=$(stat -c %s "$show")
+    for place in $(seq 0 $((length / 7 + 1)) "$length") 1 2 3 4 9 30; do
+        head -c "$place" "$show" >"$folder/hurt.show"
+        explains_damaged "$folder/hurt.show" || return 1
+        { head -c "$place" "$show"; printf '\11'; tail -c "+$((place + 2))" "$show"; } >"$folder/hurt.show"
+        explains_damaged "$folder/hurt.show" || return 1
+    done
+}
+
+holds "build explain" build explain examples/explain.c
+holds "build the test of faults" build faults tests/c/faults.c
+[ "$failed" -eq 0 ] || exit 1
+holds "the places of faults" "$folder/faults" "$folder/damaged.show" examples/shows/*.show
+for show in examples/shows/*.show; do
+    holds "$show explained" explains_as_stored "$show"
+    holds "$show damaged and explained" explains_damaged_shows "$show"
+done
+holds "all frames" explains_all_frames
+holds "each number" explains_each_number
+holds "what is accepted" explains_what_is_accepted
+holds "words and files that cannot be used" explains_nothing
+[ "$failed" -eq 0 ] && echo "explain, $compiler ${words[*]}: all held"
+exit "$failed"
