@@ -73,14 +73,12 @@ static void read_file(const char *path, struct bytes *bytes)
     }
 }
 
-/* The bytes that a word gives, or the file that it names; the caller frees them. */
-static struct bytes *read_word(const char *word)
+/* The bytes that a word gives, or the file that it names. */
+static void read_word(const char *word, struct bytes *bytes)
 {
-    struct bytes *bytes = memory(1, sizeof *bytes);
     if (!read_decimal(word, bytes)) {
         read_file(word, bytes);
     }
-    return bytes;
 }
 
 static void print_refusal(const char *what, uint32_t number, const char *place)
@@ -179,7 +177,7 @@ static enum status explain_patch(const struct listed *listed, const struct side_
     list_patch(listed, tree, fault);
     if (fault.number == WOSTHILE_ACCEPTED) {
         struct listed output = {.file = type_file(&tree->nodes[0].output), .names = out};
-        explain_type_section(&output, "Output type", output.file.length, true);
+        explain_type_section(&output, "Output type, a file that Check writes", output.file.length, true);
     } else {
         char place[MESSAGE_BYTES];
         patch_fault_text(place, sizeof place, listed->file, listed->names);
@@ -284,7 +282,7 @@ static enum status explain_show(const char *path, const struct show *show, bool 
                     lanes_start(&playing->out, type_file(&output));
     lane_names_read(names, path, accepted ? playing->in.count : LANES_MAX, accepted ? playing->out.count : LANES_MAX);
     size_t begins = (size_t)(show->patch.bytes - show->bytes);
-    printf("Patch: bytes %zu to %zu of the show; it has %zu slices\n", begins, begins + show->patch.length - 1,
+    printf("Patch: %zu bytes, from byte %zu of the show; slices behind it: %zu\n", show->patch.length, begins,
            show->count);
     struct listed listed = {show->patch, true, begins, &names->in};
     enum status status = explain_patch(&listed, &names->out);
@@ -310,19 +308,14 @@ static enum status explain_show_file(const char *path, bool all)
 
 static enum status explain_words(int count, char **words)
 {
-    struct bytes *first = read_word(words[2]), *second = count > 3 ? read_word(words[3]) : NULL;
-    enum status status;
-    if (strcmp(words[1], "--patch") == 0) {
-        struct listed listed = {.file = file_of(first)};
-        status = explain_patch(&listed, NULL);
-    } else if (second == NULL) {
-        status = explain_type(file_of(first));
-    } else {
-        status = explain_slice(file_of(first), file_of(second));
+    static struct bytes first, second;
+    read_word(words[2], &first);
+    if (count > 3) {
+        read_word(words[3], &second);
+        return explain_slice(file_of(&first), file_of(&second));
     }
-    free(first);
-    free(second);
-    return status;
+    struct listed listed = {.file = file_of(&first)};
+    return strcmp(words[1], "--patch") == 0 ? explain_patch(&listed, NULL) : explain_type(listed.file);
 }
 
 /* The words that take files or bytes, and how many of them follow. */

@@ -14,11 +14,28 @@ struct reading {
     uint32_t (*ask)(const struct reading *reading, size_t length);
 };
 
-/* The number of the copy's front as a type file: a slice that is not there has a fault only if the type has none. */
+/* A slice that is not there has a fault only if the type has none. */
+uint32_t type_number(struct file type)
+{
+    uint32_t number = wosthile_admit(type.bytes, type.length, NULL, 0).number;
+    return number == WOSTHILE_FAULT_SLICE_CUT_SHORT ? WOSTHILE_ACCEPTED : number;
+}
+
+bool is_cut_short(uint32_t number)
+{
+    return number == WOSTHILE_FAULT_CUT_SHORT || number == WOSTHILE_FAULT_SLICE_CUT_SHORT;
+}
+
+bool is_refused_kind(uint32_t number)
+{
+    return number == WOSTHILE_FAULT_UNLISTED || number == WOSTHILE_FAULT_SLICE_UNLISTED ||
+           number == WOSTHILE_FAULT_SLICE_MISPLACED;
+}
+
+/* The library's answers for the front of the copy, as the file that it is. */
 static uint32_t ask_type(const struct reading *reading, size_t length)
 {
-    uint32_t number = wosthile_admit(reading->copy, length, NULL, 0).number;
-    return number == WOSTHILE_FAULT_SLICE_CUT_SHORT ? WOSTHILE_ACCEPTED : number;
+    return type_number((struct file){reading->copy, length});
 }
 
 static uint32_t ask_slice(const struct reading *reading, size_t length)
@@ -57,11 +74,6 @@ static size_t shortest_cut(const struct reading *reading, uint32_t number, size_
         cut++;
     }
     return cut;
-}
-
-static bool is_cut_short(uint32_t number)
-{
-    return number == WOSTHILE_FAULT_CUT_SHORT || number == WOSTHILE_FAULT_SLICE_CUT_SHORT;
 }
 
 /* Where the number comes from, if it comes from this section; AT_BEHIND with the section's end if it does not. */
@@ -137,12 +149,6 @@ struct fault patch_fault(struct file patch, struct patch_tree *tree)
         return (struct fault){tree->number, AT_NODE, tree->nodes[tree->refused].byte, nodes};
     }
     return fault_while_reading(patch, tree->number);
-}
-
-static bool is_refused_kind(uint32_t number)
-{
-    return number == WOSTHILE_FAULT_UNLISTED || number == WOSTHILE_FAULT_SLICE_UNLISTED ||
-           number == WOSTHILE_FAULT_SLICE_MISPLACED;
 }
 
 static struct byte_set due_in(struct reading reading, struct fault fault)

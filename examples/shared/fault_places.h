@@ -25,6 +25,15 @@ struct fault {
     size_t section; /* the byte at which the section of the fault begins with its count */
 };
 
+/* What the library says of a type file: 0, or its number. */
+uint32_t type_number(struct file type);
+
+/* Does a number say that bytes are missing? */
+bool is_cut_short(uint32_t number);
+
+/* Does a number say that a byte is no kind, or not one that belongs there? */
+bool is_refused_kind(uint32_t number);
+
 struct fault type_fault(struct file type);
 struct fault slice_fault(struct file type, struct file slice);
 

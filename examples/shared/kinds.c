@@ -8,6 +8,9 @@
         (const uint8_t[]){__VA_ARGS__}, sizeof((const uint8_t[]){__VA_ARGS__})                                         \
     }
 
+/* The kinds of types in the shape of an input. */
+enum { ANY = WOSTHILE_TYPE_EMPTY, SEQUENCE = WOSTHILE_TYPE_SEQUENCE, BESIDE = WOSTHILE_TYPE_BESIDE };
+
 /* clang-format off */
 static const struct type_kind type_kinds[] = {
     [WOSTHILE_TYPE_EMPTY]    = {.name = "empty"},
@@ -29,23 +32,23 @@ static const struct slice_kind slice_kinds[] = {
 };
 
 static const struct node_kind node_kinds[] = {
-    [WOSTHILE_NODE_PASS]   = {.name = "pass", .takes = SHAPE(0)},
-    [WOSTHILE_NODE_SILENT] = {.name = "silent", .carries_type = true, .takes = SHAPE(0)},
-    [WOSTHILE_NODE_CUE]    = {.name = "cue", .takes = SHAPE(0)},
-    [WOSTHILE_NODE_LEVEL]  = {.name = "level", .value_bytes = 2, .takes = SHAPE(0)},
-    [WOSTHILE_NODE_BOTH]   = {.name = "both", .parts = 2, .input = {INPUT_WHOLE, INPUT_WHOLE}, .takes = SHAPE(0)},
-    [WOSTHILE_NODE_LEFT]   = {.name = "left", .takes = SHAPE(4, 0, 0)},
-    [WOSTHILE_NODE_RIGHT]  = {.name = "right", .takes = SHAPE(4, 0, 0)},
-    [WOSTHILE_NODE_FIRST]  = {.name = "first", .takes = SHAPE(3, 0, 0)},
-    [WOSTHILE_NODE_SECOND] = {.name = "second", .takes = SHAPE(3, 0, 0)},
+    [WOSTHILE_NODE_PASS]   = {.name = "pass", .takes = SHAPE(ANY)},
+    [WOSTHILE_NODE_SILENT] = {.name = "silent", .carries_type = true, .takes = SHAPE(ANY)},
+    [WOSTHILE_NODE_CUE]    = {.name = "cue", .takes = SHAPE(ANY)},
+    [WOSTHILE_NODE_LEVEL]  = {.name = "level", .value_bytes = 2, .takes = SHAPE(ANY)},
+    [WOSTHILE_NODE_BOTH]   = {.name = "both", .parts = 2, .input = {INPUT_WHOLE, INPUT_WHOLE}, .takes = SHAPE(ANY)},
+    [WOSTHILE_NODE_LEFT]   = {.name = "left", .takes = SHAPE(BESIDE, ANY, ANY)},
+    [WOSTHILE_NODE_RIGHT]  = {.name = "right", .takes = SHAPE(BESIDE, ANY, ANY)},
+    [WOSTHILE_NODE_FIRST]  = {.name = "first", .takes = SHAPE(SEQUENCE, ANY, ANY)},
+    [WOSTHILE_NODE_SECOND] = {.name = "second", .takes = SHAPE(SEQUENCE, ANY, ANY)},
     [WOSTHILE_NODE_THEN]   = {.name = "then", .parts = 2, .input = {INPUT_FIRST, INPUT_SECOND},
-                              .takes = SHAPE(3, 0, 0)},
+                              .takes = SHAPE(SEQUENCE, ANY, ANY)},
     [WOSTHILE_NODE_CHAIN]  = {.name = "chain", .parts = 2, .input = {INPUT_WHOLE, INPUT_FROM_EARLIER},
-                              .takes = SHAPE(0)},
-    [WOSTHILE_NODE_REGROUP_RIGHT] = {.name = "regroup right", .takes = SHAPE(3, 3, 0, 0, 0)},
-    [WOSTHILE_NODE_REGROUP_LEFT]  = {.name = "regroup left", .takes = SHAPE(3, 0, 3, 0, 0)},
-    [WOSTHILE_NODE_SPREAD]        = {.name = "spread", .takes = SHAPE(3, 0, 4, 0, 0)},
-    [WOSTHILE_NODE_FRONT]         = {.name = "front", .takes = SHAPE(0)},
+                              .takes = SHAPE(ANY)},
+    [WOSTHILE_NODE_REGROUP_RIGHT] = {.name = "regroup right", .takes = SHAPE(SEQUENCE, SEQUENCE, ANY, ANY, ANY)},
+    [WOSTHILE_NODE_REGROUP_LEFT]  = {.name = "regroup left", .takes = SHAPE(SEQUENCE, ANY, SEQUENCE, ANY, ANY)},
+    [WOSTHILE_NODE_SPREAD]        = {.name = "spread", .takes = SHAPE(SEQUENCE, ANY, BESIDE, ANY, ANY)},
+    [WOSTHILE_NODE_FRONT]         = {.name = "front", .takes = SHAPE(ANY)},
 };
 /* clang-format on */
 

@@ -71,12 +71,6 @@ static struct made section(const uint8_t *bytes, size_t count)
     return made;
 }
 
-static uint32_t type_number(struct file type)
-{
-    uint32_t number = wosthile_admit(type.bytes, type.length, NULL, 0).number;
-    return number == WOSTHILE_FAULT_SLICE_CUT_SHORT ? WOSTHILE_ACCEPTED : number;
-}
-
 static uint32_t slice_number(struct file type, struct file slice)
 {
     return wosthile_admit(type.bytes, type.length, slice.bytes, slice.length).number;
@@ -291,17 +285,6 @@ static uint8_t draw_kind(enum tree tree)
     return kind;
 }
 
-static bool is_refused_kind(uint32_t number)
-{
-    return number == WOSTHILE_FAULT_UNLISTED || number == WOSTHILE_FAULT_SLICE_UNLISTED ||
-           number == WOSTHILE_FAULT_SLICE_MISPLACED;
-}
-
-static bool is_cut_short(uint32_t number)
-{
-    return number == WOSTHILE_FAULT_CUT_SHORT || number == WOSTHILE_FAULT_SLICE_CUT_SHORT;
-}
-
 static bool is_left_over(uint32_t number)
 {
     return number == WOSTHILE_FAULT_LEFT_OVER || number == WOSTHILE_FAULT_SLICE_LEFT_OVER;
@@ -498,7 +481,7 @@ static void try_text(const char *text, struct file file)
 
 static void try_fault_text(const struct subject *subject, struct fault fault)
 {
-    char text[MESSAGE_BYTES];
+    char text[MESSAGE_BYTES] = "";
     struct lanes lanes;
     struct file file = file_of(&subject->file);
     if (subject->tree == TYPE) {
@@ -515,7 +498,7 @@ static void try_fault_text(const struct subject *subject, struct fault fault)
 }
 
 /* How often each place and each number has been met, so that a trial that no longer meets one is told. */
-static size_t met_places[AT_NODE + 1], met_numbers[WOSTHILE_FAULT_NO_ROOM];
+static size_t met_places[AT_NODE + 1], met_numbers[256];
 
 static void try_place(struct subject *subject)
 {
