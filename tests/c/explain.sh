@@ -5,19 +5,11 @@
 # The exit status tells whether everything held. The stored texts are written anew by
 #   for show in examples/shows/*.show; do target/explain "$show" >"${show%.show}.explained"; done
 # shellcheck disable=SC2317 # the functions below are called by `holds`
-set -u
-archive=$(realpath "$1") || exit 2
-compiler=${2-gcc}
-words=("${@:3}")
-[ "${#words[@]}" -gt 0 ] || words=(-O2)
-cd "$(dirname "$0")/../.." || exit 2
+# shellcheck source=tests/c/building.sh
+source "$(dirname "$0")/building.sh"
 
-folder=$(mktemp -d)
-trap 'rm -rf "$folder"' EXIT
 log=$folder/log
 failed=0
-# A sanitizer's exit status is none of those that the program has.
-export ASAN_OPTIONS=exitcode=99 UBSAN_OPTIONS=halt_on_error=1:exitcode=99 TSAN_OPTIONS=exitcode=99
 
 # One thing that holds or does not; its output is shown only if it does not: holds WHAT COMMAND
 holds() {
@@ -28,12 +20,6 @@ holds() {
         echo "$what: FAILED"
         failed=1
     fi
-}
-
-# build PROGRAM SOURCE
-build() {
-    "$compiler" -std=c11 -Wall -Wextra -Werror -pedantic -Iinclude -Iexamples/shared -pthread "${words[@]}" "$2" \
-        examples/shared/*.c "$archive" -o "$folder/$1"
 }
 
 # Explains and holds the exit status: explains STATUS WORDS
