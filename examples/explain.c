@@ -16,7 +16,7 @@ static const char help[] =
     "one word: explain --slice \"0 3 3 1 2\" \"0 2 5 2\".\n"
     "\n"
     "  SHOW      a show file: its patch; then frame by frame what comes and what is sent for it; how it ends. Lanes\n"
-    "            have the names in X.lanes beside X.show. With --all also the frames in which nothing comes.\n"
+    "            have the names in X.lanes beside X.show. With --all also every slice byte by byte.\n"
     "  --patch   a patch: the type of its input, its nodes with the types that each takes and gives, its output type\n"
     "  --type    a type\n"
     "  --slice   a slice of a type, whether it is complete, and what it leaves of the type\n"
@@ -86,14 +86,6 @@ static void print_refusal(const char *what, uint32_t number, const char *place)
     printf("%s refused with %u: %s\n    %s\n", what, number, wosthile_sentence(number), place);
 }
 
-/* Where the listing of a section ends: at its fault, or with the section. */
-static size_t listing_end(struct file file, size_t section, struct fault fault)
-{
-    struct file rest = {file.bytes + section, file.length - section};
-    bool here = fault.number != WOSTHILE_ACCEPTED && fault.section == section;
-    return here && (fault.at == AT_BYTE) ? fault.byte : section + 2 + section_of(rest).length;
-}
-
 /* Lists the type at the front of a file, with its notation on one line if it is whole. */
 static void explain_type_section(const struct listed *listed, const char *what, size_t end, bool whole)
 {
@@ -108,7 +100,7 @@ static enum status explain_type(struct file type)
     struct listed listed = {.file = type};
     struct fault fault = type_fault(type);
     if (type.length >= 2) {
-        explain_type_section(&listed, "Type", listing_end(type, 0, fault), fault.number == WOSTHILE_ACCEPTED);
+        explain_type_section(&listed, "Type", type_front(type), fault.number == WOSTHILE_ACCEPTED);
     }
     if (fault.number == WOSTHILE_ACCEPTED) {
         return STATUS_DONE;
@@ -141,7 +133,7 @@ static enum status explain_slice(struct file type, struct file slice)
     struct fault fault = slice_fault(type, slice);
     printf("Slice\n");
     if (slice.length >= 2) {
-        list_slice(&listed, &lanes, listing_end(slice, 0, fault));
+        list_slice(&listed, &lanes, slice_front(type, slice));
     }
     if (fault.number == WOSTHILE_ACCEPTED) {
         print_left(type, slice);
@@ -162,10 +154,10 @@ static void list_patch(const struct listed *listed, const struct patch_tree *tre
         return;
     }
     bool type_is_whole = fault.number == WOSTHILE_ACCEPTED || fault.section > 0;
-    explain_type_section(listed, "Input type", listing_end(patch, 0, fault), type_is_whole);
+    explain_type_section(listed, "Input type", type_front(patch), type_is_whole);
     if (type_is_whole && patch.length >= nodes + 2) {
         printf("Nodes\n");
-        list_nodes(listed, tree, nodes, listing_end(patch, nodes, fault));
+        list_nodes(listed, tree, nodes, nodes_front(patch));
     }
 }
 
@@ -194,7 +186,7 @@ static enum status explain_patch(const struct listed *listed, const struct side_
 struct playing {
     const struct show *show;
     const struct lane_names *names;
-    bool all; /* also the frames in which nothing comes */
+    bool all; /* every slice is listed byte by byte */
     struct patch patch;
     struct lanes in, out;
     size_t bringing, refused;
@@ -210,12 +202,25 @@ static void print_events(const char *what, const struct lane_events *events, con
     }
 }
 
-static void explain_refused(struct playing *playing, size_t index, uint32_t number)
+static void print_frame(const struct playing *playing, size_t index)
 {
     struct file slice = playing->show->slices[index];
+    printf("frame %zu, the slice at byte %zu of the show\n", index + 1, (size_t)(slice.bytes - playing->show->bytes));
+}
+
+static void list_frame(const struct playing *playing, size_t index)
+{
+    struct file slice = playing->show->slices[index], type = {playing->in.type, 2 + playing->in.nodes};
+    struct listed listed = {slice, true, (size_t)(slice.bytes - playing->show->bytes), &playing->names->in};
+    print_frame(playing, index);
+    list_slice(&listed, &playing->in, slice_front(type, slice));
+}
+
+static void explain_refused(struct playing *playing, size_t index, uint32_t number)
+{
+    struct file slice = playing->show->slices[index], type = {playing->in.type, 2 + playing->in.nodes};
     char what[MESSAGE_BYTES], place[MESSAGE_BYTES];
     size_t begins = (size_t)(slice.bytes - playing->show->bytes);
-    struct file type = {playing->in.type, 2 + playing->in.nodes};
     slice_fault_text(place, sizeof place, &playing->in, slice, &playing->names->in);
     snprintf(what, sizeof what, "frame %zu: the slice is", index + 1);
     print_refusal(what, number, place);
@@ -228,6 +233,9 @@ static void explain_frame(struct playing *playing, size_t index)
     struct file slice = playing->show->slices[index];
     struct lane_events come, sent;
     uint8_t output[WOSTHILE_SLICE_FILE_MAX];
+    if (playing->all) {
+        list_frame(playing, index);
+    }
     wosthile_fed fed = patch_feed(&playing->patch, slice, output);
     if (fed.number != WOSTHILE_ACCEPTED) {
         explain_refused(playing, index, fed.number);
@@ -236,11 +244,8 @@ static void explain_frame(struct playing *playing, size_t index)
     lanes_follow(&playing->in, slice, &come);
     lanes_follow(&playing->out, (struct file){output, fed.output}, &sent);
     playing->bringing += come.count > 0;
-    if (come.count > 0 || sent.count > 0) {
-        printf("frame %zu, the slice at byte %zu of the show\n", index + 1,
-               (size_t)(slice.bytes - playing->show->bytes));
-    } else if (playing->all) {
-        printf("frame %zu: nothing\n", index + 1);
+    if (!playing->all && (come.count > 0 || sent.count > 0)) {
+        print_frame(playing, index);
     }
     print_events("comes", &come, &playing->names->in);
     print_events("is sent", &sent, &playing->names->out);

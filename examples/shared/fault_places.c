@@ -151,6 +151,37 @@ struct fault patch_fault(struct file patch, struct patch_tree *tree)
     return fault_while_reading(patch, tree->number);
 }
 
+/* Is the file, cut there, read without a fault? It is if bytes are missing, or if its tree is whole: one more is left.
+ */
+static bool reads_without_fault(const struct reading *reading, size_t cut)
+{
+    uint32_t number = cut_number(reading, cut);
+    return number == WOSTHILE_ACCEPTED || is_cut_short(number) ||
+           (number != WOSTHILE_FAULT_LEFT_OVER && cut_number(reading, cut + 1) == WOSTHILE_FAULT_LEFT_OVER);
+}
+
+static size_t front_in(struct reading reading)
+{
+    struct file rest = {reading.copy + reading.begins, reading.length - reading.begins};
+    size_t front = 0, longest = section_of(rest).length;
+    while (front < longest && reads_without_fault(&reading, front + 1)) {
+        front++;
+    }
+    free(reading.copy);
+    return rest.length < 2 ? reading.length : reading.begins + 2 + front;
+}
+
+size_t type_front(struct file type) { return front_in(begin_reading(type, ask_type)); }
+
+size_t slice_front(struct file type, struct file slice) { return front_in(begin_slice(type, slice)); }
+
+size_t nodes_front(struct file patch)
+{
+    struct reading reading = begin_reading(patch, ask_patch);
+    reading.begins = 2 + section_of(patch).length;
+    return front_in(reading);
+}
+
 static struct byte_set due_in(struct reading reading, struct fault fault)
 {
     struct byte_set due;

@@ -40,6 +40,16 @@ struct fault slice_fault(struct file type, struct file slice);
 /* The tree is that of the patch if it can be read whole; it says more of a fault at a node. */
 struct fault patch_fault(struct file patch, struct patch_tree *tree);
 
+/*
+ * Where the front of a section ends that the library reads without a fault, whatever the section's count promises: so
+ * far a refused file can be listed. The byte is one of the file.
+ */
+size_t type_front(struct file type);
+size_t slice_front(struct file type, struct file slice);
+
+/* Of the nodes of a patch whose type is accepted. */
+size_t nodes_front(struct file patch);
+
 /* Bytes, by value. */
 struct byte_set {
     bool has[256];

@@ -415,6 +415,24 @@ static void try_slice_node(const struct subject *subject, struct fault fault)
     }
 }
 
+/* The front that is read without a fault ends where the fault is, or with the section. */
+static void try_front(const struct subject *subject, struct fault fault)
+{
+    struct file file = file_of(&subject->file);
+    size_t front = subject->tree == SLICE ? slice_front(subject->type, file) : type_front(file);
+    if (subject->tree == NODES && (fault.number == WOSTHILE_ACCEPTED || fault.section > 0)) {
+        front = nodes_front(file);
+    }
+    bool at_place = fault.at == AT_BYTE || fault.at == AT_SECTION_END || fault.at == AT_BEHIND;
+    if (fault.number == WOSTHILE_ACCEPTED || fault.at == AT_NODE) {
+        expect(front == file.length, "a file that is read whole has a shorter front", file);
+    } else if (at_place) {
+        expect(front == fault.byte, "the front does not end at the fault", file);
+    } else {
+        expect(front <= file.length, "the front is longer than the file", file);
+    }
+}
+
 /* Is a node above another one? */
 static bool is_above(const struct patch_node *node, const struct patch_node *other)
 {
@@ -507,6 +525,7 @@ static void try_place(struct subject *subject)
     struct fault fault = fault_of(subject, &tree);
     expect(fault.number == number_of(subject), "the fault has another number", file);
     try_fault_text(subject, fault);
+    try_front(subject, fault);
     met_numbers[fault.number]++;
     if (fault.number == WOSTHILE_ACCEPTED) {
         if (subject->tree == NODES) {
