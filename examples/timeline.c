@@ -1,133 +1,51 @@
-/*
- * Draws a show as a picture: frames to the right, a lane for each leaf of the input type and of the output type.
- *
- *   timeline SHOW [SEED...] [--frames FIRST LAST] >picture.svg
- *
- * There is a panel for each seed, on the same frames, so that two cuts of a show can be compared by eye; without a seed
- * it is the show as recorded. --frames draws a part of the show larger.
- */
-#include "feeding.h"
-#include "arrivals.h"
-#include "lanes.h"
-#include "program.h"
+/* Draws a show as a picture: frames to the right, a lane for each leaf of the input type and of the output type. */
+#include "parts.h"
+#include "playing.h"
+#include "svg.h"
 
 #include <stdio.h>
-#include <stdlib.h>
 #include <string.h>
 
-enum { PANELS_MAX = 16 };
+static const char help[] =
+    "timeline SHOW [SEED..] [--frames FIRST LAST]\n"
+    "\n"
+    "Draws a show file as an SVG picture on standard output, frames to the right. There is a panel for each seed, on\n"
+    "the same frames, so that two cuts of a show can be compared by eye; seed 0, or no seed, is the show as recorded.\n"
+    "At most 16 seeds. --frames draws a part of the show larger. Slices that are refused, and a show file that ends\n"
+    "inside a slice, are marked and put in words.\n"
+    "\n"
+    "Exit status: 0 drawn, even if slices are refused; 1 the patch is refused; 2 words or files that cannot be used.\n";
 
-/* What came in, or was sent, in a frame. Every node of a type brings one event at most, so there is a bound. */
-struct mark {
-    size_t frame;
-    struct lane_event event;
-};
+/* All lengths are in pixels. */
+enum { PAGE_WIDTH_MIN = 900, MARGIN = SVG_MARGIN, NAMES_WIDTH_MAX = 420, PLOT_WIDTH_MIN = 640 };
+enum { HEADER_HEIGHT = 112, TITLE_HEIGHT = 24, STRIP_HEIGHT = 30, FAULTS_HEIGHT = 26, HEADING_HEIGHT = 22 };
+enum { AXIS_HEIGHT = 58, LIST_LINE_HEIGHT = 16, LATE_ROOM = 24 };
 
-struct side {
-    struct lanes lanes;
-    struct mark marks[WOSTHILE_TYPE_NODES_MAX];
-    size_t count;
-};
+enum { PANELS_MAX = 16, LISTED_MAX = 12, LISTED_LINES_MAX = 48, FRAMES_A_SECOND = 60 };
 
-/* The show played with one seed. */
-struct panel {
-    uint64_t seed;
-    struct side in, out;
-    size_t frames;
-    uint8_t *slices; /* how many were fed as one in each frame, counted from 1 */
-    size_t refused;
-};
+#define LANE_COLOUR "#e9eff6"
+#define JOINED_COLOUR "#ffd23f"
 
 /* The part of the show that is drawn. */
 struct window {
     size_t first, last;
 };
 
-/* Notes what a slice brings in a frame. */
-static void note(struct side *side, size_t frame, struct file slice)
-{
-    struct lane_events events;
-    if (lanes_follow(&side->lanes, slice, &events) != WOSTHILE_ACCEPTED) {
-        stop("A slice that was fed or sent is not one of what the slices before it leave.");
-    }
-    for (size_t index = 0; index < events.count && side->count < WOSTHILE_TYPE_NODES_MAX; index++) {
-        side->marks[side->count++] = (struct mark){frame, events.list[index]};
-    }
-}
-
-/* Feeds what came in a frame. What is refused is counted, and leaves the patch. */
-static void play_frame(struct panel *panel, struct patch *patch, size_t frame, const struct joined *waiting)
-{
-    uint8_t output[WOSTHILE_SLICE_FILE_MAX];
-    wosthile_fed fed = patch_feed(patch, joined_file(waiting), output);
-    if (fed.number != WOSTHILE_ACCEPTED) {
-        panel->refused++;
-        return;
-    }
-    panel->slices[frame] = (uint8_t)waiting->count;
-    note(&panel->in, frame, joined_file(waiting));
-    note(&panel->out, frame, (struct file){output, fed.output});
-}
-
-/* Plays the slices as they arrive: those of one frame are joined, without the refused ones. */
-static void play_slices(struct panel *panel, struct patch *patch, const struct show *show, const size_t *arrivals)
-{
-    struct joined waiting = {.count = 0};
-    for (size_t index = 0; index < show->count; index++) {
-        if (joined_add(&waiting, patch_input_type(patch), show->slices[index]) != WOSTHILE_ACCEPTED) {
-            panel->refused++;
-        }
-        bool last = index + 1 == show->count || arrivals[index + 1] != arrivals[index];
-        if (last && waiting.count > 0) {
-            play_frame(panel, patch, arrivals[index], &waiting);
-            waiting.count = 0;
-        }
-    }
-}
-
-static struct panel *play(const struct show *show, uint64_t seed)
-{
-    struct panel *panel = memory(1, sizeof *panel);
-    size_t *arrivals = memory(show->count + 1, sizeof *arrivals);
-    struct patch patch;
-    struct type output_type;
-    uint32_t number = patch_start(&patch, show->patch, &output_type);
-    if (number != WOSTHILE_ACCEPTED) {
-        stop("The patch is refused with %u: %s", number, wosthile_sentence(number));
-    }
-    if (!lanes_start(&panel->in.lanes, patch_input_type(&patch)) ||
-        !lanes_start(&panel->out.lanes, type_file(&output_type))) {
-        stop("A type of the patch cannot be read.");
-    }
-    show_arrivals(seed, show->count, arrivals);
-    panel->seed = seed;
-    panel->frames = show->count == 0 ? 0 : arrivals[show->count - 1];
-    panel->slices = memory(panel->frames + 1, 1);
-    play_slices(panel, &patch, show, arrivals);
-    free(arrivals);
-    return panel;
-}
-
-static void release(struct panel *panel)
-{
-    free(panel->slices);
-    free(panel);
-}
-
-/* All lengths are in pixels. */
-enum { WIDTH = 900, PLOT_LEFT = 200, PLOT_RIGHT = 884, HEADER_HEIGHT = 92, NAME_CHARACTERS = 26 };
-enum { TITLE_HEIGHT = 24, STRIP_HEIGHT = 30, HEADING_HEIGHT = 22, AXIS_HEIGHT = 44 };
-
-#define LINE_COLOUR "#dde2e8"
-#define LANE_COLOUR "#e9eff6"
-#define CUE_COLOUR "#1b5e9e"
-#define LEVEL_COLOUR "#f0b03f"
-#define CROSSING_COLOUR "#a4123f"
-#define JOINED_COLOUR "#ffd23f"
-
+/* What all panels share. */
 struct drawing {
+    const struct opened_show *opened;
+    const struct panel *recorded; /* played as it was recorded */
     struct window window;
+    double left, right; /* of the plot */
     double frame_width, lane_height;
+    bool faults; /* is there a row for refused slices? */
+};
+
+/* One of the two sides of a panel on the page. */
+struct rows {
+    const struct side *side, *recorded;
+    const struct side_names *names;
+    double top;
 };
 
 /* From when to when a lane is open: from the crossing that opens it to the one that ends it. */
@@ -137,15 +55,14 @@ struct life {
 
 static const size_t NEVER = SIZE_MAX;
 
-static double clamped(double x) { return x < PLOT_LEFT ? PLOT_LEFT : x > PLOT_RIGHT ? PLOT_RIGHT : x; }
-
-/* Where the middle of a frame stands on the page; outside the window it is the edge of the plot. */
+/* Where the middle of a frame is on the page; outside the window it is the edge of the plot. */
 static double middle_of(const struct drawing *drawing, size_t frame)
 {
     if (frame == NEVER) {
-        return PLOT_RIGHT;
+        return drawing->right;
     }
-    return clamped(PLOT_LEFT + ((double)frame - (double)drawing->window.first + 0.5) * drawing->frame_width);
+    double x = drawing->left + ((double)frame - (double)drawing->window.first + 0.5) * drawing->frame_width;
+    return x < drawing->left ? drawing->left : x > drawing->right ? drawing->right : x;
 }
 
 static bool visible(const struct drawing *drawing, size_t frame)
@@ -153,171 +70,177 @@ static bool visible(const struct drawing *drawing, size_t frame)
     return frame >= drawing->window.first && frame <= drawing->window.last;
 }
 
-/* A text with the characters that mean something in XML written as XML wants them; dots stand for what is too much. */
-static void print_text(const char *text, size_t characters)
+static double top_of(const struct drawing *drawing, const struct rows *rows, unsigned lane)
 {
-    for (size_t printed = 0; *text != '\0'; text++) {
-        bool begins = ((unsigned char)*text & 0xc0) != 0x80;
-        printed += begins;
-        if (printed > characters) {
-            printf("..");
-            return;
-        }
-        switch (*text) {
-        case '&':
-            printf("&amp;");
-            break;
-        case '<':
-            printf("&lt;");
-            break;
-        case '>':
-            printf("&gt;");
-            break;
-        default:
-            putchar(*text);
-        }
-    }
-}
-
-static void print_rectangle(double x, double y, double width, double height, const char *fill, double opacity)
-{
-    printf("<rect x=\"%.1f\" y=\"%.1f\" width=\"%.1f\" height=\"%.1f\" fill=\"%s\" fill-opacity=\"%.2f\"/>\n", x, y,
-           width, height, fill, opacity);
-}
-
-static void print_line(double x1, double y1, double x2, double y2, const char *colour, double width)
-{
-    printf("<path d=\"M%.1f %.1fL%.1f %.1f\" stroke=\"%s\" stroke-width=\"%.1f\"/>\n", x1, y1, x2, y2, colour, width);
-}
-
-/* A mark that a cue has come: a diamond. */
-static void print_diamond(double x, double y)
-{
-    printf("<path d=\"M%.1f %.1fl5.5 5.5l-5.5 5.5l-5.5 -5.5z\" fill=\"" CUE_COLOUR "\"/>\n", x, y - 5.5);
+    return rows->top + (lane - 1.0) * drawing->lane_height;
 }
 
 /* The frame in which the sequence was crossed whose second part begins with a lane; every lane begins one at most. */
 static size_t crossing_frame(const struct side *side, unsigned lane)
 {
-    for (size_t index = 0; index < side->count; index++) {
-        const struct lane_event *event = &side->marks[index].event;
-        if (event->kind == EVENT_CROSSING && event->to.first == lane) {
-            return side->marks[index].frame;
+    struct lane_event crossing = {.kind = EVENT_CROSSING, .to = {lane, lane}};
+    const struct mark *mark = mark_of_event(side, &crossing);
+    return mark == NULL ? NEVER : mark->frame;
+}
+
+/* Shortens the lives of the lanes of a sequence: the first part closes at its crossing, and the second one opens. */
+static void cross_lives(struct life *lives, struct lane_range from, struct lane_range to, size_t crossed)
+{
+    for (unsigned lane = from.first; lane <= to.last; lane++) {
+        struct life *life = &lives[lane];
+        if (lane <= from.last) {
+            life->close = crossed < life->close ? crossed : life->close;
+        } else {
+            life->open = crossed > life->open ? crossed : life->open;
         }
     }
-    return NEVER;
 }
 
 /* When each lane is open; place 0 is not used. */
 static void find_lives(const struct side *side, struct life lives[LANES_MAX + 1])
 {
     const struct start_node *start = side->lanes.start;
-    for (unsigned lane = 1; lane <= side->lanes.count; lane++) {
+    for (unsigned lane = 0; lane <= side->lanes.count; lane++) {
         lives[lane] = (struct life){0, NEVER};
     }
     for (size_t node = 0; node < side->lanes.start_nodes; node++) {
-        if (start[node].kind != WOSTHILE_TYPE_SEQUENCE) {
-            continue;
-        }
-        struct lane_range from = start[node + 1].lanes, to = start[start[node].second].lanes;
-        size_t crossed = crossing_frame(side, to.first);
-        for (unsigned lane = from.first; lane <= from.last; lane++) {
-            lives[lane].close = crossed < lives[lane].close ? crossed : lives[lane].close;
-        }
-        for (unsigned lane = to.first; lane <= to.last; lane++) {
-            lives[lane].open = crossed > lives[lane].open ? crossed : lives[lane].open;
+        if (start[node].kind == WOSTHILE_TYPE_SEQUENCE) {
+            struct lane_range from = start[node + 1].lanes, to = start[start[node].second].lanes;
+            cross_lives(lives, from, to, crossing_frame(side, to.first));
         }
     }
 }
 
-/* The name of a lane, its line, and the band that says when it is open. */
-static void draw_lane(const struct drawing *drawing, const char *name, struct life life, double top)
+/* The line of a lane, and the band that says when it is open. */
+static void draw_lane(const struct drawing *drawing, struct life life, double top)
 {
     double bottom = top + drawing->lane_height;
-    print_line(PLOT_LEFT, bottom, PLOT_RIGHT, bottom, LINE_COLOUR, 1);
-    double open = life.open == 0 ? PLOT_LEFT : middle_of(drawing, life.open), close = middle_of(drawing, life.close);
+    svg_line(drawing->left, bottom, drawing->right, bottom, LINE_COLOUR, 1);
+    double open = life.open == 0 ? drawing->left : middle_of(drawing, life.open),
+           close = middle_of(drawing, life.close);
     if (close > open) {
-        print_rectangle(open, top + 1, close - open, drawing->lane_height - 2, LANE_COLOUR, 1);
+        svg_rectangle(open, top + 1, close - open, drawing->lane_height - 2, LANE_COLOUR, 1);
     }
-    printf("<text x=\"%d\" y=\"%.1f\" text-anchor=\"end\">", PLOT_LEFT - 8, bottom - drawing->lane_height * 0.3);
-    print_text(name, NAME_CHARACTERS);
-    printf("</text>\n");
 }
 
-/* What has come in a lane stays until the lane ends: a line behind a cue, a bar of its height behind a level. */
+/* The lanes of a side one below the other, with their names and the parts of sequences. */
+static void draw_lanes(const struct drawing *drawing, const struct rows *rows)
+{
+    struct life lives[LANES_MAX + 1];
+    struct sequence_parts parts;
+    find_lives(rows->side, lives);
+    parts_find(&parts, &rows->side->lanes);
+    double names_end = drawing->left - 6 - parts_width(&parts);
+    for (unsigned lane = 1; lane <= rows->side->lanes.count; lane++) {
+        char name[LANE_NAME_BYTES + 2];
+        double top = top_of(drawing, rows, lane);
+        svg_fit(name, sizeof name, TEXT_PLAIN, names_end - MARGIN, rows->names->of[lane]);
+        draw_lane(drawing, lives[lane], top);
+        svg_text(names_end, top + drawing->lane_height * 0.7, TEXT_ENDS, TEXT_PLAIN, "%s", name);
+    }
+    parts_draw(&parts, drawing->left - 2 - parts_width(&parts), rows->top, drawing->lane_height);
+}
+
+/*
+ * What has come in a lane stays until the lane ends: a line behind a cue, a bar behind a level. The pale bar of full
+ * height says that a level has come, so that 0 is told from none; any other level is seen in it, however low.
+ */
 static void draw_stay(const struct drawing *drawing, const struct mark *mark, struct life life, double top)
 {
     double from = middle_of(drawing, mark->frame), to = middle_of(drawing, life.close);
     double middle = top + drawing->lane_height / 2, room = drawing->lane_height - 3;
     if (mark->event.kind == EVENT_CUE) {
-        print_line(from, middle, to, middle, CUE_COLOUR, 1.5);
-    } else {
-        double height = room * mark->event.value / 65535;
-        print_rectangle(from, top + 1.5 + room - height, to - from, height, LEVEL_COLOUR, 0.75);
+        svg_line(from, middle, to, middle, CUE_COLOUR, 1.5);
+        return;
+    }
+    svg_rectangle(from, top + 1.5, to - from, room, LEVEL_COLOUR, 0.22);
+    if (mark->event.value > 0) {
+        const double least = 2.5;
+        double height = least + (room - least) * mark->event.value / 65535;
+        svg_rectangle(from, top + 1.5 + room - height, to - from, height, LEVEL_COLOUR, 0.85);
     }
 }
 
-/* The moment at which something comes in a lane. */
-static void draw_mark(const struct drawing *drawing, const struct mark *mark, double top)
+/* How many frames later than recorded an event came. */
+static size_t lateness(const struct rows *rows, const struct mark *mark)
 {
-    double x = middle_of(drawing, mark->frame);
-    if (mark->event.kind == EVENT_CUE) {
-        print_diamond(x, top + drawing->lane_height / 2);
-        return;
+    const struct mark *recorded = mark_of_event(rows->recorded, &mark->event);
+    return recorded == NULL || recorded->frame > mark->frame ? 0 : mark->frame - recorded->frame;
+}
+
+/* The moment at which something comes in a lane, with the value of a level and how late it is. */
+static void draw_mark(const struct drawing *drawing, const struct rows *rows, const struct mark *mark)
+{
+    double x = middle_of(drawing, mark->frame), top = top_of(drawing, rows, mark->event.lane);
+    double baseline = top + drawing->lane_height * 0.72;
+    bool level = mark->event.kind == EVENT_LEVEL, at_the_end = x > drawing->right - 60;
+    enum text_anchor anchor = at_the_end ? TEXT_ENDS : TEXT_STARTS;
+    double direction = at_the_end ? -1 : 1, next = x + direction * 7;
+    if (level) {
+        char value[8];
+        snprintf(value, sizeof value, "%u", mark->event.value);
+        svg_line(x, top + 1.5, x, top + drawing->lane_height - 1.5, LEVEL_EDGE_COLOUR, 2.5);
+        svg_text(next, baseline, anchor, TEXT_VALUE, "%s", value);
+        next += direction * (svg_text_width(TEXT_VALUE, value) + 4);
+    } else {
+        svg_diamond(x, top + drawing->lane_height / 2);
+        baseline = top + drawing->lane_height / 2 - 1.5; /* not on the line behind the cue */
     }
-    bool at_the_end = x > PLOT_RIGHT - 45;
-    print_line(x, top + 1.5, x, top + drawing->lane_height - 1.5, "#8a5a00", 2.5);
-    printf("<text x=\"%.1f\" y=\"%.1f\" class=\"value\" text-anchor=\"%s\">%u</text>\n", at_the_end ? x - 5 : x + 7,
-           top + drawing->lane_height * 0.72, at_the_end ? "end" : "start", mark->event.value);
+    size_t late = lateness(rows, mark);
+    if (late > 0) {
+        svg_text(next, baseline, anchor, TEXT_LATE, "+%zu", late);
+    }
+}
+
+/* The value of a level that came before the part of the show that is drawn, and is still there. */
+static void draw_earlier_level(const struct drawing *drawing, const struct rows *rows, const struct mark *mark,
+                               struct life life)
+{
+    double baseline = top_of(drawing, rows, mark->event.lane) + drawing->lane_height * 0.72;
+    if (mark->frame < drawing->window.first && life.close > drawing->window.first) {
+        svg_text(drawing->left + 7, baseline, TEXT_STARTS, TEXT_VALUE, "%u", mark->event.value);
+    }
 }
 
 /* A line through the lanes of a sequence: a bar where a lane ends, an arrow where one opens. */
-static void draw_crossing(const struct drawing *drawing, const struct mark *mark, const struct life *lives, double top)
+static void draw_crossing(const struct drawing *drawing, const struct rows *rows, const struct mark *mark,
+                          const struct life *lives)
 {
     struct lane_range from = mark->event.from, to = mark->event.to;
     double x = middle_of(drawing, mark->frame), height = drawing->lane_height;
-    print_line(x, top + (from.first - 1) * height, x, top + to.last * height, CROSSING_COLOUR, 1.5);
-    for (unsigned lane = from.first; lane <= from.last; lane++) {
-        if (lives[lane].close == mark->frame) {
-            print_line(x, top + (lane - 1) * height + 2, x, top + lane * height - 2, CROSSING_COLOUR, 4);
+    svg_line(x, top_of(drawing, rows, from.first), x, top_of(drawing, rows, to.last + 1), CROSSING_COLOUR, 1.5);
+    for (unsigned lane = from.first; lane <= to.last; lane++) {
+        double top = top_of(drawing, rows, lane);
+        if (lane <= from.last && lives[lane].close == mark->frame) {
+            svg_line(x, top + 2, x, top + height - 2, CROSSING_COLOUR, 4);
+        } else if (lane >= to.first && lives[lane].open == mark->frame) {
+            svg_arrow(x, top + height / 2);
         }
     }
-    for (unsigned lane = to.first; lane <= to.last; lane++) {
-        if (lives[lane].open == mark->frame) {
-            printf("<path d=\"M%.1f %.1fl6 4l-6 4z\" fill=\"" CROSSING_COLOUR "\"/>\n", x,
-                   top + (lane - 0.5) * height - 4);
-        }
+    size_t late = lateness(rows, mark);
+    if (late > 0 && x - LATE_ROOM > drawing->left) { /* else it would lie on the bands of the parts */
+        svg_text(x - 7, top_of(drawing, rows, to.first) + height * 0.72, TEXT_ENDS, TEXT_LATE, "+%zu", late);
     }
 }
 
-/* The lanes of one of the two sides of a panel, one below the other. */
-static void draw_lanes(const struct drawing *drawing, const struct side *side, const struct side_names *names,
-                       double top)
+/* The marks in the lanes, in three layers: what stays lies behind the crossings, and the moments lie on top. */
+static void draw_marks(const struct drawing *drawing, const struct rows *rows)
 {
+    enum { STAYS, CROSSINGS, MOMENTS, LAYERS };
     struct life lives[LANES_MAX + 1];
-    find_lives(side, lives);
-    for (unsigned lane = 1; lane <= side->lanes.count; lane++) {
-        draw_lane(drawing, names->of[lane], lives[lane], top + (lane - 1) * drawing->lane_height);
-    }
-}
-
-/* The marks in those lanes, in three layers: what stays lies behind the crossings, and the moments lie on top. */
-static void draw_marks(const struct drawing *drawing, const struct side *side, double top)
-{
-    struct life lives[LANES_MAX + 1];
-    find_lives(side, lives);
-    for (int layer = 0; layer < 3; layer++) {
-        for (size_t index = 0; index < side->count; index++) {
-            const struct mark *mark = &side->marks[index];
-            bool crossing = mark->event.kind == EVENT_CROSSING;
-            double lane_top = top + (mark->event.lane - 1.0) * drawing->lane_height;
-            if (layer == 0 && !crossing) {
-                draw_stay(drawing, mark, lives[mark->event.lane], lane_top);
-            } else if (layer == 1 && crossing && visible(drawing, mark->frame)) {
-                draw_crossing(drawing, mark, lives, top);
-            } else if (layer == 2 && !crossing && visible(drawing, mark->frame)) {
-                draw_mark(drawing, mark, lane_top);
-            }
+    find_lives(rows->side, lives);
+    for (size_t index = 0; index < LAYERS * rows->side->count; index++) {
+        size_t layer = index / rows->side->count;
+        const struct mark *mark = &rows->side->marks[index % rows->side->count];
+        bool crossing = mark->event.kind == EVENT_CROSSING;
+        if (layer == STAYS && !crossing) {
+            draw_stay(drawing, mark, lives[mark->event.lane], top_of(drawing, rows, mark->event.lane));
+        } else if (layer == CROSSINGS && crossing && visible(drawing, mark->frame)) {
+            draw_crossing(drawing, rows, mark, lives);
+        } else if (layer == MOMENTS && !crossing && visible(drawing, mark->frame)) {
+            draw_mark(drawing, rows, mark);
+        } else if (layer == MOMENTS && mark->event.kind == EVENT_LEVEL) {
+            draw_earlier_level(drawing, rows, mark, lives[mark->event.lane]);
         }
     }
 }
@@ -338,19 +261,59 @@ static unsigned most_slices(const struct drawing *drawing, const struct panel *p
 /* How many slices came in each frame, as a row of small bars; where there is none, nothing was fed. */
 static void draw_strip(const struct drawing *drawing, const struct panel *panel, double bottom)
 {
-    size_t frames = drawing->window.last - drawing->window.first + 1;
-    size_t columns = frames < PLOT_RIGHT - PLOT_LEFT ? frames : PLOT_RIGHT - PLOT_LEFT;
-    double width = (double)(PLOT_RIGHT - PLOT_LEFT) / (double)columns;
-    printf("<text x=\"%d\" y=\"%.1f\" text-anchor=\"end\" class=\"small\">slices in a frame</text>\n", PLOT_LEFT - 8,
-           bottom - 2);
-    printf("<path stroke=\"#7b8794\" stroke-width=\"%.1f\" d=\"", width * 0.8);
+    size_t frames = drawing->window.last - drawing->window.first + 1, room = (size_t)(drawing->right - drawing->left);
+    size_t columns = frames < room ? frames : room;
+    double width = (drawing->right - drawing->left) / (double)columns;
+    svg_text(drawing->left - 8, bottom - 2, TEXT_ENDS, TEXT_SMALL, "slices in a frame");
+    svg_bars_begin(GREY_COLOUR, width * 0.8);
     for (size_t column = 0; column < columns; column++) {
         unsigned slices = most_slices(drawing, panel, column, columns);
         if (slices > 0) {
-            printf("M%.1f %.1fv-%u", PLOT_LEFT + ((double)column + 0.5) * width, bottom, slices * 4);
+            svg_bar(drawing->left + ((double)column + 0.5) * width, bottom, slices * 4);
         }
     }
-    printf("\"/>\n");
+    svg_bars_end();
+}
+
+static void refusal_words(char words[MESSAGE_BYTES + 64], const struct refusal *refusal, size_t frame)
+{
+    snprintf(words, MESSAGE_BYTES + 64, "frame %zu: refused with %u: %s", frame, refusal->number, refusal->words);
+}
+
+/* A cross for each refused slice with its number below it, unless the number of the one before is in the way. */
+static void draw_refusals(const struct drawing *drawing, const struct panel *panel, double middle)
+{
+    double label_end = drawing->left - 10;
+    svg_text(drawing->left - 8, middle + 8, TEXT_ENDS, TEXT_SMALL, "refused");
+    for (size_t index = 0; index < panel->refused; index++) {
+        const struct refusal *refusal = &panel->refusals[index];
+        if (!visible(drawing, refusal->frame)) {
+            continue;
+        }
+        char words[MESSAGE_BYTES + 64];
+        double x = middle_of(drawing, refusal->frame);
+        refusal_words(words, refusal, refusal->frame);
+        svg_group_begin("refused", words);
+        svg_line(x - 4, middle - 4, x + 4, middle + 4, CROSSING_COLOUR, 2);
+        svg_line(x - 4, middle + 4, x + 4, middle - 4, CROSSING_COLOUR, 2);
+        if (x - 7 >= label_end) {
+            svg_text(x, middle + 14, TEXT_CENTRED, TEXT_FAULT, "%u", refusal->number);
+            label_end = x + 7;
+        }
+        svg_group_end();
+    }
+}
+
+/* Where the show file ends inside a slice: a jagged line through the lanes, with words. */
+static void draw_broken_end(const struct drawing *drawing, size_t frame, double top, double bottom)
+{
+    double x = middle_of(drawing, frame);
+    bool at_the_start = x < (drawing->left + drawing->right) / 2;
+    svg_group_begin("broken-off", "the show file ends inside this slice");
+    svg_zigzag(x, top, bottom, CROSSING_COLOUR);
+    svg_text(at_the_start ? x + 8 : x - 8, top + 12, at_the_start ? TEXT_STARTS : TEXT_ENDS, TEXT_FAULT,
+             "the file ends inside this slice");
+    svg_group_end();
 }
 
 /* Did anything come in, or was anything sent, in this frame? */
@@ -374,153 +337,236 @@ static void draw_bands(const struct drawing *drawing, const struct panel *panel,
         }
         double least = drawing->frame_width < 1 ? 1.5 : 5, x = middle_of(drawing, frame);
         double width = drawing->frame_width < least ? least : drawing->frame_width;
-        print_rectangle(x - width / 2, top, width, bottom - top, JOINED_COLOUR, 0.55);
+        svg_rectangle(x - width / 2, top, width, bottom - top, JOINED_COLOUR, 0.55);
         if (x - 5 > label_end) {
-            printf("<text x=\"%.1f\" y=\"%.1f\" text-anchor=\"middle\" class=\"count\">%u</text>\n", x, top - 2,
-                   panel->slices[frame]);
+            svg_text(x, top - 2, TEXT_CENTRED, TEXT_COUNT, "%u", panel->slices[frame]);
             label_end = x + 5;
         }
     }
 }
 
-/* The distance between the numbers on the axis: 1, 2 or 5 with noughts, and no more than about a dozen of them. */
+/* The distance between the numbers on the axis, so that there are about a dozen, and whole seconds where there can be.
+ */
 static size_t axis_step(size_t frames)
 {
-    size_t step = 1;
-    for (unsigned times = 0; frames / step > 12; times++) {
-        step = times % 3 == 1 ? step / 2 * 5 : step * 2;
+    static const size_t steps[] = {1, 2, 3, 6, 15, 30, 60, 120, 300, 600, 1800, 3600, 7200, 18000};
+    size_t choices = sizeof steps / sizeof steps[0], choice = 0;
+    while (choice + 1 < choices && frames / steps[choice] > 16) {
+        choice++;
     }
-    return step;
+    size_t step = steps[choice];
+    return frames / step > 16 ? (frames / 16 / step + 1) * step : step;
 }
 
 static void draw_axis(const struct drawing *drawing, double top, double bottom)
 {
     size_t first = drawing->window.first, last = drawing->window.last, step = axis_step(last - first + 1);
-    printf("<text x=\"%d\" y=\"%.1f\" text-anchor=\"end\" class=\"small\">frame</text>\n", PLOT_LEFT - 8, bottom + 14);
+    int decimals = step % FRAMES_A_SECOND == 0 ? 0 : step % 6 == 0 ? 1 : 2;
+    svg_text(drawing->left - 8, bottom + 14, TEXT_ENDS, TEXT_SMALL, "frame");
+    svg_text(drawing->left - 8, bottom + 28, TEXT_ENDS, TEXT_SMALL, "seconds");
     for (size_t frame = (first + step - 1) / step * step; frame <= last; frame += step) {
-        if (frame < first || frame == 0) {
-            continue;
-        }
         double x = middle_of(drawing, frame);
-        print_line(x, top, x, bottom + 3, LINE_COLOUR, 1);
-        printf("<text x=\"%.1f\" y=\"%.1f\" text-anchor=\"middle\" class=\"small\">%zu</text>\n", x, bottom + 14,
-               frame);
+        svg_line(x, top, x, bottom + 3, LINE_COLOUR, 1);
+        svg_text(x, bottom + 14, TEXT_CENTRED, TEXT_SMALL, "%zu", frame);
+        svg_text(x, bottom + 28, TEXT_CENTRED, TEXT_SMALL, "%.*f", decimals, (double)frame / FRAMES_A_SECOND);
     }
 }
 
 /* A title in words: how the show was cut, and what came of it. */
-static void print_panel_title(const struct panel *panel, struct window window, double y)
+static void draw_panel_title(const struct panel *panel, struct window window, double y)
 {
+    char cut[128] = "As recorded: no slice is late", refused[64] = "";
     size_t frames[4] = {0};
     for (size_t frame = window.first; frame <= window.last && frame <= panel->frames; frame++) {
         frames[panel->slices[frame] & 3]++;
     }
-    printf("<text x=\"16\" y=\"%.1f\" class=\"title\">", y);
-    if (panel->seed == 0) {
-        printf("As recorded: no slice is late");
-    } else {
-        printf("Cut by seed %llu: in %zu frames two slices come as one, in %zu frames three",
-               (unsigned long long)panel->seed, frames[2], frames[3]);
+    if (panel->seed != 0) {
+        snprintf(cut, sizeof cut, "Cut by seed %llu: in %zu frames two slices come as one, in %zu frames three",
+                 (unsigned long long)panel->seed, frames[2], frames[3]);
     }
     if (panel->refused > 0) {
-        printf("; %zu refused", panel->refused);
+        snprintf(refused, sizeof refused, "; %zu refused", panel->refused);
     }
-    printf("</text>\n");
+    svg_text(MARGIN, y, TEXT_STARTS, TEXT_TITLE, "%s%s", cut, refused);
 }
 
-static void print_heading(const char *words, double y)
+static double panel_height(const struct drawing *drawing)
 {
-    printf("<text x=\"16\" y=\"%.1f\" class=\"heading\">%s</text>\n", y, words);
+    unsigned lanes = drawing->opened->in.count + drawing->opened->out.count;
+    return TITLE_HEIGHT + STRIP_HEIGHT + (drawing->faults ? FAULTS_HEIGHT : 0) + 2 * HEADING_HEIGHT +
+           lanes * drawing->lane_height + AXIS_HEIGHT;
 }
 
-static double panel_height(const struct drawing *drawing, const struct panel *panel)
+static void draw_panel(const struct drawing *drawing, const struct panel *panel, double top)
 {
-    unsigned lanes = panel->in.lanes.count + panel->out.lanes.count;
-    return TITLE_HEIGHT + STRIP_HEIGHT + 2 * HEADING_HEIGHT + lanes * drawing->lane_height + AXIS_HEIGHT;
-}
-
-static void draw_panel(const struct drawing *drawing, const struct panel *panel, const struct lane_names *names,
-                       double top)
-{
-    double strip = top + TITLE_HEIGHT + STRIP_HEIGHT;
-    double in = strip + HEADING_HEIGHT, in_end = in + panel->in.lanes.count * drawing->lane_height;
-    double out = in_end + HEADING_HEIGHT, bottom = out + panel->out.lanes.count * drawing->lane_height;
-    print_panel_title(panel, drawing->window, top + 16);
+    double strip = top + TITLE_HEIGHT + STRIP_HEIGHT, head = strip + (drawing->faults ? FAULTS_HEIGHT : 0);
+    struct rows in = {&panel->in, &drawing->recorded->in, &drawing->opened->names.in, head + HEADING_HEIGHT};
+    double in_end = top_of(drawing, &in, panel->in.lanes.count + 1);
+    struct rows out = {&panel->out, &drawing->recorded->out, &drawing->opened->names.out, in_end + HEADING_HEIGHT};
+    double bottom = top_of(drawing, &out, panel->out.lanes.count + 1);
+    draw_panel_title(panel, drawing->window, top + 16);
     draw_axis(drawing, strip, bottom);
     draw_strip(drawing, panel, strip);
-    print_heading("What comes in", in - 5);
-    print_heading("What is sent on", out - 5);
-    draw_lanes(drawing, &panel->in, &names->in, in);
-    draw_lanes(drawing, &panel->out, &names->out, out);
+    svg_text(MARGIN, in.top - 5, TEXT_STARTS, TEXT_HEADING, "What comes in");
+    svg_text(MARGIN, out.top - 5, TEXT_STARTS, TEXT_HEADING, "What is sent on");
+    draw_lanes(drawing, &in);
+    draw_lanes(drawing, &out);
     draw_bands(drawing, panel, strip - STRIP_HEIGHT + 16, bottom);
-    draw_marks(drawing, &panel->in, in);
-    draw_marks(drawing, &panel->out, out);
+    draw_marks(drawing, &in);
+    draw_marks(drawing, &out);
+    if (drawing->faults) {
+        draw_refusals(drawing, panel, strip + 9);
+    }
+    if (panel->broken_off > 0 && visible(drawing, panel->broken_off)) {
+        draw_broken_end(drawing, panel->broken_off, head + 4, bottom);
+    }
 }
 
-static void print_legend_word(double x, double y, const char *words)
+/* The signs of the legend, each drawn from x to the right around a middle line. */
+static void sign_open(double x, double y) { svg_rectangle(x, y - 7, 26, 15, LANE_COLOUR, 1); }
+
+static void sign_cue(double x, double y)
 {
-    printf("<text x=\"%.1f\" y=\"%.1f\" class=\"small\">%s</text>\n", x, y, words);
+    svg_line(x + 6, y, x + 26, y, CUE_COLOUR, 1.5);
+    svg_diamond(x + 6, y);
 }
 
-/* The marks and what they mean, in one row. */
+static void sign_level(double x, double y)
+{
+    svg_rectangle(x, y - 7, 26, 15, LEVEL_COLOUR, 0.22);
+    svg_rectangle(x, y, 26, 8, LEVEL_COLOUR, 0.85);
+    svg_line(x, y - 7, x, y + 8, LEVEL_EDGE_COLOUR, 2.5);
+}
+
+static void sign_crossing(double x, double y)
+{
+    svg_line(x + 2, y - 9, x + 2, y + 9, CROSSING_COLOUR, 1.5);
+    svg_arrow(x + 2, y);
+}
+
+static void sign_joined(double x, double y) { svg_rectangle(x, y - 7, 8, 15, JOINED_COLOUR, 0.55); }
+
+static void sign_late(double x, double y) { svg_text(x, y + 4, TEXT_STARTS, TEXT_LATE, "+2"); }
+
+/* The marks and what they mean, in two rows. */
 static void draw_legend(double y)
 {
-    print_rectangle(16, y - 11, 26, 15, LANE_COLOUR, 1);
-    print_legend_word(48, y, "lane is open");
-    print_diamond(140, y - 4);
-    print_legend_word(150, y, "cue comes, and stays");
-    print_rectangle(292, y - 5, 30, 9, LEVEL_COLOUR, 0.75);
-    print_line(292, y - 11, 292, y + 4, "#8a5a00", 2.5);
-    print_legend_word(328, y, "level comes, and stays");
-    print_line(484, y - 13, 484, y + 6, CROSSING_COLOUR, 1.5);
-    printf("<path d=\"M484 %.1fl6 4l-6 4z\" fill=\"" CROSSING_COLOUR "\"/>\n", y - 8);
-    print_legend_word(496, y, "crossing: first part ends, second opens");
-    print_rectangle(742, y - 11, 8, 15, JOINED_COLOUR, 0.55);
-    print_legend_word(756, y, "brought as one slice");
+    static const struct svg_sign lanes[] = {{sign_open, 26, "lane is open"},
+                                            {sign_cue, 26, "cue comes, and stays"},
+                                            {sign_level, 26, "level comes, and stays"},
+                                            {parts_sign, 14, "parts of a sequence, one after the other"}};
+    static const struct svg_sign frames[] = {{sign_crossing, 8, "crossing: one part ends, the next opens"},
+                                             {sign_joined, 8, "brought by slices that came as one"},
+                                             {sign_late, 12, "frames later than recorded"}};
+    svg_legend(MARGIN, y, lanes, sizeof lanes / sizeof lanes[0]);
+    svg_legend(MARGIN, y + 22, frames, sizeof frames / sizeof frames[0]);
 }
 
-/* The name of the show without its folder. */
-static void print_show_name(const char *path)
+static void draw_header(const char *path, struct window window, double width, double height)
 {
-    char name[256];
-    const char *slash = strrchr(path, '/');
-    clean_text(name, sizeof name, slash == NULL ? path : slash + 1);
-    print_text(name, sizeof name);
+    svg_begin(width, height, path, "");
+    svg_text(width - MARGIN, 30, TEXT_ENDS, TEXT_SMALL, "frames %zu to %zu, %d frames a second", window.first,
+             window.last, FRAMES_A_SECOND);
+    svg_text(
+        MARGIN, 50, TEXT_STARTS, TEXT_PLAIN,
+        "Frames run to the right. Every lane is a cue or a level that comes once; a show follows its crossings from "
+        "lane to lane.");
+    draw_legend(70);
 }
 
-static void draw_header(const char *path, struct window window, double height)
-{
-    printf("<svg xmlns=\"http://www.w3.org/2000/svg\" width=\"%d\" height=\"%.0f\" viewBox=\"0 0 %d %.0f\" "
-           "font-family=\"system-ui, sans-serif\" font-size=\"11.5\" fill=\"#1f2933\">\n",
-           WIDTH, height, WIDTH, height);
-    printf("<style>.title{font-size:14px;font-weight:bold}.heading{font-size:11.5px;font-weight:bold;fill:#52606d}"
-           ".small{font-size:11px;fill:#52606d}.count{font-size:10px;font-weight:bold}"
-           ".value{font-size:11px;paint-order:stroke;stroke:#fff;stroke-width:2px}</style>\n");
-    printf("<title>");
-    print_show_name(path);
-    printf("</title>\n<rect width=\"%d\" height=\"%.0f\" fill=\"#fff\"/>\n", WIDTH, height);
-    printf("<text x=\"16\" y=\"30\" font-size=\"19\" font-weight=\"bold\">");
-    print_show_name(path);
-    printf("<tspan font-size=\"13\" font-weight=\"normal\" dx=\"12\">frames %zu to %zu</tspan>", window.first,
-           window.last);
-    printf("</text>\n<text x=\"16\" y=\"50\">Frames run to the right. Every lane is a cue or a level that comes once; "
-           "a show follows its crossings from lane to lane.</text>\n");
-    draw_legend(74);
-}
+/* What is wrong with the recording, in lines that fit on the page. */
+struct fault_list {
+    size_t count;
+    char lines[LISTED_LINES_MAX][512]; /* more bytes than fit on the widest page */
+};
 
-static void draw(const char *path, struct panel *const *panels, size_t count, struct window window)
+/* Adds a message, on as many lines as it needs and there are. */
+static void list_message(struct fault_list *list, double room, const char *words)
 {
-    struct lane_names names;
-    lane_names_read(&names, path, panels[0]->in.lanes.count, panels[0]->out.lanes.count);
-    unsigned lanes = panels[0]->in.lanes.count + panels[0]->out.lanes.count;
-    struct drawing drawing = {window, 0, lanes <= 64 ? 17 : 14};
-    drawing.frame_width = (double)(PLOT_RIGHT - PLOT_LEFT) / (double)(window.last - window.first + 1);
-    double panel = panel_height(&drawing, panels[0]);
-    draw_header(path, window, HEADER_HEIGHT + panel * (double)count);
-    for (size_t index = 0; index < count; index++) {
-        draw_panel(&drawing, panels[index], &names, HEADER_HEIGHT + panel * (double)index);
+    while (*words != '\0' && list->count < LISTED_LINES_MAX) {
+        size_t bytes = svg_line_bytes(TEXT_SMALL, room, words);
+        snprintf(list->lines[list->count++], sizeof list->lines[0], "%.*s", (int)bytes, words);
+        words += bytes + (words[bytes] == ' ');
     }
-    printf("</svg>\n");
+}
+
+/* Lists the refused slices, or the first of them, and how the file ends. This is the same however the show is cut. */
+static void list_faults(struct fault_list *list, const struct opened_show *opened, const struct panel *recorded,
+                        double room)
+{
+    char words[MESSAGE_BYTES + 64];
+    list->count = 0;
+    for (size_t index = 0; index < recorded->refused && index < LISTED_MAX; index++) {
+        refusal_words(words, &recorded->refusals[index], recorded->refusals[index].recorded);
+        list_message(list, room, words);
+    }
+    if (recorded->refused > LISTED_MAX) {
+        snprintf(words, sizeof words, "and %zu more slices are refused", recorded->refused - LISTED_MAX);
+        list_message(list, room, words);
+    }
+    if (recorded->broken_off > 0) {
+        show_unfinished_text(words, sizeof words, &opened->show.unfinished);
+        list_message(list, room, words);
+    }
+}
+
+static double list_height(const struct fault_list *list)
+{
+    return list->count == 0 ? 0 : (double)(list->count + 2) * LIST_LINE_HEIGHT;
+}
+
+static void draw_list(const struct fault_list *list, double top)
+{
+    svg_text(MARGIN, top, TEXT_STARTS, TEXT_HEADING, "What is wrong with the recording (frames as recorded)");
+    for (size_t line = 0; line < list->count; line++) {
+        svg_text(MARGIN, top + ((double)line + 1) * LIST_LINE_HEIGHT, TEXT_STARTS, TEXT_SMALL, "%s", list->lines[line]);
+    }
+}
+
+/* The room that the names of a side need with the bands beside them. */
+static double names_width(const struct lanes *lanes, const struct side_names *names)
+{
+    struct sequence_parts parts;
+    double widest = svg_text_width(TEXT_SMALL, "slices in a frame");
+    parts_find(&parts, lanes);
+    for (unsigned lane = 1; lane <= lanes->count; lane++) {
+        double width = svg_text_width(TEXT_PLAIN, names->of[lane]);
+        widest = width > widest ? width : widest;
+    }
+    return (widest < NAMES_WIDTH_MAX ? widest : NAMES_WIDTH_MAX) + parts_width(&parts) + 8;
+}
+
+static struct drawing lay_out(const struct opened_show *opened, const struct panel *recorded, struct window window)
+{
+    double in = names_width(&opened->in, &opened->names.in);
+    double out = names_width(&opened->out, &opened->names.out);
+    double left = MARGIN + (in > out ? in : out), right = left + PLOT_WIDTH_MIN;
+    right = right < PAGE_WIDTH_MIN - MARGIN ? PAGE_WIDTH_MIN - MARGIN : right;
+    return (struct drawing){
+        .opened = opened,
+        .recorded = recorded,
+        .window = window,
+        .left = left,
+        .right = right,
+        .frame_width = (right - left) / (double)(window.last - window.first + 1),
+        .lane_height = opened->in.count + opened->out.count <= 64 ? 17 : 14,
+        .faults = recorded->refused > 0 || recorded->broken_off > 0,
+    };
+}
+
+static void draw(const char *path, const struct drawing *drawing, struct panel *const *panels, size_t count)
+{
+    struct fault_list list;
+    double panel = panel_height(drawing), list_top = HEADER_HEIGHT + panel * (double)count;
+    list_faults(&list, drawing->opened, drawing->recorded, drawing->right - MARGIN);
+    draw_header(path, drawing->window, drawing->right + MARGIN, list_top + list_height(&list));
+    for (size_t index = 0; index < count; index++) {
+        draw_panel(drawing, panels[index], HEADER_HEIGHT + panel * (double)index);
+    }
+    if (list.count > 0) {
+        draw_list(&list, list_top);
+    }
+    svg_end();
 }
 
 struct words {
@@ -558,25 +604,33 @@ static struct window choose_window(struct window asked, struct panel *const *pan
     return good ? (struct window){asked.first, asked.last < last ? asked.last : last} : (struct window){1, last};
 }
 
+/* Plays the recording once as it was recorded and once for each seed, and draws it. */
+static void play_and_draw(const struct opened_show *opened, const struct words *words)
+{
+    struct panel *panels[PANELS_MAX], *recorded = panel_play(opened, 0);
+    for (size_t index = 0; index < words->count; index++) {
+        panels[index] = panel_play(opened, words->seeds[index]);
+    }
+    struct drawing drawing = lay_out(opened, recorded, choose_window(words->window, panels, words->count));
+    draw(words->path, &drawing, panels, words->count);
+    for (size_t index = 0; index < words->count; index++) {
+        panel_release(panels[index]);
+    }
+    panel_release(recorded);
+}
+
 int main(int count, char **list)
 {
     struct words words;
-    struct show show;
-    struct panel *panels[PANELS_MAX];
+    static struct opened_show opened;
+    program_begin(help, count, list);
     if (!read_words(count, list, &words)) {
         stop_for_words();
     }
-    const char *fault = show_read(words.path, &show);
-    if (fault != NULL) {
-        stop("%s: %s", words.path, fault);
+    enum status status = open_show(words.path, &opened);
+    if (status == STATUS_DONE) {
+        play_and_draw(&opened, &words);
     }
-    for (size_t index = 0; index < words.count; index++) {
-        panels[index] = play(&show, words.seeds[index]);
-    }
-    draw(words.path, panels, words.count, choose_window(words.window, panels, words.count));
-    for (size_t index = 0; index < words.count; index++) {
-        release(panels[index]);
-    }
-    show_release(&show);
-    return fflush(stdout) == 0 && !ferror(stdout) ? 0 : 1;
+    close_show(&opened);
+    return program_end(status);
 }

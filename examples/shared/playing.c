@@ -1,0 +1,107 @@
+#include "playing.h"
+
+#include "arrivals.h"
+#include "faults.h"
+
+#include <stdlib.h>
+#include <string.h>
+
+/* Keeps what a slice brings in a frame. */
+static void keep(struct side *side, size_t frame, struct file slice)
+{
+    struct lane_events events;
+    if (lanes_follow(&side->lanes, slice, &events) != WOSTHILE_ACCEPTED) {
+        stop("a slice that was admitted or sent is not one of what the slices before it leave");
+    }
+    for (size_t index = 0; index < events.count && side->count < WOSTHILE_TYPE_NODES_MAX; index++) {
+        side->marks[side->count++] = (struct mark){frame, events.list[index]};
+    }
+}
+
+/* Feeds what came in a frame. */
+static void play_frame(struct panel *panel, struct patch *patch, size_t frame, const struct joined *waiting)
+{
+    uint8_t output[WOSTHILE_SLICE_FILE_MAX];
+    wosthile_fed fed = patch_feed(patch, joined_file(waiting), output);
+    if (fed.number != WOSTHILE_ACCEPTED) {
+        stop("frame %zu: slices that were admitted are refused with %u when they are fed", frame, fed.number);
+    }
+    panel->slices[frame] = (uint8_t)waiting->count;
+    keep(&panel->out, frame, (struct file){output, fed.output});
+}
+
+/* Keeps that a slice is refused; most shows have no such slice, so the room grows with their number. */
+static void keep_refusal(struct panel *panel, struct refusal refusal)
+{
+    if (panel->refused == panel->refusals_room) {
+        size_t room = panel->refusals_room * 2 + 8;
+        struct refusal *larger = memory(room, sizeof *larger);
+        if (panel->refused > 0) {
+            memcpy(larger, panel->refusals, panel->refused * sizeof *larger);
+        }
+        free(panel->refusals);
+        panel->refusals = larger;
+        panel->refusals_room = room;
+    }
+    panel->refusals[panel->refused++] = refusal;
+}
+
+/* Plays the slices as they arrive: those of one frame are joined, without the refused ones. */
+static void play_slices(struct panel *panel, const struct opened_show *opened, const size_t *arrivals)
+{
+    const struct show *show = &opened->show;
+    struct patch patch = opened->patch;
+    struct joined waiting = {.count = 0};
+    for (size_t index = 0; index < show->count; index++) {
+        struct file slice = show->slices[index];
+        uint32_t number = joined_add(&waiting, patch_input_type(&patch), slice);
+        if (number == WOSTHILE_ACCEPTED) {
+            keep(&panel->in, arrivals[index], slice);
+        } else {
+            struct refusal refusal = {.frame = arrivals[index], .recorded = index + 1, .number = number};
+            slice_fault_text(refusal.words, sizeof refusal.words, &panel->in.lanes, slice, &opened->names.in);
+            keep_refusal(panel, refusal);
+        }
+        bool last = index + 1 == show->count || arrivals[index + 1] != arrivals[index];
+        if (last && waiting.count > 0) {
+            play_frame(panel, &patch, arrivals[index], &waiting);
+            waiting.count = 0;
+        }
+    }
+}
+
+struct panel *panel_play(const struct opened_show *opened, uint64_t seed)
+{
+    const struct show *show = &opened->show;
+    size_t arriving = show->count + (show->unfinished.frame > 0);
+    struct panel *panel = memory(1, sizeof *panel);
+    size_t *arrivals = memory(arriving + 1, sizeof *arrivals);
+    show_arrivals(seed, arriving, arrivals);
+    panel->seed = seed;
+    panel->in.lanes = opened->in;
+    panel->out.lanes = opened->out;
+    panel->frames = arriving == 0 ? 0 : arrivals[arriving - 1];
+    panel->broken_off = arriving > show->count ? panel->frames : 0;
+    panel->slices = memory(panel->frames + 1, 1);
+    play_slices(panel, opened, arrivals);
+    free(arrivals);
+    return panel;
+}
+
+void panel_release(struct panel *panel)
+{
+    free(panel->slices);
+    free(panel->refusals);
+    free(panel);
+}
+
+const struct mark *mark_of_event(const struct side *side, const struct lane_event *event)
+{
+    for (size_t index = 0; index < side->count; index++) {
+        const struct lane_event *other = &side->marks[index].event;
+        if (other->kind == event->kind && other->lane == event->lane && other->to.first == event->to.first) {
+            return &side->marks[index];
+        }
+    }
+    return NULL;
+}
