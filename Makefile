@@ -6,6 +6,7 @@
 # make play      a show at 60 frames a second: make play SHOW=examples/shows/lamp_fade.show SEED=3
 # make rehearse  the same recording, cut anew again and again: make rehearse SHOW=.. CUTS=1000 SEED=1
 # make picture   a show as an SVG time line in target/, a panel for each cut: make picture SHOW=.. SEEDS='0 19'
+# make diagram   the patch of a show as an SVG diagram in target/: make diagram SHOW=..
 # make shows     writes the shipped shows anew
 # make example   builds examples/calls.c, a few calls of the library, and runs it
 # make fuzz      random calls and runs of feeds, compared with the second interpreter: make fuzz SECONDS=600 SEED=7
@@ -31,11 +32,12 @@ ARCHIVE = target/staticlib/libwosthile.a
 RUNNER = target/bin/runner
 CFLAGS = -std=c11 -O2 -Wall -Wextra -pedantic
 PICTURE = target/$(basename $(notdir $(SHOW))).svg
-EXAMPLES = target/calls target/frame_loop target/rehearsal target/timeline target/make_shows target/explain
+DIAGRAM = target/$(basename $(notdir $(SHOW)))_patch.svg
+EXAMPLES = $(patsubst examples/%.c,target/%,$(wildcard examples/*.c))
 CARGO = CARGO_TARGET_DIR=target/cargo cargo
 LOCKED = --quiet --release --offline --locked
 
-.PHONY: demo test prove lib programs play rehearse picture shows example fuzz streams measure bench install clean
+.PHONY: demo test prove lib programs play rehearse picture diagram shows example fuzz streams measure bench install clean
 demo: programs
 	examples/demo.sh $(SHOW)
 
@@ -58,6 +60,10 @@ rehearse: target/rehearsal
 picture: target/timeline
 	target/timeline $(SHOW) $(SEEDS) >$(PICTURE).new
 	mv $(PICTURE).new $(PICTURE)
+
+diagram: target/diagram
+	target/diagram $(SHOW) >$(DIAGRAM).new
+	mv $(DIAGRAM).new $(DIAGRAM)
 
 shows: target/make_shows
 	target/make_shows examples/shows
