@@ -1,0 +1,353 @@
+#!/usr/bin/env python3
+"""Draws shows and looks at the pictures: tests/c/pictures.py FOLDER, where timeline and diagram are in the folder.
+
+Every picture is read as XML. What it should show is taken from the show file, from the score of the shipped shows, or
+from a show made here for the purpose.
+"""
+import collections
+import itertools
+import pathlib
+import re
+import subprocess
+import sys
+import xml.etree.ElementTree as xml
+
+FOLDER = pathlib.Path(sys.argv[1])
+SHOWS = sorted(pathlib.Path("examples/shows").glob("*.show"))
+SVG = "{http://www.w3.org/2000/svg}"
+SIZES = {"page-title": 19, "title": 14, "plain": 11.5, "heading": 11.5, "small": 11, "value": 11, "count": 10,
+         "fault": 10, "late": 9, "part": 8.5}
+
+EMPTY, CUE, LEVEL, SEQUENCE, BESIDE = range(5)
+NODES = ["pass", "silent", "cue", "level", "both", "left", "right", "first", "second", "then", "chain", "regroup right",
+         "regroup left", "spread", "front"]
+BOTH, THEN, CHAIN = 4, 9, 10
+
+
+def run(program, *words, status=0, stdout=subprocess.PIPE):
+    """What a program writes to standard output and to the error stream."""
+    done = subprocess.run([FOLDER / program, *map(str, words)], stdout=stdout, stderr=subprocess.PIPE, timeout=300)
+    told = done.stderr.decode()
+    assert done.returncode == status, f"{program} {words}: status {done.returncode}, not {status}: {told}"
+    return done.stdout, told
+
+
+def draw(program, *words):
+    return xml.fromstring(run(program, *words)[0])
+
+
+def texts(picture, look=None):
+    return [text for text in picture.iter(SVG + "text") if look is None or text.get("class") == look]
+
+
+def words_of(picture, look=None):
+    return [text.text or "" for text in texts(picture, look)]
+
+
+def groups(picture, kind):
+    return [group for group in picture.iter(SVG + "g") if group.get("class") == kind]
+
+
+def titles(picture, kind):
+    return [group.find(SVG + "title").text for group in groups(picture, kind)]
+
+
+def panels(picture):
+    return words_of(picture, "title")
+
+
+def box(text):
+    """The room that a text takes at least: half its size for each character."""
+    size, x, y = SIZES[text.get("class")], float(text.get("x")), float(text.get("y"))
+    width = 0.5 * size * len(text.text)
+    left = {"start": x, "middle": x - width / 2, "end": x - width}[text.get("text-anchor")]
+    return left, left + width, y - 0.7 * size, y
+
+
+def no_overlap(picture):
+    boxes = [(box(text), text.text) for text in texts(picture) if text.text]
+    for (one, words), (other, others) in itertools.combinations(boxes, 2):
+        apart = one[1] <= other[0] or other[1] <= one[0] or one[3] <= other[2] or other[3] <= one[2]
+        assert apart, f"'{words}' and '{others}' lie on top of one another"
+    width, height = float(picture.get("width")), float(picture.get("height"))
+    for (left, right, top, bottom), words in boxes:
+        assert left >= 0 and right <= width and top >= 0 and bottom <= height, f"'{words}' is not on the page"
+
+
+def section(contents):
+    return bytes([len(contents) // 256, len(contents) % 256]) + bytes(contents)
+
+
+def write_show(name, types, nodes, slices=(), lanes="", end=b""):
+    path = FOLDER / f"{name}.show"
+    path.write_bytes(section(section(types) + section(nodes)) + b"".join(section(section(s)) for s in slices) + end)
+    path.with_suffix(".lanes").write_text(lanes, encoding="utf-8")
+    return path
+
+
+def patch_of(show):
+    stream = show.read_bytes()
+    patch = stream[2:2 + stream[0] * 256 + stream[1]]
+    type_end = 2 + patch[0] * 256 + patch[1]
+    return patch, list(patch[2:type_end]), list(patch[type_end + 2:])
+
+
+def names_of(show, side):
+    lines = show.with_suffix(".lanes").read_text(encoding="utf-8").splitlines()
+    return [line.split(" ", 2)[2] for line in lines if line.startswith(side)]
+
+
+def node_names(nodes):
+    """The names of nodes in preorder, without silent, which carries a type."""
+    names, place = [], 0
+    while place < len(nodes):
+        value = nodes[place] == NODES.index("level")
+        names.append(NODES[nodes[place]] + (f" {nodes[place + 1] * 256 + nodes[place + 2]}" if value else ""))
+        place += 3 if value else 1
+    return names
+
+
+# The time line.
+
+def every_show_is_drawn():
+    for show in SHOWS:
+        picture = draw("timeline", show, 0, 7, 19)
+        assert [words.split(":")[0] for words in panels(picture)] == ["As recorded", "Cut by seed 7", "Cut by seed 19"]
+        no_overlap(picture)
+        small, plain = words_of(picture, "small"), words_of(picture, "plain")
+        assert small.count("frame") == 3 and small.count("seconds") == 3
+        for name in names_of(show, "in") + names_of(show, "out"):
+            assert plain.count(name) >= 3, f"{show}: '{name}' is cut or not there"
+        no_overlap(draw("timeline", show, 19, "--frames", 20, 40))
+
+
+def seconds_are_beside_frames():
+    """Below the number of a frame is its time: 60 frames are a second."""
+    picture = draw("timeline", "examples/shows/comet_to_saturn.show")
+    small = [text for text in texts(picture, "small") if re.fullmatch(r"[\d.]+", text.text)]
+    pairs = [(one.text, other.text) for one, other in itertools.permutations(small, 2)
+             if one.get("x") == other.get("x") and float(one.get("y")) < float(other.get("y"))]
+    assert len(pairs) >= 8 and all(abs(int(frame) / 60 - float(second)) < 0.006 for frame, second in pairs), pairs
+
+
+def damage_is_marked():
+    """The score of damaged.show has five bad slices, in frames 10 to 26, and breaks off in frame 48."""
+    show, numbers = "examples/shows/damaged.show", [14, 11, 14, 12, 13]
+    picture = draw("timeline", show, 0, 2)
+    marked = re.compile(r"frame (\d+): refused with (\d+): byte \d+")
+    marks = [marked.match(words).groups() for words in titles(picture, "refused")]
+    assert [int(number) for _, number in marks] == numbers * 2, marks
+    assert [int(frame) for frame, _ in marks[:5]] == [10, 14, 18, 22, 26]
+    drawn = [words for group in groups(picture, "refused") for words in words_of(group)]
+    assert drawn == [str(number) for number in numbers] * 2
+    assert words_of(picture, "fault").count("the file ends inside this slice") == 2
+    assert len(groups(picture, "broken-off")) == 2
+    listed = "\n".join(words_of(picture, "small"))
+    assert len(re.findall(r"^frame \d+: refused with", listed, re.M)) == 5
+    assert "the file ends inside the slice of frame 48" in listed
+    assert "frame 48" in run("timeline", show)[1]
+    part = draw("timeline", show, "--frames", 12, 20)
+    assert len(groups(part, "refused")) == 2 and not groups(part, "broken-off")
+    whole = draw("timeline", "examples/shows/lamp_fade.show", 0, 2)
+    assert not groups(whole, "refused") and not groups(whole, "broken-off")
+
+
+def broken_length_is_marked():
+    show = write_show("broken", [CUE], [0], [[1]], end=b"\0")
+    assert len(groups(draw("timeline", show), "broken-off")) == 1
+
+
+def many_refusals_are_marked():
+    show = write_show("refusals", [CUE], [0], [[9]] * 400)
+    picture = draw("timeline", show, 0, 3)
+    assert len(groups(picture, "refused")) == 800
+    assert "and 388 more slices are refused" in words_of(picture, "small")
+    no_overlap(picture)
+
+
+def low_levels_are_seen():
+    """Of four levels 0, 1 and 500 come: three pale bars a side, and in those of 1 and 500 a bar that can be seen."""
+    types = [BESIDE, LEVEL, BESIDE, LEVEL, BESIDE, LEVEL, LEVEL]
+    nothing = [7, 0, 7, 0, 7, 0, 3]
+    show = write_show("low", types, [0], [[7, 4, 0, 0, 7, 4, 0, 1, 7, 4, 1, 244, 3]] + [nothing] * 20)
+    bars = collections.defaultdict(list)
+    for bar in draw("timeline", show).iter(SVG + "rect"):
+        if float(bar.get("width")) > 100:
+            bars[bar.get("fill-opacity"), bar.get("fill")].append(float(bar.get("height")))
+    pale, seen = bars["0.22", "#f0b03f"], bars["0.85", "#f0b03f"]
+    assert len(pale) == 6 and len(seen) == 4 and min(seen) >= 2 and max(seen) < pale[0] / 2, bars
+
+
+def lateness_is_told():
+    """Seed 19 brings the comet's last cue, of frame 120, with the crossing and the rings in frame 122."""
+    late = words_of(draw("timeline", "examples/shows/comet_to_saturn.show", 19, "--frames", 115, 125), "late")
+    legend = ["+2"]
+    assert sorted(late) == sorted(legend + ["+1", "+2"] * 2), late
+    assert words_of(draw("timeline", "examples/shows/comet_to_saturn.show", 0), "late") == legend
+
+
+def long_names_are_whole():
+    long, strange = "a name as long as a line of a file of names can have it, sixty", 'Käthe\'s <&> "lamp" 土星'
+    show = write_show("names", [BESIDE, CUE, LEVEL], [0], [[7, 2, 3]], f"in 1 {long}\nin 2 {strange}\n")
+    renamed = FOLDER / f"{'a long name of a show ' * 9}.show"
+    renamed.write_bytes(show.read_bytes())
+    for program in "timeline", "diagram":
+        no_overlap(draw(program, renamed))
+        picture = draw(program, show)
+        assert long in words_of(picture, "plain") and strange in words_of(picture, "plain")
+        no_overlap(picture)
+
+
+# The diagram.
+
+def points(path):
+    numbers = [float(number) for number in re.findall(r"-?[\d.]+", path)]
+    return tuple(numbers[:2]), tuple(numbers[-2:])
+
+
+def lanes_reached(picture):
+    """For each lane that is sent on, from above, the lanes of the input from which lines lead there."""
+    leads = collections.defaultdict(set)
+    for path in picture.iter(SVG + "path"):
+        if re.fullmatch(r"M[\d. ]+C[\d. ]+", path.get("d")):
+            begins, ends = points(path.get("d"))
+            leads[ends].add(begins)
+    every = set(leads) | set().union(*leads.values())
+    first, last = min(x for x, _ in every), max(x for x, _ in every)
+    inputs = sorted(point for point in every if point[0] == first)
+
+    def sources(point):
+        return {point} if point[0] == first else set().union(*map(sources, leads[point]))
+
+    return len(inputs), [sorted(map(inputs.index, sources(point))) for point in sorted(every) if point[0] == last]
+
+
+def nodes_are_boxes():
+    for show in SHOWS:
+        picture, (_, _, nodes) = draw("diagram", show), patch_of(show)
+        assert [title.split(", byte")[0] for title in titles(picture, "node")] == node_names(nodes)
+        plain = words_of(picture, "plain")
+        assert [name for name in plain if name in names_of(show, "in")] and set(names_of(show, "out")) <= set(plain)
+        no_overlap(picture)
+
+
+def lanes_lead_to_their_names():
+    """A lane that is sent on has the name of the lane that it comes from, with more behind it in one show."""
+    for show in SHOWS:
+        ins, outs = names_of(show, "in"), names_of(show, "out")
+        count, reached = lanes_reached(draw("diagram", show))
+        assert count == len(ins)
+        own = [name for name in outs if name.startswith("opening")]
+        expected = [[place for place, name in enumerate(ins) if f"{out} (".startswith(f"{name} (")] for out in outs]
+        assert reached == expected and expected.count([]) == len(own), f"{show}: {reached}"
+
+
+def patch_file_is_drawn():
+    show = SHOWS[0]
+    path = FOLDER / "alone.patch"
+    path.write_bytes(patch_of(show)[0])
+    alone = draw("diagram", "--patch", path)
+    assert titles(alone, "node") == titles(draw("diagram", show), "node") and "in 1" in words_of(alone, "plain")
+
+
+def every_kind_is_drawn():
+    """A node of each kind, on a type that it takes."""
+    sequence, beside = [SEQUENCE, CUE, LEVEL], [BESIDE, CUE, LEVEL]
+    trees = {(0,): beside, (1, 4, 0, 0): beside, (2,): beside, (3, 1, 2): beside, (4, 0, 2): beside, (5,): beside,
+             (6,): beside, (7,): sequence, (8,): sequence, (9, 0, 2): sequence, (10, 14, 8): beside,
+             (11,): [SEQUENCE] + sequence + [CUE], (12,): [SEQUENCE, LEVEL] + sequence,
+             (13,): [SEQUENCE, LEVEL] + beside, (14,): beside}
+    expected = {(0,): [[0], [1]], (1, 4, 0, 0): [[], []], (2,): [[]], (3, 1, 2): [[]], (4, 0, 2): [[0], [1], []],
+                (5,): [[0]], (6,): [[1]], (7,): [[0]], (8,): [[1]], (9, 0, 2): [[0], []], (10, 14, 8): [[0], [1]],
+                (11,): [[0], [1], [2]], (12,): [[0], [1], [2]], (13,): [[0], [1], [0], [2]], (14,): [[], [0], [1]]}
+    for nodes, types in trees.items():
+        picture = draw("diagram", write_show("kind", types, nodes))
+        assert titles(picture, "node")[0].startswith(NODES[nodes[0]])
+        assert lanes_reached(picture)[1] == expected[nodes], f"{nodes}: {lanes_reached(picture)}"
+
+
+def balanced(lanes, kinds):
+    return [next(kinds)] if lanes == 1 else [BESIDE] + balanced(lanes - lanes // 2, kinds) + balanced(lanes // 2, kinds)
+
+
+def nested(kind, count):
+    return [0] if count == 1 else [kind, 0] + nested(kind, count - 1)
+
+
+def largest_patches_are_drawn():
+    """128 lanes and 63 nodes: lanes are counted, and the picture stays small enough to open."""
+    side_by_side = balanced(128, itertools.cycle([CUE, LEVEL]))
+    in_turn = [SEQUENCE, LEVEL] * 127 + [LEVEL]
+    for types, nodes in [(side_by_side, nested(CHAIN, 32)), (in_turn, nested(THEN, 32)),
+                         ([CUE], nested(BOTH, 32)), (side_by_side, [BOTH, 2] * 31 + [2])]:
+        show = write_show("largest", types, nodes)
+        drawn, _ = run("diagram", show)
+        picture = xml.fromstring(drawn)
+        assert len(groups(picture, "node")) == 63 and len(drawn) < 2_000_000
+        assert len(types) == 1 or "128 lanes" in words_of(picture, "plain")
+        no_overlap(picture)
+        no_overlap(draw("timeline", show))
+
+
+# What both do alike.
+
+def documents_have_what_is_drawn():
+    show = "examples/shows/comet_to_saturn.show"
+    for name, words in [("comet_to_saturn", ["timeline", show, 0, 19]), ("comet_to_saturn_patch", ["diagram", show])]:
+        drawn = run(*words)[0]
+        assert pathlib.Path(f"docs/{name}.svg").read_bytes() == drawn, f"docs/{name}.svg is not what {words[0]} draws"
+
+
+def refused_patch_has_status_1():
+    show = write_show("refused", [CUE], [5])
+    (FOLDER / "refused.patch").write_bytes(patch_of(show)[0])
+    for words in ["timeline", show], ["diagram", show], ["diagram", "--patch", FOLDER / "refused.patch"]:
+        drawn, told = run(*words, status=1)
+        assert drawn == b"" and "refused with 7" in told, told
+
+
+def damaged_files_are_survived():
+    """With a byte changed, or cut at any place, a show is drawn, refused or not read, and never crashes a program."""
+    path = FOLDER / "hurt.show"
+    for show, program in itertools.product(SHOWS, ["timeline", "diagram"]):
+        whole = show.read_bytes()
+        for place in [*range(0, 40, 3), *range(40, len(whole), len(whole) // 12)]:
+            for hurt in whole[:place], whole[:place] + b"\xff" + whole[place + 1:]:
+                path.write_bytes(hurt)
+                done = subprocess.run([FOLDER / program, path], capture_output=True, timeout=300)
+                assert done.returncode in (0, 1, 2), f"{program}, {show} at {place}: {done}"
+                assert (done.returncode == 0) == (done.stdout != b""), f"{program}, {show} at {place}"
+                if done.returncode == 0:
+                    xml.fromstring(done.stdout)
+                else:
+                    assert b": " in done.stderr, f"{program}, {show} at {place}: nothing is told"
+
+
+def unusable_has_status_2():
+    show = SHOWS[0]
+    for words in [["timeline"], ["diagram"], ["timeline", show, "x"], ["diagram", show, "x"], ["diagram", "--patch"],
+                  ["timeline", show, "--frames", 5, 4], ["timeline", "nothing.show"], ["diagram", "nothing.show"],
+                  ["diagram", "--patch", "nothing"], ["timeline", show, *range(17)]]:
+        drawn, told = run(*words, status=2)
+        assert drawn == b"" and told, words
+    for program in "timeline", "diagram":
+        with open("/dev/full", "wb") as full:
+            assert "cannot be written" in run(program, show, status=2, stdout=full)[1]
+
+
+def main():
+    failed = 0
+    for test in [every_show_is_drawn, seconds_are_beside_frames, damage_is_marked, broken_length_is_marked,
+                 many_refusals_are_marked, low_levels_are_seen, lateness_is_told, long_names_are_whole, nodes_are_boxes,
+                 lanes_lead_to_their_names, patch_file_is_drawn, every_kind_is_drawn, largest_patches_are_drawn,
+                 documents_have_what_is_drawn, refused_patch_has_status_1, damaged_files_are_survived,
+                 unusable_has_status_2]:
+        try:
+            test()
+        except Exception as fault:  # a picture that is no XML, a program that does not end, a thing that does not hold
+            failed += 1
+            print(f"{test.__name__}: FAILED: {type(fault).__name__}: {fault}")
+    return failed > 0
+
+
+sys.exit(main())
