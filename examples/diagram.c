@@ -62,7 +62,9 @@ struct ports {
     const struct stream *stream;
 };
 
-/* Lanes next to one another that run from one stream to another. */
+/* Lanes next to one another that run from one stream to another. No node has more than spread, with three. */
+enum { RUNS_MAX = 3 };
+
 struct run {
     unsigned from, to, count;
 };
@@ -92,10 +94,12 @@ static unsigned lanes_at(struct file section, size_t place)
 static double larger(double one, double other) { return one > other ? one : other; }
 
 /* What is written in the box of a node. */
-static void node_words(char words[64], const struct patch_node *node)
+enum { NODE_WORDS_BYTES = 64 };
+
+static void node_words(char words[NODE_WORDS_BYTES], const struct patch_node *node)
 {
     bool value = node_kind(node->kind)->value_bytes > 0;
-    snprintf(words, 64, value ? "%s %u" : "%s", node_kind(node->kind)->name, node->value);
+    snprintf(words, NODE_WORDS_BYTES, value ? "%s %u" : "%s", node_kind(node->kind)->name, node->value);
 }
 
 /* A type in a few words: what it is if that is short, else how many lanes it has. */
@@ -108,8 +112,7 @@ static void stream_words(char words[TYPE_TEXT_BYTES], const struct type *type)
     }
 }
 
-/* Is the second part of a node fed what the first part gives? Then they are drawn in a row, else one below the other.
- */
+/* Are the parts of a node drawn in a row, since the second is fed what the first gives? */
 static bool in_a_row(const struct patch_node *node) { return node_kind(node->kind)->input[1] == INPUT_FROM_EARLIER; }
 
 /* The room between two nodes of a chain, for the words on the stream that runs there. */
@@ -136,7 +139,7 @@ static void measure(struct diagram *diagram, size_t index)
     block->in = stream_of(&node->input);
     block->out = stream_of(&node->output);
     double lanes = block->in.count > block->out.count ? block->in.count : block->out.count;
-    char words[64];
+    char words[NODE_WORDS_BYTES];
     node_words(words, node);
     if (node_kind(node->kind)->parts == 0) {
         block->width = larger(BOX_WIDTH_MIN, svg_text_width(TEXT_HEADING, words) * 1.1 + 16);
@@ -210,7 +213,7 @@ static void draw_run(const struct diagram *diagram, const struct ports *from, co
  * counts are those of the library's types: left and first keep the lanes at the front, right and second those at the
  * back.
  */
-static size_t runs_of(const struct patch_node *node, const struct block *block, struct run runs[4])
+static size_t runs_of(const struct patch_node *node, const struct block *block, struct run runs[RUNS_MAX])
 {
     struct file type = section_of(type_file(&node->input));
     unsigned in = block->in.count, out = block->out.count;
@@ -268,30 +271,35 @@ static void draw_begin(const struct ports *out, unsigned lane)
     }
 }
 
-/* Does one of the runs have this lane, of the input or of the output? */
-static bool runs_on(const struct run *runs, size_t count, bool output, unsigned lane)
+/* Which lanes of the input and of the output have a run. */
+struct lanes_run {
+    bool in[LANES_MAX], out[LANES_MAX];
+};
+
+static struct lanes_run lanes_run(const struct run *runs, size_t count)
 {
+    struct lanes_run lanes = {{false}, {false}};
     for (size_t index = 0; index < count; index++) {
-        unsigned first = output ? runs[index].to : runs[index].from;
-        if (lane >= first && lane - first < runs[index].count) {
-            return true;
-        }
+        memset(lanes.in + runs[index].from, true, runs[index].count);
+        memset(lanes.out + runs[index].to, true, runs[index].count);
     }
-    return false;
+    return lanes;
 }
 
-/* The lanes of a box that none of its runs has: on its input they end, on its output they begin. */
-static void draw_others(const struct diagram *diagram, const struct ports *ports, bool output, const struct run *runs,
-                        size_t count)
+static void draw_ends(const struct diagram *diagram, const struct ports *in, const bool *has_run)
 {
-    for (unsigned lane = 0; lane < ports->stream->count; lane++) {
-        if (runs_on(runs, count, output, lane)) {
-            continue;
+    for (unsigned lane = 0; lane < in->stream->count; lane++) {
+        if (!has_run[lane]) {
+            draw_end(diagram, in, lane);
         }
-        if (output) {
-            draw_begin(ports, lane);
-        } else {
-            draw_end(diagram, ports, lane);
+    }
+}
+
+static void draw_begins(const struct ports *out, const bool *has_run)
+{
+    for (unsigned lane = 0; lane < out->stream->count; lane++) {
+        if (!has_run[lane]) {
+            draw_begin(out, lane);
         }
     }
 }
@@ -311,7 +319,8 @@ static struct ports ports_out(const struct diagram *diagram, size_t node, double
 /* Begins the group of a node: its types are shown at a pointer that rests on it. */
 static void begin_node(const struct patch_node *node)
 {
-    char words[64], takes[TYPE_TEXT_BYTES], gives[TYPE_TEXT_BYTES], all[64 + 2 * TYPE_TEXT_BYTES + 64];
+    char words[NODE_WORDS_BYTES], takes[TYPE_TEXT_BYTES], gives[TYPE_TEXT_BYTES];
+    char all[NODE_WORDS_BYTES + 2 * TYPE_TEXT_BYTES + 64];
     node_words(words, node);
     type_text(takes, section_of(type_file(&node->input)));
     type_text(gives, section_of(type_file(&node->output)));
@@ -324,17 +333,18 @@ static void draw_box(const struct diagram *diagram, size_t index, double x, doub
     const struct patch_node *node = &diagram->tree->nodes[index];
     const struct block *block = &diagram->blocks[index];
     struct ports in = ports_in(diagram, index, x, y), out = ports_out(diagram, index, x, y);
-    struct run runs[4];
+    struct run runs[RUNS_MAX];
     size_t count = runs_of(node, block, runs);
-    char words[64];
+    struct lanes_run lanes = lanes_run(runs, count);
+    char words[NODE_WORDS_BYTES];
     node_words(words, node);
     svg_box(x, y, block->width, block->height, "#f7f9fb", GREY_COLOUR);
     svg_text(x + block->width / 2, y + 14, TEXT_CENTRED, TEXT_HEADING, "%s", words);
     for (size_t run = 0; run < count; run++) {
         draw_run(diagram, &in, &out, runs[run]);
     }
-    draw_others(diagram, &in, false, runs, count);
-    draw_others(diagram, &out, true, runs, count);
+    draw_ends(diagram, &in, lanes.in);
+    draw_begins(&out, lanes.out);
 }
 
 static void draw_node(const struct diagram *diagram, size_t index, double x, double y);

@@ -22,6 +22,7 @@ enum { HEADER_HEIGHT = 112, TITLE_HEIGHT = 24, STRIP_HEIGHT = 30, FAULTS_HEIGHT 
 enum { AXIS_HEIGHT = 58, LIST_LINE_HEIGHT = 16, LATE_ROOM = 24 };
 
 enum { PANELS_MAX = 16, LISTED_MAX = 12, LISTED_LINES_MAX = 48, FRAMES_A_SECOND = 60 };
+enum { WORDS_BYTES = MESSAGE_BYTES + 64 };
 
 #define LANE_COLOUR "#e9eff6"
 #define JOINED_COLOUR "#ffd23f"
@@ -275,9 +276,10 @@ static void draw_strip(const struct drawing *drawing, const struct panel *panel,
     svg_bars_end();
 }
 
-static void refusal_words(char words[MESSAGE_BYTES + 64], const struct refusal *refusal, size_t frame)
+static void refusal_words(char words[WORDS_BYTES], const struct refusal *refusal, size_t frame)
 {
-    snprintf(words, MESSAGE_BYTES + 64, "frame %zu: refused with %u: %s", frame, refusal->number, refusal->words);
+    snprintf(words, WORDS_BYTES, "frame %zu: refused with %u: %s", frame, refusal->number,
+             refusal->words != NULL ? refusal->words : wosthile_sentence(refusal->number));
 }
 
 /* A cross for each refused slice with its number below it, unless the number of the one before is in the way. */
@@ -290,7 +292,7 @@ static void draw_refusals(const struct drawing *drawing, const struct panel *pan
         if (!visible(drawing, refusal->frame)) {
             continue;
         }
-        char words[MESSAGE_BYTES + 64];
+        char words[WORDS_BYTES];
         double x = middle_of(drawing, refusal->frame);
         refusal_words(words, refusal, refusal->frame);
         svg_group_begin("refused", words);
@@ -494,7 +496,7 @@ static void list_message(struct fault_list *list, double room, const char *words
 static void list_faults(struct fault_list *list, const struct opened_show *opened, const struct panel *recorded,
                         double room)
 {
-    char words[MESSAGE_BYTES + 64];
+    char words[WORDS_BYTES];
     list->count = 0;
     for (size_t index = 0; index < recorded->refused && index < LISTED_MAX; index++) {
         refusal_words(words, &recorded->refusals[index], recorded->refusals[index].recorded);

@@ -30,18 +30,29 @@ static void play_frame(struct panel *panel, struct patch *patch, size_t frame, c
     keep(&panel->out, frame, (struct file){output, fed.output});
 }
 
-/* Keeps that a slice is refused; most shows have no such slice, so the room grows with their number. */
-static void keep_refusal(struct panel *panel, struct refusal refusal)
+/* Makes room for one more refusal; most shows have none, so the room grows with their number. */
+static void grow_refusals(struct panel *panel)
 {
-    if (panel->refused == panel->refusals_room) {
-        size_t room = panel->refusals_room * 2 + 8;
-        struct refusal *larger = memory(room, sizeof *larger);
-        if (panel->refused > 0) {
-            memcpy(larger, panel->refusals, panel->refused * sizeof *larger);
-        }
-        free(panel->refusals);
-        panel->refusals = larger;
-        panel->refusals_room = room;
+    if (panel->refused < panel->refusals_room) {
+        return;
+    }
+    size_t room = panel->refusals_room * 2 + 8;
+    struct refusal *larger = memory(room, sizeof *larger);
+    if (panel->refused > 0) {
+        memcpy(larger, panel->refusals, panel->refused * sizeof *larger);
+    }
+    free(panel->refusals);
+    panel->refusals = larger;
+    panel->refusals_room = room;
+}
+
+/* Keeps that a slice is refused. */
+static void keep_refusal(struct panel *panel, struct refusal refusal, struct file slice, const struct side_names *names)
+{
+    grow_refusals(panel);
+    if (panel->refused < REFUSALS_WITH_WORDS) {
+        refusal.words = memory(MESSAGE_BYTES, 1);
+        slice_fault_text(refusal.words, MESSAGE_BYTES, &panel->in.lanes, slice, names);
     }
     panel->refusals[panel->refused++] = refusal;
 }
@@ -59,8 +70,7 @@ static void play_slices(struct panel *panel, const struct opened_show *opened, c
             keep(&panel->in, arrivals[index], slice);
         } else {
             struct refusal refusal = {.frame = arrivals[index], .recorded = index + 1, .number = number};
-            slice_fault_text(refusal.words, sizeof refusal.words, &panel->in.lanes, slice, &opened->names.in);
-            keep_refusal(panel, refusal);
+            keep_refusal(panel, refusal, slice, &opened->names.in);
         }
         bool last = index + 1 == show->count || arrivals[index + 1] != arrivals[index];
         if (last && waiting.count > 0) {
@@ -90,6 +100,9 @@ struct panel *panel_play(const struct opened_show *opened, uint64_t seed)
 
 void panel_release(struct panel *panel)
 {
+    for (size_t index = 0; index < panel->refused; index++) {
+        free(panel->refusals[index].words);
+    }
     free(panel->slices);
     free(panel->refusals);
     free(panel);

@@ -20,12 +20,15 @@ struct side {
     size_t count;
 };
 
-/* A slice that was refused, and left out. */
+/* A slice that was refused, and left out. To find the place of a fault takes long, so only the first ones have words.
+ */
+enum { REFUSALS_WITH_WORDS = 100 };
+
 struct refusal {
     size_t frame;    /* in which it came */
     size_t recorded; /* in which it was recorded */
     uint32_t number;
-    char words[MESSAGE_BYTES]; /* what is wrong with it, and where */
+    char *words; /* what is wrong with it, and where; NULL of later ones */
 };
 
 /* The show played with one seed. */
