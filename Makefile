@@ -35,7 +35,8 @@ PICTURE = target/$(basename $(notdir $(SHOW))).svg
 DIAGRAM = target/$(basename $(notdir $(SHOW)))_patch.svg
 EXAMPLES = $(patsubst examples/%.c,target/%,$(wildcard examples/*.c))
 CARGO = CARGO_TARGET_DIR=target/cargo cargo
-LOCKED = --quiet --release --offline --locked
+LOCKED = --quiet --offline --locked
+CHECKED = $(LOCKED) --profile checked
 
 .PHONY: demo test prove lib programs play rehearse picture diagram shows example fuzz streams measure bench install clean
 demo: programs
@@ -92,16 +93,16 @@ $(EXAMPLES): target/%: examples/%.c $(SHARED) $(wildcard examples/shared/*.h) in
 	$(CC) $(CFLAGS) -Iinclude -Iexamples/shared -pthread $(filter %.c,$^) $(ARCHIVE) -o $@
 
 fuzz: $(ARCHIVE)
-	$(CARGO) run $(LOCKED) --manifest-path tests/comparison/Cargo.toml -- --seconds $(SECONDS) --seed $(SEED)
+	$(CARGO) run $(CHECKED) --package comparison -- --seconds $(SECONDS) --seed $(SEED)
 
 streams: $(ARCHIVE) $(RUNNER)
-	$(CARGO) run $(LOCKED) --manifest-path tests/program/Cargo.toml -- --program $(RUNNER) --streams $(STREAMS) --seed $(SEED)
+	$(CARGO) run $(CHECKED) --package program -- --program $(RUNNER) --streams $(STREAMS) --seed $(SEED)
 
 measure: $(ARCHIVE) $(RUNNER)
-	$(CARGO) run $(LOCKED) --manifest-path tests/program/Cargo.toml -- --measure $(RUNNER)
+	$(CARGO) run $(CHECKED) --package program -- --measure $(RUNNER)
 
 bench: $(ARCHIVE)
-	$(CARGO) build $(LOCKED) --manifest-path bench/Cargo.toml
+	$(CARGO) build $(LOCKED) --release --package bench
 	bench/instructions.sh target/cargo/release/bench >target/instructions
 	target/cargo/release/bench --runs $(RUNS) --instructions target/instructions
 

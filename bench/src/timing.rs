@@ -28,6 +28,7 @@ enum Work {
 
 /// Makes the call so many times. Not inlined, and not renamed, so that instructions can be counted
 /// in it alone.
+#[allow(unsafe_code, reason = "the name is used once in the program")]
 #[no_mangle]
 #[inline(never)]
 pub fn wosthile_bench_repeat(row: &Row, side: Side, lent: &mut Lent, times: u64) {

@@ -1,6 +1,6 @@
 //! Every way in which a file can be damaged.
 
-#![allow(clippy::ptr_arg)] // the damages share one signature
+#![allow(clippy::ptr_arg, reason = "the damages share one signature")]
 
 use crate::files::{count, section, set_count};
 use crate::random::Random;

@@ -1,5 +1,7 @@
 //! The C boundary of the library, as `include/wosthile.h` declares it.
 
+#![allow(unsafe_code, reason = "a call of C is unsafe")]
+
 /// The answer of an operation that writes a file.
 #[repr(C)]
 #[derive(Clone, Copy, Debug, PartialEq, Eq)]

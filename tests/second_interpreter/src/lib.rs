@@ -7,6 +7,7 @@
 //! root; the tree functions are public for those who generate tests.
 
 #![forbid(unsafe_code)]
+#![warn(missing_docs)]
 
 mod feeding;
 mod files;
