@@ -1,10 +1,18 @@
 //! The rows of Feed: a patch, and a slice of its input type of which this share has come.
 
-use comparison::files::{contents, section};
-use comparison::types::{BESIDE, CUE, LEVEL, SEQUENCE};
+use comparison::formats::files::{contents, patch, section};
+use comparison::formats::kinds::node_kind::{
+    self, BOTH, CHAIN, FIRST, FRONT, LEFT, PASS, REGROUP_LEFT, REGROUP_RIGHT, RIGHT, SECOND,
+    SPREAD, THEN,
+};
+use comparison::formats::kinds::slice_kind;
+use comparison::formats::kinds::type_kind::{BESIDE, CUE, LEVEL, SEQUENCE};
 use comparison::Operation;
 
-use crate::nodes::*;
+use crate::nodes::{
+    chains, cue_then_lanes, lanes, largest, nodes_of, seeking, silent_largest, tree_of, MOST_NODES,
+    PATCH_SIZES,
+};
 use crate::patches::pass_on_growing_types;
 use crate::rows::{claiming, lengthened, Group, Row, LARGEST};
 use crate::streams::{slice_tree, type_tree, Shape, Share};
@@ -38,7 +46,7 @@ pub fn legal() -> Vec<Row> {
 }
 
 fn small() -> Vec<Fed> {
-    let prepend = [CHAIN, FRONT, THEN, CUE_NODE, PASS];
+    let prepend = [CHAIN, FRONT, THEN, node_kind::CUE, PASS];
     let typical = [
         CHAIN, SPREAD, BOTH, CHAIN, LEFT, SECOND, CHAIN, RIGHT, SECOND,
     ];
@@ -140,7 +148,7 @@ fn waiting() -> Vec<Fed> {
     rows
 }
 
-/// The largest patch of chains, in which this node stands first and then pass.
+/// The largest patch of chains, in which this node comes first and then pass.
 fn below_chains(shape: Shape, first: u8) -> Vec<u8> {
     tree_of(shape, MOST_NODES, CHAIN, &|place| {
         vec![if place == 0 { first } else { PASS }]
@@ -201,7 +209,7 @@ pub fn refused() -> Vec<Row> {
     let cut = section(&slice[2..slice.len() - 1]);
     let mut misplaced = slice.clone();
     let last = misplaced.len() - 3;
-    misplaced[last] = 2;
+    misplaced[last] = slice_kind::CUE_COME;
     let rows = [
         (
             "patch file of a mebibyte",

@@ -1,26 +1,13 @@
 //! Patches as the bytes of their trees; nothing here is random.
 
-use comparison::files::section;
-use comparison::types::{BESIDE, CUE, EMPTY, SEQUENCE};
+use comparison::formats::files::patch;
+use comparison::formats::kinds::node_kind::{
+    self, BOTH, CHAIN, FRONT, LEFT, PASS, REGROUP_LEFT, REGROUP_RIGHT, RIGHT, SECOND, SILENT, THEN,
+};
+use comparison::formats::kinds::type_kind::{BESIDE, CUE, EMPTY, SEQUENCE};
 
 use crate::rows::LARGEST;
 use crate::streams::{type_tree, Shape};
-
-/// The kinds of nodes with two parts, and of those without that stand in the rows.
-pub const BOTH: u8 = 4;
-pub const THEN: u8 = 9;
-pub const CHAIN: u8 = 10;
-pub const PASS: u8 = 0;
-pub const SILENT: u8 = 1;
-pub const CUE_NODE: u8 = 2;
-pub const RIGHT: u8 = 6;
-pub const LEFT: u8 = 5;
-pub const FIRST: u8 = 7;
-pub const SECOND: u8 = 8;
-pub const REGROUP_RIGHT: u8 = 11;
-pub const REGROUP_LEFT: u8 = 12;
-pub const SPREAD: u8 = 13;
-pub const FRONT: u8 = 14;
 
 /// The nodes of the largest patch; it has 31 forks and 32 leaves.
 pub const MOST_NODES: usize = 63;
@@ -30,11 +17,6 @@ pub const PATCH_SIZES: [usize; 5] = [3, 7, 15, 31, MOST_NODES];
 
 /// 31 forks above 32 types of so many nodes make a type of 255.
 pub const LEAF_TYPE: usize = 7;
-
-/// The file of a patch, given by its input type and its nodes.
-pub fn patch(tree: &[u8], nodes: &[u8]) -> Vec<u8> {
-    [section(tree), section(nodes)].concat()
-}
 
 /// A tree of so many nodes, not counting what its leaves carry: forks of one kind in this shape,
 /// and the leaves from left to right as they are told by their place.
@@ -135,7 +117,7 @@ pub fn seeking() -> [(&'static str, Vec<u8>); 3] {
         ),
         (
             "thens of cue on 127 sequences",
-            patch(&sequences, &thens(CUE_NODE)),
+            patch(&sequences, &thens(node_kind::CUE)),
         ),
         (
             "pairs of second behind 253",

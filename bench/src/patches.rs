@@ -1,10 +1,16 @@
 //! The rows of Check.
 
-use comparison::files::section;
-use comparison::types::{CUE, EMPTY};
+use comparison::formats::files::{patch, section};
+use comparison::formats::kinds::node_kind::{
+    BOTH, CHAIN, FIRST, FRONT, LEFT, PASS, RIGHT, SECOND, SILENT, SPREAD,
+};
+use comparison::formats::kinds::type_kind::{BESIDE, CUE, EMPTY, LEVEL};
 use comparison::Operation;
 
-use crate::nodes::*;
+use crate::nodes::{
+    chains, cue_then_lanes, lanes, largest, nodes_of, seeking, silent_largest, tree_of, LEAF_TYPE,
+    MOST_NODES, PATCH_SIZES,
+};
 use crate::rows::{claiming, lengthened, Group, Row, LARGEST, SIZES};
 use crate::streams::{type_tree, Shape};
 
@@ -27,7 +33,7 @@ pub fn legal() -> Vec<Row> {
         row(
             Group::Legal,
             "small, swap",
-            patch(&[4, 1, 2], &[BOTH, RIGHT, LEFT]),
+            patch(&[BESIDE, CUE, LEVEL], &[BOTH, RIGHT, LEFT]),
         ),
         row(Group::Legal, "typical, 9 nodes", patch(&balanced, &typical)),
     ];
@@ -90,7 +96,7 @@ pub fn growing() -> Vec<Row> {
     rows
 }
 
-/// Patches on one cue, with the least that can stand at a leaf, or with a type at each.
+/// Patches on one cue, with the least that can be at a leaf, or with a type at each.
 fn growing_patches() -> Vec<Row> {
     let silent = [&[SILENT], lanes(LEAF_TYPE, EMPTY).as_slice()].concat();
     let series = [
@@ -179,7 +185,7 @@ fn long_files() -> Vec<(&'static str, Vec<u8>)> {
         ),
         (
             "65,535 forks in the type",
-            both(&section(&[4; 65_535]), &nodes),
+            both(&section(&[BESIDE; 65_535]), &nodes),
         ),
         ("65,535 chains", both(&tree, &section(&[CHAIN; 65_535]))),
         (

@@ -1,8 +1,11 @@
 //! The rows of the table: one call each. Those of Check are in [`crate::patches`], those of Feed in
 //! [`crate::feeds`].
 
-use comparison::files::{section, set_count};
-use comparison::{library, Operation};
+use comparison::calls::library;
+use comparison::formats::fault::ACCEPTED;
+use comparison::formats::files::{section, set_count};
+use comparison::formats::kinds::type_kind::{CUE, SEQUENCE};
+use comparison::Operation;
 
 use crate::streams::{slice_tree, type_tree, Shape, Share};
 use crate::{feeds, patches};
@@ -118,11 +121,11 @@ impl Row {
                 let fed = second_interpreter::feed(&files[0], &files[1], first, &mut lent.patch);
                 return fed.map_or_else(
                     |number| (number, [0, 0]),
-                    |(output, patch)| (0, [output, patch]),
+                    |(output, patch)| (ACCEPTED, [output, patch]),
                 );
             }
         };
-        answer.map_or_else(|number| (number, [0, 0]), |value| (0, [value, 0]))
+        answer.map_or_else(|number| (number, [0, 0]), |value| (ACCEPTED, [value, 0]))
     }
 }
 
@@ -159,7 +162,7 @@ pub fn all() -> Vec<Row> {
 }
 
 fn legal(operation: Operation) -> Vec<Row> {
-    let small = stream(&[3, 1, 1], Share::Half, Share::All);
+    let small = stream(&[SEQUENCE, CUE, CUE], Share::Half, Share::All);
     let typical = halves(Shape::Balanced, 31);
     let mut rows = vec![
         Row::new(Group::Legal, "small", operation, &small),
@@ -243,7 +246,7 @@ fn refused(operation: Operation) -> Vec<Row> {
             "slice claims 65,535 bytes, full",
             with_slice(claiming(lengthened(slice, 65_537))),
         ),
-        ("65,535 forks", with_type(section(&[3; 65_535]))),
+        ("65,535 forks", with_type(section(&[SEQUENCE; 65_535]))),
     ];
     rows.iter()
         .map(|(name, files)| Row::new(Group::Refused, name, operation, files))

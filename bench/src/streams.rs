@@ -1,6 +1,8 @@
 //! The types and slices of the rows, written as the bytes of their trees; nothing here is random.
 
-use comparison::types::{type_end, BESIDE, CUE, EMPTY, LEVEL, SEQUENCE};
+use comparison::formats::kinds::slice_kind;
+use comparison::formats::kinds::type_kind::{BESIDE, CUE, EMPTY, LEVEL, SEQUENCE};
+use comparison::formats::preorder::{is_type_leaf, type_end};
 
 /// Which way a tree grows.
 #[derive(Clone, Copy, Debug, PartialEq, Eq)]
@@ -18,7 +20,7 @@ impl Shape {
         (Shape::Balanced, "balanced"),
     ];
 
-    /// How many of the forks below a fork stand in its first part.
+    /// How many of the forks below a fork are in its first part.
     pub fn in_first(self, forks: usize) -> usize {
         match self {
             Shape::DeepLeft => forks,
@@ -61,7 +63,7 @@ fn write_type(shape: Shape, forks: usize, kind: u8, leaves: &mut usize, tree: &m
 /// The slice in which this share of the leaves has come, from left to right, and every first part
 /// that has fully come is crossed.
 pub fn slice_tree(tree: &[u8], share: Share) -> Vec<u8> {
-    let leaves = tree.iter().filter(|kind| **kind < SEQUENCE).count();
+    let leaves = tree.iter().filter(|kind| is_type_leaf(**kind)).count();
     let mut writer = Writer {
         tree,
         at: 0,
@@ -92,7 +94,7 @@ impl Writer<'_> {
         match kind {
             SEQUENCE => self.sequence(crossing),
             BESIDE => {
-                self.slice.push(7);
+                self.slice.push(slice_kind::BESIDE);
                 let first = self.write(crossing);
                 let second = self.write(crossing);
                 first && second
@@ -103,9 +105,9 @@ impl Writer<'_> {
 
     fn sequence(&mut self, crossing: bool) -> bool {
         let place = self.slice.len();
-        self.slice.push(5);
+        self.slice.push(slice_kind::IN_FIRST);
         if self.write(crossing) && crossing {
-            self.slice[place] = 6;
+            self.slice[place] = slice_kind::CROSSED;
             return self.write(crossing);
         }
         self.at = type_end(self.tree, self.at);
@@ -117,11 +119,11 @@ impl Writer<'_> {
         self.still_come -= usize::from(come);
         let value = self.at as u8;
         match (leaf, come) {
-            (EMPTY, _) => self.slice.push(0),
-            (CUE, false) => self.slice.push(1),
-            (CUE, true) => self.slice.push(2),
-            (_, false) => self.slice.push(3),
-            (_, true) => self.slice.extend([4, value, !value]),
+            (EMPTY, _) => self.slice.push(slice_kind::NOTHING),
+            (CUE, false) => self.slice.push(slice_kind::CUE_AWAITED),
+            (CUE, true) => self.slice.push(slice_kind::CUE_COME),
+            (_, false) => self.slice.push(slice_kind::LEVEL_AWAITED),
+            (_, true) => self.slice.extend([slice_kind::LEVEL_COME, value, !value]),
         }
         leaf == EMPTY || come
     }

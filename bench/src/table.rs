@@ -5,7 +5,7 @@ use comparison::Operation;
 use crate::measured::{in_median, median, Cost, Measured};
 use crate::rows::Row;
 
-/// A line of the table: the call, and what stands in each column.
+/// A line of the table: the call, and what each column has.
 fn line(call: &str, columns: [&str; 9]) -> String {
     const WIDTHS: [usize; 9] = [9, 11, 11, 8, 9, 11, 11, 12, 8];
     let mut text = format!("{call:<50}");
@@ -38,7 +38,7 @@ fn row_line(runs: &[Vec<Measured>], row: usize) -> String {
     line(&call, columns.each_ref().map(String::as_str))
 }
 
-/// What stands above the rows.
+/// The lines above the rows.
 pub fn heading(runs: usize) -> String {
     let columns = line(
         "",
@@ -96,7 +96,7 @@ fn of_feed(runs: &[Vec<Measured>], figure: fn(&Measured) -> Option<f64>) -> Opti
     median(fed.filter_map(|row| in_median(runs, row, figure)))
 }
 
-/// What stands below the rows: which bytes are counted, and what a byte costs Feed.
+/// The lines below the rows: which bytes are counted, and what a byte costs Feed.
 pub fn below(runs: &[Vec<Measured>]) -> String {
     format!(
         "Bytes: those of all files handed in, which an accepted call reads; not those it writes.\n\

@@ -3,6 +3,8 @@
 use std::hint::black_box;
 use std::time::{Duration, Instant};
 
+use comparison::formats::fault::ACCEPTED;
+
 use crate::rows::{Group, Lent, Row, Side};
 
 /// A round goes on for about this long.
@@ -122,6 +124,6 @@ pub fn is_sound(row: &Row) -> bool {
     let (mut ours, mut theirs) = (Lent::holding(7), Lent::holding(7));
     let answer = row.call(Side::Library, &mut ours);
     let same = answer == row.call(Side::Second, &mut theirs) && ours == theirs;
-    let refused = answer.0 != 0;
+    let refused = answer.0 != ACCEPTED;
     same && refused == (row.group == Group::Refused)
 }

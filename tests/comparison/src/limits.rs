@@ -6,15 +6,17 @@
 
 use std::path::Path;
 
-use crate::calls::{Call, Operation};
-use crate::comparison::compare;
-use crate::files::section;
-use crate::random::Random;
+use crate::calls::call::{Call, Operation};
+use crate::calls::comparison::compare;
+use crate::formats::files::patch;
+use crate::formats::kinds::node_kind::{CHAIN, PASS};
+use crate::formats::kinds::type_kind::{BESIDE, CUE};
+use crate::generators::random::Random;
 
 /// The patches of the case, each with its name in the program's output.
 fn patches() -> [(&'static str, Vec<u8>); 4] {
-    let chains = |times| patch(&[1], &repeated(&[10, 0], times, 0));
-    let lanes = |times| patch(&repeated(&[4, 1], times, 1), &[0]);
+    let chains = |times| patch(&[CUE], &repeated(&[CHAIN, PASS], times, PASS));
+    let lanes = |times| patch(&repeated(&[BESIDE, CUE], times, CUE), &[PASS]);
     [
         ("63 nodes", chains(31)),
         ("65 nodes", chains(32)),
@@ -29,19 +31,11 @@ fn repeated(part: &[u8], times: usize, end: u8) -> Vec<u8> {
     tree
 }
 
-fn patch(tree: &[u8], nodes: &[u8]) -> Vec<u8> {
-    [section(tree), section(nodes)].concat()
-}
-
 /// What the program has to print, by the second interpreter; the library has to agree.
 fn lines(noise: &mut Random) -> Result<String, String> {
     let mut text = String::new();
     for (name, patch) in patches() {
-        let call = Call {
-            operation: Operation::Check,
-            files: vec![patch],
-            lent: vec![257],
-        };
+        let call = Call::roomy(Operation::Check, vec![patch]);
         let answer = compare(&call, noise)?.answer;
         text += &format!("{name}: {}\n", answer.number);
     }

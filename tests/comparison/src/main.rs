@@ -7,8 +7,7 @@
 use std::process::ExitCode;
 use std::time::{Duration, Instant};
 
-use comparison::random::Random;
-use comparison::{compare, limits, Calls, Runs, Tally};
+use comparison::{compare, limits, Calls, Random, Runs, Tally};
 
 /// After so many calls there is a run.
 const CALLS_PER_RUN: u64 = 100;
@@ -44,7 +43,7 @@ fn options(mut words: impl Iterator<Item = String>) -> Option<Options> {
 
 fn run(options: &Options, tally: &mut Tally) -> Result<(), String> {
     let begin = Instant::now();
-    // What stands in the buffers and beside everything comes from a generator of its own: it has
+    // What is in the buffers and beside everything comes from a generator of its own: it has
     // no say in which calls are made.
     let mut noise = Random::new(!options.seed);
     limits::compare_stored(&mut noise)?;

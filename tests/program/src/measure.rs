@@ -7,13 +7,15 @@ use std::process::{Child, Command, Stdio};
 use std::thread;
 use std::time::{Duration, Instant};
 
-use comparison::random::Random;
-use comparison::slices::Pace;
+use comparison::formats::files::patch;
+use comparison::formats::kinds::node_kind::{BOTH, LEFT, PASS, RIGHT};
+use comparison::formats::kinds::type_kind::{BESIDE, CUE, LEVEL, SEQUENCE};
+use comparison::generators::slices::Pace;
+use comparison::Random;
 
-use crate::delivery::Temporary;
-use crate::process::Program;
-use crate::shows::Show;
-use crate::stream::patch;
+use crate::running::delivery::Temporary;
+use crate::running::Program;
+use crate::streams::shows::Show;
 
 /// The word that makes this executable the second interpreter's program.
 pub const SECOND: &str = "--second";
@@ -49,16 +51,20 @@ fn show(tree: &[u8], nodes: &[u8], slices: usize) -> Vec<u8> {
 
 /// Eight lanes, in each of them a cue, then a level, then a cue; the sides are swapped.
 fn lanes(slices: usize) -> Vec<u8> {
-    let lane = [3, 1, 3, 2, 1];
-    let tree = [[vec![4], lane.to_vec()].concat().repeat(7), lane.to_vec()].concat();
-    show(&tree, &[4, 6, 5], slices)
+    let lane = [SEQUENCE, CUE, SEQUENCE, LEVEL, CUE];
+    let tree = [
+        [vec![BESIDE], lane.to_vec()].concat().repeat(7),
+        lane.to_vec(),
+    ]
+    .concat();
+    show(&tree, &[BOTH, RIGHT, LEFT], slices)
 }
 
 /// The largest type, 128 levels side by side. More than 128 slices cannot bring something, but
 /// every slice says of every level that it has not come, or has.
 fn levels(slices: usize) -> Vec<u8> {
-    let tree = [[4, 2].repeat(127), vec![2]].concat();
-    show(&tree, &[0], slices)
+    let tree = [[BESIDE, LEVEL].repeat(127), vec![LEVEL]].concat();
+    show(&tree, &[PASS], slices)
 }
 
 fn spawn(program: &Program, input: Stdio) -> Result<Child, String> {

@@ -2,7 +2,7 @@
 
 use std::time::Duration;
 
-use comparison::random::Random;
+use comparison::Random;
 use program::Kind::{
     Boundaries, DamagedPatches, Ends, Inputs, LargestAnswers, LongStreams, OpenInput, PatchLengths,
     Pieces, Runs, SliceLengths,

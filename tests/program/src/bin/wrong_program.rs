@@ -6,6 +6,10 @@ use std::io::{self, Read, Write};
 use std::os::fd::AsFd;
 use std::os::unix::fs::FileTypeExt;
 
+use comparison::formats::fault;
+use comparison::formats::files::{
+    count, LONGEST_PATCH_FILE, LONGEST_SLICE_FILE, LONGEST_TYPE_FILE,
+};
 use second_interpreter::{check, feed};
 
 /// A buffer of this size is what faults of reading and writing are about.
@@ -56,7 +60,7 @@ impl Wrong {
             }
             return Ok(());
         };
-        if let Err(number) = check(&start, &mut [0; 257]) {
+        if let Err(number) = check(&start, &mut [0; LONGEST_TYPE_FILE]) {
             self.line(&number.to_string())?;
             return self.after_refused_patch();
         }
@@ -107,12 +111,12 @@ impl Wrong {
 
     /// The line of a feed, and the patch left.
     fn fed(&self, patch: &[u8], slice: &[u8]) -> Result<(String, Vec<u8>), u32> {
-        let (mut output, mut left) = (vec![0; 513], vec![0; 8_482]);
+        let (mut output, mut left) = (vec![0; LONGEST_SLICE_FILE], vec![0; LONGEST_PATCH_FILE]);
         let (output_length, patch_length) = feed(patch, slice, &mut output, &mut left)?;
         let short = self.is("output_buffer_of_512") && output_length > 512
             || self.is("patch_buffer_of_8481") && patch_length > 8_481;
         if short {
-            return Err(20);
+            return Err(fault::NO_ROOM);
         }
         left.truncate(patch_length);
         let printed = if self.is("type_before_printed") {
@@ -121,7 +125,7 @@ impl Wrong {
             &left
         };
         let sent = self.field(&output[..output_length]);
-        let rest = self.field(&printed[..2 + length(printed)]);
+        let rest = self.field(&printed[..2 + count(printed)]);
         Ok((format!("0 {sent} {rest}"), left))
     }
 
@@ -190,10 +194,10 @@ impl Wrong {
             });
         }
         let asked = match self.fault.as_str() {
-            "low_byte_first" => length(&[head[1], head[0]]),
+            "low_byte_first" => count(&[head[1], head[0]]),
             "signed_length" if head[0] >= 128 => 0,
-            "long_file_not_skipped" => length(&head).min(8_482),
-            _ => length(&head),
+            "long_file_not_skipped" => count(&head).min(LONGEST_PATCH_FILE),
+            _ => count(&head),
         };
         if self.stops_at_64_kib(asked) {
             return Ok(None);
@@ -251,7 +255,7 @@ impl Wrong {
     /// A file that lies in what one read brought; what is left of the read before it is lost.
     fn file_in_one_read(&mut self) -> io::Result<Option<Vec<u8>>> {
         loop {
-            let asked = length(&self.chunk);
+            let asked = count(&self.chunk);
             if self.chunk.len() >= 2 + asked && self.chunk.len() >= 2 {
                 let file = self.chunk[2..2 + asked].to_vec();
                 self.chunk.drain(..2 + asked);
@@ -264,13 +268,5 @@ impl Wrong {
                 return Ok(None);
             }
         }
-    }
-}
-
-/// What two bytes say, the high one first; 0 if they are not there.
-fn length(bytes: &[u8]) -> usize {
-    match bytes {
-        [high, low, ..] => usize::from(*high) * 256 + usize::from(*low),
-        _ => 0,
     }
 }

@@ -1,0 +1,59 @@
+//! Files as bytes. A section is a count of two bytes, the high byte first, and then its contents.
+
+/// The length of the longest type file that is accepted.
+pub const LONGEST_TYPE_FILE: usize = 257;
+/// That of the longest slice file.
+pub const LONGEST_SLICE_FILE: usize = 513;
+/// That of the longest patch file.
+pub const LONGEST_PATCH_FILE: usize = 8_482;
+
+/// The file of one section. Its contents have at most 65,535 bytes.
+pub fn section(contents: &[u8]) -> Vec<u8> {
+    let mut file = vec![0, 0];
+    file.extend_from_slice(contents);
+    set_count(&mut file, contents.len());
+    file
+}
+
+/// The file of a patch: the tree of its input type, and its nodes.
+pub fn patch(tree: &[u8], nodes: &[u8]) -> Vec<u8> {
+    [section(tree), section(nodes)].concat()
+}
+
+/// What the count of a file says; 0 where there is no whole count.
+pub fn count(file: &[u8]) -> usize {
+    match file {
+        [high, low, ..] => usize::from(*high) * 256 + usize::from(*low),
+        _ => 0,
+    }
+}
+
+/// The contents of a file's first section; as much of them as there is.
+pub fn contents(file: &[u8]) -> &[u8] {
+    let end = file.len().min(2 + count(file));
+    file.get(2..end).unwrap_or(&[])
+}
+
+/// Overwrites the count, if the file has one.
+pub fn set_count(file: &mut [u8], count: usize) {
+    let count = count.min(65_535);
+    if let [high, low, ..] = file {
+        *high = (count / 256) as u8;
+        *low = (count % 256) as u8;
+    }
+}
+
+/// The bytes in decimal. A long run of one byte is shown as `{times: byte}`.
+pub fn decimal(bytes: &[u8]) -> String {
+    let words: Vec<String> = bytes
+        .chunk_by(|before, after| before == after)
+        .flat_map(|run| {
+            if run.len() > 8 {
+                vec![format!("{{{}: {}}}", run.len(), run[0])]
+            } else {
+                vec![run[0].to_string(); run.len()]
+            }
+        })
+        .collect();
+    words.join(" ")
+}

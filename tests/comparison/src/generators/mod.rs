@@ -1,0 +1,11 @@
+//! What draws inputs at random: types, slices, patches, the damage that is done to their files, and
+//! whole calls. All follow from a seed.
+
+pub mod calls;
+pub mod damage;
+pub mod feeds;
+pub mod patch_damage;
+pub mod patches;
+pub mod random;
+pub mod slices;
+pub mod types;

@@ -1,0 +1,185 @@
+//! The ways in which a patch file can be damaged: each section as any other file, both together,
+//! and its nodes so that only the second pass can tell.
+
+use crate::formats::files::{count, section, set_count};
+use crate::formats::kinds::node_kind::{
+    BOTH, CHAIN, CUE, FIRST, FRONT, LEFT, LEVEL, PASS, REGROUP_LEFT, REGROUP_RIGHT, RIGHT, SECOND,
+    SILENT, SPREAD, THEN,
+};
+use crate::formats::kinds::type_kind;
+use crate::formats::preorder::{is_node_fork, is_type_leaf, roots, type_end};
+use crate::generators::damage::{damage, few_bytes, type_about_the_limit, NODE_KINDS, TYPE_KINDS};
+use crate::generators::patches::{any_patch, patch_of, MOST_FORKS};
+use crate::generators::random::Random;
+use crate::generators::types::{write_type, Style};
+
+/// The kinds of nodes with two parts.
+const FORKS: [u8; 3] = [BOTH, THEN, CHAIN];
+
+/// The kinds of nodes that have no parts and carry nothing.
+const BARE: [u8; 10] = [
+    PASS,
+    CUE,
+    LEFT,
+    RIGHT,
+    FIRST,
+    SECOND,
+    REGROUP_RIGHT,
+    REGROUP_LEFT,
+    SPREAD,
+    FRONT,
+];
+
+/// No request lists this kind.
+const UNLISTED: u8 = 200;
+
+/// Puts a fault in a patch file, or at least changes it.
+pub fn damage_patch(random: &mut Random, file: &mut Vec<u8>) {
+    let mut nodes = split(file);
+    match random.below(16) {
+        0 => *file = type_about_the_limit(random),
+        1 => nodes = nodes_about_the_limit(random),
+        2 => carry_about_the_limit(random, &mut nodes),
+        3 => (*file, nodes) = given_about_the_limit(random),
+        // The nodes of one patch on the type of another.
+        4 => {
+            *file = any_patch(random);
+            split(file);
+        }
+        5 => (*file, nodes) = (few_bytes(random, TYPE_KINDS), few_bytes(random, NODE_KINDS)),
+        6 => {
+            file.append(&mut nodes);
+            damage(random, file, NODE_KINDS);
+        }
+        7..=8 => damage(random, file, TYPE_KINDS),
+        9..=10 => damage(random, &mut nodes, NODE_KINDS),
+        11..=13 => refit(random, &mut nodes),
+        _ => {
+            refit(random, &mut nodes);
+            refit(random, &mut nodes);
+        }
+    }
+    file.append(&mut nodes);
+}
+
+/// Takes the node section off a patch file; what is left is the type section.
+fn split(file: &mut Vec<u8>) -> Vec<u8> {
+    let end = file.len().min(2 + count(file));
+    file.split_off(end)
+}
+
+/// Another kind in place of a node's, with as many parts: all can be read, and often a shape is
+/// wrong. In the type that silent carries it is another kind of type, and often the type is no
+/// longer nullable.
+fn refit(random: &mut Random, nodes: &mut [u8]) {
+    let roots = roots(nodes);
+    if roots.is_empty() {
+        return;
+    }
+    let at = roots[random.below(roots.len())].at;
+    match nodes[at] {
+        SILENT => {
+            let end = type_end(nodes, at + 1);
+            if at + 1 < end {
+                let place = random.between(at + 1, end - 1);
+                nodes[place] = match nodes[place] {
+                    type_kind::BESIDE => type_kind::SEQUENCE,
+                    type_kind::SEQUENCE => type_kind::BESIDE,
+                    _ => random.pick(&[type_kind::EMPTY, type_kind::CUE]),
+                };
+            }
+        }
+        LEVEL => {}
+        kind if is_node_fork(kind) => nodes[at] = random.pick(&FORKS),
+        _ => nodes[at] = random.pick(&BARE),
+    }
+}
+
+/// A node section about the limit of 63 nodes: too large, cut there, or forks and nothing more.
+fn nodes_about_the_limit(random: &mut Random) -> Vec<u8> {
+    let nullable = [type_kind::BESIDE, type_kind::EMPTY, type_kind::EMPTY];
+    let silent = [&[CHAIN, SILENT], nullable.as_slice()].concat();
+    let part = random.pick::<&[u8]>(&[
+        &[CHAIN, PASS],
+        &[BOTH, CUE],
+        &silent,
+        &[BOTH, LEVEL, 10, 10],
+    ]);
+    let mut tree = part.repeat(MOST_FORKS);
+    match random.below(5) {
+        0 => {
+            let fork = random.pick(&FORKS);
+            tree = vec![fork; random.pick(&[30, 31, 32, 61, 62, 63, 64, 65, 300])];
+        }
+        1 => {
+            tree.push(random.pick(&[PASS, BOTH, CHAIN, UNLISTED]));
+            tree.truncate(tree.len() - random.below(4));
+        }
+        2 => tree.extend([random.pick(&[PASS, CHAIN]), random.pick(&[PASS, UNLISTED])]),
+        _ => {
+            let forks = random.between(MOST_FORKS, MOST_FORKS + 3);
+            let mut file = patch_of(random, forks);
+            return split(&mut file);
+        }
+    }
+    section(&tree)
+}
+
+/// A type about the limit of 255 nodes, carried by silent in place of a node without parts.
+fn carry_about_the_limit(random: &mut Random, nodes: &mut Vec<u8>) {
+    let roots = roots(nodes);
+    let leaves: Vec<usize> = (roots.iter().map(|root| root.at))
+        .filter(|at| !is_node_fork(nodes[*at]))
+        .collect();
+    if leaves.is_empty() {
+        return;
+    }
+    let mut carried = type_about_the_limit(random).split_off(2);
+    if random.chance(60) {
+        make_nullable(&mut carried);
+    }
+    let at = leaves[random.below(leaves.len())];
+    let end = roots.iter().map(|root| root.at).find(|next| *next > at);
+    let end = end.unwrap_or(nodes.len());
+    nodes.splice(at..end, [&[SILENT], carried.as_slice()].concat());
+    let contents = nodes.len() - 2;
+    set_count(nodes, contents);
+}
+
+/// Nothing but empty types side by side, where a kind is listed.
+fn make_nullable(tree: &mut [u8]) {
+    for kind in tree {
+        *kind = match *kind {
+            leaf if is_type_leaf(leaf) => type_kind::EMPTY,
+            type_kind::SEQUENCE => type_kind::BESIDE,
+            other => other,
+        };
+    }
+}
+
+/// The sections of a small patch on a large type: what a node gives is about the limit of 255
+/// nodes, and often there is another fault beside it.
+fn given_about_the_limit(random: &mut Random) -> (Vec<u8>, Vec<u8>) {
+    let nodes = random.pick::<&[u8]>(&[
+        &[FRONT],
+        &[SPREAD],
+        &[BOTH, PASS, CUE],
+        &[BOTH, CUE, PASS],
+        &[BOTH, PASS, LEFT],
+        &[BOTH, PASS, SILENT, type_kind::CUE],
+        &[BOTH, FRONT, FIRST],
+        &[THEN, FRONT, PASS],
+        &[THEN, PASS, FRONT],
+        &[THEN, FRONT, LEFT],
+        &[CHAIN, FRONT, SECOND],
+        &[CHAIN, FRONT, LEFT],
+        &[CHAIN, FRONT, FRONT],
+        &[CHAIN, SPREAD, BOTH, LEFT, SILENT, type_kind::CUE],
+        &[CHAIN, BOTH, PASS, CUE, LEFT],
+    ]);
+    let style = Style::any(random);
+    let forks = random.between(124, 127);
+    let mut tree = Vec::new();
+    write_type(random, &style, forks, &mut tree);
+    (section(&tree), section(nodes))
+}

@@ -1,0 +1,297 @@
+//! Random patches, grown from an input type: each node fits the type that comes to it, and what it
+//! gives goes to the next. Nearly all are accepted. In a few a node inside does not fit, or a type
+//! grows too large.
+
+use second_interpreter::{output_type, patch_file, Node, Type};
+
+use crate::formats::kinds::node_kind::{
+    BOTH, CHAIN, CUE, FIRST, FRONT, LEFT, LEVEL, PASS, REGROUP_LEFT, REGROUP_RIGHT, RIGHT, SECOND,
+    SILENT, SPREAD, THEN,
+};
+use crate::formats::trees::type_of;
+use crate::generators::random::Random;
+use crate::generators::types::{self, write_type, Shape};
+
+/// A patch of 63 nodes has so many forks.
+pub const MOST_FORKS: usize = 31;
+
+/// The kinds of nodes without parts; those among them that make no type smaller, and those that
+/// change when a sequence is crossed.
+const LEAVES: [u8; 12] = [
+    PASS,
+    SILENT,
+    CUE,
+    LEVEL,
+    LEFT,
+    RIGHT,
+    FIRST,
+    SECOND,
+    REGROUP_RIGHT,
+    REGROUP_LEFT,
+    SPREAD,
+    FRONT,
+];
+const KEEPING: [u8; 5] = [PASS, REGROUP_RIGHT, REGROUP_LEFT, SPREAD, FRONT];
+const CHANGING: [u8; 5] = [FIRST, SECOND, REGROUP_RIGHT, REGROUP_LEFT, SPREAD];
+
+/// So many kinds are tried at a leaf before one is taken that fits everywhere.
+const TRIES: usize = 8;
+
+/// What the nodes of one patch are like; the chances are in a hundred.
+#[derive(Clone, Copy, Debug)]
+struct Style {
+    shape: Shape,
+    chains: usize,
+    thens: usize,
+    keeping: usize,
+    changing: usize,
+    misfits: usize,
+    /// Whether a type may grow past its limit.
+    boundless: bool,
+}
+
+impl Style {
+    fn any(random: &mut Random) -> Self {
+        Style {
+            shape: random.pick(&Shape::ALL),
+            chains: random.pick(&[10, 40, 80, 100]),
+            thens: random.pick(&[20, 50, 90]),
+            keeping: random.pick(&[0, 50, 90]),
+            changing: 0,
+            misfits: random.pick(&[0, 0, 0, 0, 0, 0, 0, 3]),
+            boundless: random.chance(4),
+        }
+    }
+
+    /// Many nodes that change when a sequence is crossed.
+    fn crossing(random: &mut Random) -> Self {
+        Style {
+            shape: random.pick(&Shape::ALL),
+            chains: random.pick(&[20, 50]),
+            thens: 90,
+            keeping: random.pick(&[0, 30, 70]),
+            changing: random.pick(&[30, 60]),
+            misfits: 0,
+            boundless: false,
+        }
+    }
+}
+
+/// A node, and the type that it gives.
+struct Grown {
+    node: Node,
+    gives: Type,
+}
+
+/// A patch file, most often one that is accepted.
+pub fn any_patch(random: &mut Random) -> Vec<u8> {
+    let forks = node_forks(random);
+    patch_of(random, forks)
+}
+
+/// A patch file on a stream in which much follows one another: for runs, in which it is crossed
+/// again and again.
+pub fn crossing_patch(random: &mut Random) -> Vec<u8> {
+    let style = types::Style::following(random);
+    let forks = match random.below(10) {
+        0..=5 => random.between(2, 12),
+        6..=8 => random.between(8, 40),
+        _ => random.between(40, types::MOST_FORKS),
+    };
+    let input = a_type(random, &style, forks);
+    let forks = match random.below(4) {
+        0..=2 => random.below(12),
+        _ => node_forks(random),
+    };
+    let style = Style::crossing(random);
+    grown(random, style, &input, forks)
+}
+
+/// A patch file with so many forks among its nodes, and one leaf more than that.
+pub fn patch_of(random: &mut Random, forks: usize) -> Vec<u8> {
+    let input = any_type(random);
+    let style = Style::any(random);
+    grown(random, style, &input, forks)
+}
+
+fn grown(random: &mut Random, style: Style, input: &Type, forks: usize) -> Vec<u8> {
+    let mut grower = Grower { random, style };
+    let root = grower.grow(input, forks, Type::LIMIT);
+    patch_file(input, &root.node)
+}
+
+/// How many forks the next patch has: mostly few, often as many as the limit allows.
+fn node_forks(random: &mut Random) -> usize {
+    match random.below(20) {
+        0..=6 => random.below(5),
+        7..=12 => random.below(16),
+        13..=16 => random.below(MOST_FORKS + 1),
+        17 => MOST_FORKS - 1,
+        _ => MOST_FORKS,
+    }
+}
+
+/// How many forks an input type has. Every node of a patch may copy it, so large ones are seldom.
+fn type_forks(random: &mut Random) -> usize {
+    match random.below(20) {
+        0..=11 => random.below(6),
+        12..=16 => random.below(32),
+        17..=18 => random.below(types::MOST_FORKS + 1),
+        _ => types::MOST_FORKS,
+    }
+}
+
+fn any_type(random: &mut Random) -> Type {
+    let style = types::Style::any(random);
+    let forks = type_forks(random);
+    a_type(random, &style, forks)
+}
+
+fn a_type(random: &mut Random, style: &types::Style, forks: usize) -> Type {
+    let mut tree = Vec::new();
+    write_type(random, style, forks, &mut tree);
+    type_of(&tree)
+}
+
+/// A nullable type with so many forks.
+fn nullable(random: &mut Random, shape: Shape, forks: usize) -> Type {
+    if forks == 0 {
+        return Type::Empty;
+    }
+    let first = shape.in_first(random, forks - 1);
+    let left = nullable(random, shape, first);
+    Type::beside(left, nullable(random, shape, forks - 1 - first))
+}
+
+struct Grower<'a> {
+    random: &'a mut Random,
+    style: Style,
+}
+
+impl Grower<'_> {
+    /// A node that fits the input, with so many forks. What it gives has at most `room` nodes.
+    fn grow(&mut self, input: &Type, forks: usize, room: usize) -> Grown {
+        if forks == 0 {
+            return self.leaf(input, room);
+        }
+        let first = self.style.shape.in_first(self.random, forks - 1);
+        let forks = [first, forks - 1 - first];
+        match (self.fork(room), input.sequence_parts()) {
+            (CHAIN, _) => {
+                let one = self.grow(input, forks[0], Type::LIMIT);
+                let other = self.grow(&one.gives, forks[1], room);
+                Grown {
+                    node: Node::chain(one.node, other.node),
+                    gives: other.gives,
+                }
+            }
+            (THEN, Some((first, second))) => {
+                let [one, other] = self.grow_parts([first, second], forks, room);
+                Grown {
+                    node: Node::then(one.node, other.node),
+                    gives: Type::sequence(one.gives, other.gives),
+                }
+            }
+            _ => {
+                let [one, other] = self.grow_parts([input, input], forks, room);
+                Grown {
+                    node: Node::both(one.node, other.node),
+                    gives: Type::beside(one.gives, other.gives),
+                }
+            }
+        }
+    }
+
+    /// The kind of a fork; two parts side by side or in sequence need three nodes of room.
+    fn fork(&mut self, room: usize) -> u8 {
+        if room < 3 || self.random.chance(self.style.chains) {
+            CHAIN
+        } else if self.random.chance(self.style.thens) {
+            THEN
+        } else {
+            BOTH
+        }
+    }
+
+    /// Two nodes that give, with a fork above what they give, at most `room` nodes.
+    fn grow_parts(&mut self, inputs: [&Type; 2], forks: [usize; 2], room: usize) -> [Grown; 2] {
+        let share = room * (forks[0] + 1) / (forks[0] + forks[1] + 2);
+        let most = room - 2;
+        let any = self.random.between(1, most);
+        let first = self.random.pick(&[share, most, any]).clamp(1, most);
+        let one = self.grow(inputs[0], forks[0], first);
+        let rest = if self.style.boundless {
+            room
+        } else {
+            room.saturating_sub(1 + one.gives.size()).max(1)
+        };
+        let other = self.grow(inputs[1], forks[1], rest);
+        [one, other]
+    }
+
+    fn leaf(&mut self, input: &Type, room: usize) -> Grown {
+        if self.random.chance(self.style.misfits) {
+            return self.misfit(input);
+        }
+        for _ in 0..TRIES {
+            let kind = self.leaf_kind();
+            let node = self.leaf_of(kind, room);
+            match output_type(&node, input) {
+                Ok(gives) if gives.size() <= room => return Grown { node, gives },
+                _ => {}
+            }
+        }
+        Grown {
+            node: Node::Cue,
+            gives: Type::Cue,
+        }
+    }
+
+    fn leaf_kind(&mut self) -> u8 {
+        let kinds: &[u8] = if self.random.chance(self.style.changing) {
+            &CHANGING
+        } else if self.random.chance(self.style.keeping) {
+            &KEEPING
+        } else {
+            &LEAVES
+        };
+        self.random.pick(kinds)
+    }
+
+    fn leaf_of(&mut self, kind: u8, room: usize) -> Node {
+        match kind {
+            PASS => Node::Pass,
+            SILENT => Node::silent(self.carried(room)),
+            CUE => Node::Cue,
+            LEVEL => Node::Level(self.random.number() as u16),
+            LEFT => Node::Left,
+            RIGHT => Node::Right,
+            FIRST => Node::First,
+            SECOND => Node::Second,
+            REGROUP_RIGHT => Node::RegroupRight,
+            REGROUP_LEFT => Node::RegroupLeft,
+            SPREAD => Node::Spread,
+            _ => Node::Front,
+        }
+    }
+
+    /// A nullable type: mostly small, often as large as there is room.
+    fn carried(&mut self, room: usize) -> Type {
+        let most = (room - 1) / 2;
+        let any = self.random.below(most + 1);
+        let forks = self.random.pick(&[0, 1, 2, any, most]).min(most);
+        nullable(self.random, self.style.shape, forks)
+    }
+
+    /// A node that the second pass refuses, or nearly: any kind, and silent with any type.
+    fn misfit(&mut self, input: &Type) -> Grown {
+        let kind = self.random.pick(&LEAVES);
+        let node = if kind == SILENT {
+            Node::silent(any_type(self.random))
+        } else {
+            self.leaf_of(kind, Type::LIMIT)
+        };
+        let gives = output_type(&node, input).unwrap_or(Type::Cue);
+        Grown { node, gives }
+    }
+}

@@ -1,0 +1,160 @@
+//! Random slices of a type, written as the bytes of their trees together with what they leave.
+
+use crate::formats::kinds::{slice_kind, type_kind};
+use crate::formats::preorder::type_end;
+use crate::generators::random::Random;
+
+/// A slice, and what it leaves of its type.
+#[derive(Clone, Debug)]
+pub struct Come {
+    pub slice: Vec<u8>,
+    pub left: Vec<u8>,
+}
+
+/// How much comes; the chances are in a hundred.
+#[derive(Clone, Copy, Debug)]
+pub struct Pace {
+    /// That a cue or a level comes.
+    pub come: usize,
+    /// That a sequence is crossed, and all of its first part comes with it.
+    pub cross: usize,
+    /// That a sequence is crossed of whose first part nothing is left to come.
+    pub cross_spent: usize,
+}
+
+impl Pace {
+    /// Nothing at all.
+    pub const NOTHING: Pace = Pace {
+        come: 0,
+        cross: 0,
+        cross_spent: 0,
+    };
+    /// All that is left.
+    pub const ALL: Pace = Pace {
+        come: 100,
+        cross: 100,
+        cross_spent: 100,
+    };
+
+    /// Any pace.
+    pub fn any(random: &mut Random) -> Self {
+        let come = random.pick(&[0, 10, 50, 90, 100]);
+        let cross = random.pick(&[0, 10, 50, 90, 100]);
+        Pace {
+            come,
+            cross,
+            cross_spent: cross,
+        }
+    }
+
+    /// Little by little: a stream comes in many slices, and crosses when its first part has come.
+    pub fn gentle(random: &mut Random) -> Self {
+        Pace {
+            come: random.pick(&[5, 10, 20, 40, 70]),
+            cross: random.pick(&[0, 2, 5, 10]),
+            cross_spent: random.pick(&[40, 80, 100]),
+        }
+    }
+}
+
+/// A slice of the type with this tree, at any pace.
+pub fn slice_of(random: &mut Random, tree: &[u8]) -> Come {
+    let pace = Pace::any(random);
+    slice_at(random, pace, tree)
+}
+
+/// A slice of the type with this tree, at this pace.
+pub fn slice_at(random: &mut Random, pace: Pace, tree: &[u8]) -> Come {
+    let mut writer = Writer {
+        random,
+        pace,
+        tree,
+        at: 0,
+        come: Come {
+            slice: Vec::new(),
+            left: Vec::new(),
+        },
+    };
+    writer.write(false);
+    writer.come
+}
+
+/// Walks a type once, from left to right.
+struct Writer<'a> {
+    random: &'a mut Random,
+    pace: Pace,
+    tree: &'a [u8],
+    at: usize,
+    come: Come,
+}
+
+impl Writer<'_> {
+    /// Writes a slice of the type at hand, a complete one if it has to be.
+    fn write(&mut self, complete: bool) {
+        let kind = self.tree[self.at];
+        self.at += 1;
+        match kind {
+            type_kind::SEQUENCE if complete || self.crosses() => self.crossed(complete),
+            type_kind::SEQUENCE => self.in_first(),
+            type_kind::BESIDE => {
+                self.come.slice.push(slice_kind::BESIDE);
+                self.come.left.push(type_kind::BESIDE);
+                self.write(complete);
+                self.write(complete);
+            }
+            type_kind::EMPTY => self.leaf(&[slice_kind::NOTHING], kind),
+            leaf if complete || self.random.chance(self.pace.come) => self.leaf_come(leaf),
+            type_kind::CUE => self.leaf(&[slice_kind::CUE_AWAITED], kind),
+            _ => self.leaf(&[slice_kind::LEVEL_AWAITED], kind),
+        }
+    }
+
+    /// Whether the sequence at hand is crossed, though it need not be.
+    fn crosses(&mut self) -> bool {
+        let first = &self.tree[self.at..type_end(self.tree, self.at)];
+        let spent =
+            (first.iter()).all(|kind| matches!(*kind, type_kind::EMPTY | type_kind::BESIDE));
+        self.random.chance(if spent {
+            self.pace.cross_spent
+        } else {
+            self.pace.cross
+        })
+    }
+
+    fn leaf(&mut self, slice: &[u8], left: u8) {
+        self.come.slice.extend_from_slice(slice);
+        self.come.left.push(left);
+    }
+
+    fn leaf_come(&mut self, leaf: u8) {
+        if leaf == type_kind::CUE {
+            self.leaf(&[slice_kind::CUE_COME], type_kind::EMPTY);
+        } else {
+            let any = self.random.number() as u16;
+            let [high, low] = self
+                .random
+                .pick(&[0, 1, 255, 256, 65_535, any])
+                .to_be_bytes();
+            self.leaf(&[slice_kind::LEVEL_COME, high, low], type_kind::EMPTY);
+        }
+    }
+
+    fn in_first(&mut self) {
+        self.come.slice.push(slice_kind::IN_FIRST);
+        self.come.left.push(type_kind::SEQUENCE);
+        self.write(false);
+        let second = self.at;
+        self.at = type_end(self.tree, second);
+        self.come
+            .left
+            .extend_from_slice(&self.tree[second..self.at]);
+    }
+
+    fn crossed(&mut self, complete: bool) {
+        self.come.slice.push(slice_kind::CROSSED);
+        let before = self.come.left.len();
+        self.write(true);
+        self.come.left.truncate(before);
+        self.write(complete);
+    }
+}

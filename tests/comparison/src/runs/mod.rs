@@ -1,0 +1,203 @@
+//! Runs: a list of feeds, refused slices and short buffers among them, each handed the very bytes
+//! that the last accepted one has written.
+
+use crate::calls::asking::{Asking, Fed};
+use crate::calls::call::{Call, Operation};
+use crate::calls::comparison::compare;
+use crate::formats::fault;
+use crate::formats::files::{contents, decimal, section};
+use crate::formats::trees::type_of;
+use crate::generators::damage::{damage, few_bytes, SLICE_KINDS};
+use crate::generators::feeds::accepted_patch;
+use crate::generators::random::Random;
+use crate::generators::slices::{slice_at, Pace};
+use crate::runs::demand::Demand;
+use crate::runs::recut::recut;
+use crate::tallies::feeds::Position;
+use crate::tallies::Tally;
+
+mod demand;
+pub(crate) mod recut;
+
+/// An accepted feed of a run: the patch that it was handed, its slice, what it sent and left.
+#[derive(Clone, Debug)]
+pub struct Step {
+    pub patch: Vec<u8>,
+    pub slice: Vec<u8>,
+    pub fed: Fed,
+}
+
+/// How a run is made.
+#[derive(Clone, Copy, Debug)]
+struct Plan {
+    /// At most so many.
+    feeds: usize,
+    pace: Pace,
+    /// The chances, in a hundred, of a slice that need not fit and of buffers that need not.
+    faults: usize,
+    short: usize,
+}
+
+impl Plan {
+    fn any(random: &mut Random) -> Self {
+        let feeds = match random.below(20) {
+            0 => 0,
+            1..=2 => 1,
+            3..=8 => random.between(2, 10),
+            9..=16 => random.between(10, 40),
+            _ => random.between(40, 120),
+        };
+        Plan {
+            feeds,
+            pace: Pace::gentle(random),
+            faults: random.pick(&[0, 0, 10, 10, 30, 30, 100]),
+            short: random.pick(&[0, 10, 30]),
+        }
+    }
+}
+
+/// Makes runs that follow from a seed.
+#[derive(Debug)]
+pub struct Runs {
+    random: Random,
+}
+
+impl Runs {
+    /// The runs of a seed.
+    pub fn new(seed: u64) -> Self {
+        Runs {
+            random: Random::new(seed),
+        }
+    }
+
+    /// Makes one run, compares every call, and holds demand 3 to it; then cuts its stream anew.
+    pub fn compare_run(&mut self, noise: &mut Random, tally: &mut Tally) -> Result<(), String> {
+        let plan = Plan::any(&mut self.random);
+        let old = self.random.chance(30);
+        let mut run = Run {
+            plan,
+            feeds: 0,
+            steps: Vec::new(),
+            patch: accepted_patch(&mut self.random, old),
+            slice: Vec::new(),
+        };
+        let start = run.patch.clone();
+        let told = |text: String| format!("{text}\n{}", run_so_far(&start, &[]));
+        let demand = Demand::new(&mut Asking { noise }, &start).map_err(told)?;
+        let demand = run
+            .go(&mut self.random, noise, tally, demand)
+            .map_err(|text| format!("{text}\n{}", run_so_far(&start, &run.steps)))?;
+        tally.runs.add_run(&run.steps, run.feeds, old);
+        if !run.steps.is_empty() {
+            let anew = recut(&mut self.random, &mut Asking { noise }, &demand, &run.steps)
+                .map_err(|text| format!("{text}\n{}", run_so_far(&start, &run.steps)))?;
+            tally.runs.add_recut(&anew);
+        }
+        Ok(())
+    }
+}
+
+/// Whether nothing of the input of a patch is left to come.
+pub fn is_spent(patch: &[u8]) -> bool {
+    type_of(contents(patch)).is_nullable()
+}
+
+fn run_so_far(start: &[u8], steps: &[Step]) -> String {
+    let mut text = format!("in a run from the patch {}\n", decimal(start));
+    for step in steps {
+        let (slice, output) = (decimal(&step.slice), decimal(&step.fed.output));
+        text += &format!("  accepted {slice}, sent {output}\n");
+    }
+    text
+}
+
+/// A run under way.
+struct Run {
+    plan: Plan,
+    /// The calls so far, and the accepted ones among them.
+    feeds: usize,
+    steps: Vec<Step>,
+    /// The bytes that the last accepted feed wrote, or those of the start.
+    patch: Vec<u8>,
+    /// The slice of the last call, accepted or not.
+    slice: Vec<u8>,
+}
+
+impl Run {
+    /// Makes every call of the run, and holds the demand after each that is accepted and at the end.
+    fn go(
+        &mut self,
+        random: &mut Random,
+        noise: &mut Random,
+        tally: &mut Tally,
+        mut demand: Demand,
+    ) -> Result<Demand, String> {
+        while self.feeds < self.plan.feeds && !self.is_over(random) {
+            let call = self.next_call(random);
+            self.feeds += 1;
+            self.slice.clone_from(&call.files[1]);
+            let agreed = compare(&call, noise)?;
+            tally.runs.add_feed(agreed.answer.number, &call.files[1])?;
+            if agreed.answer.number != fault::ACCEPTED {
+                continue;
+            }
+            let position = Position::InRun {
+                after: self.steps.len(),
+            };
+            tally.feeds.add(position, &call.files, &agreed.files)?;
+            self.accept(agreed.files);
+            let step = self.steps.last().expect("one was accepted");
+            demand.after(&mut Asking { noise }, &step.slice, &step.fed)?;
+        }
+        demand.as_one(&mut Asking { noise }, &self.patch)?;
+        Ok(demand)
+    }
+
+    /// Some feeds after all has come, a run need not go on.
+    fn is_over(&self, random: &mut Random) -> bool {
+        self.feeds > 0 && is_spent(&self.patch) && random.chance(30)
+    }
+
+    /// The patch that was written is handed to the next call.
+    fn accept(&mut self, files: Vec<Vec<u8>>) {
+        let [output, left] = <[Vec<u8>; 2]>::try_from(files).expect("Feed writes two files");
+        let patch = std::mem::replace(&mut self.patch, left.clone());
+        self.steps.push(Step {
+            patch,
+            slice: self.slice.clone(),
+            fed: Fed { output, left },
+        });
+    }
+
+    fn next_call(&self, random: &mut Random) -> Call {
+        let files = vec![self.patch.clone(), self.next_slice(random)];
+        let mut call = Call::roomy(Operation::Feed, files);
+        if random.chance(self.plan.short) {
+            let which = random.below(2);
+            let needs = call.needs()[which];
+            let any = random.below(needs + 1);
+            call.lent[which] = random.pick(&[needs, needs.saturating_sub(1), 0, any]);
+        }
+        call
+    }
+
+    /// A slice of what is left of the input, or one that need not be.
+    fn next_slice(&self, random: &mut Random) -> Vec<u8> {
+        let pace = match random.below(20) {
+            0..=1 => Pace::NOTHING,
+            2 => Pace::any(random),
+            3 if random.chance(20) => Pace::ALL,
+            _ => self.plan.pace,
+        };
+        let mut slice = section(&slice_at(random, pace, contents(&self.patch)).slice);
+        if random.chance(self.plan.faults) {
+            match random.below(4) {
+                // What comes once more is refused, unless it brought nothing.
+                0 => slice.clone_from(&self.slice),
+                1 => slice = few_bytes(random, SLICE_KINDS),
+                _ => damage(random, &mut slice, SLICE_KINDS),
+            }
+        }
+        slice
+    }
+}

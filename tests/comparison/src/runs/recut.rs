@@ -1,0 +1,66 @@
+//! The stream of a run, cut anew: neighbouring slices are joined at random and fed.
+
+use crate::calls::asking::{Asking, Fed};
+use crate::formats::files::{contents, section};
+use crate::generators::random::Random;
+use crate::runs::demand::Demand;
+use crate::runs::Step;
+
+/// What a new cut was like.
+#[derive(Clone, Copy, Debug, Default)]
+pub struct Anew {
+    /// How many feeds it had, and how many of them brought several slices as one.
+    pub feeds: usize,
+    pub joined: usize,
+}
+
+/// Feeds the stream of these steps in other slices. Each group sends its outputs, joined, and
+/// leaves the patch that its last step left; and demand 3 holds of the new cut, whose joined slices
+/// and outputs are those of the run.
+pub fn recut(
+    random: &mut Random,
+    asking: &mut Asking,
+    run: &Demand,
+    steps: &[Step],
+) -> Result<Anew, String> {
+    let start = &steps[0].patch;
+    let mut anew = Anew::default();
+    let mut demand = Demand::new(asking, start)?;
+    let mut patch = start.clone();
+    let most = random.pick(&[2, 3, 8, 30]);
+    let mut rest = steps;
+    while !rest.is_empty() {
+        let (group, others) = rest.split_at(random.between(1, most.min(rest.len())));
+        let slice = joined_slices(asking, &patch, group)?;
+        let fed = asking.feed(&patch, &slice)?;
+        if fed != joined_feeds(asking, &patch, group)? {
+            return Err("cut anew, the stream sends or leaves something else".to_string());
+        }
+        demand.after(asking, &slice, &fed)?;
+        anew.feeds += 1;
+        anew.joined += usize::from(group.len() > 1);
+        patch = fed.left;
+        rest = others;
+    }
+    if demand.joined() != run.joined() {
+        return Err("cut anew, the stream is not the same as before".to_string());
+    }
+    demand.as_one(asking, &patch)?;
+    Ok(anew)
+}
+
+/// The slices of a group as one, joined against the input type in force.
+fn joined_slices(asking: &mut Asking, patch: &[u8], group: &[Step]) -> Result<Vec<u8>, String> {
+    let input = section(contents(patch));
+    asking.join_all(&input, group.iter().map(|step| step.slice.as_slice()))
+}
+
+/// What the group has sent, joined against the output type in force, and what its last step left.
+fn joined_feeds(asking: &mut Asking, patch: &[u8], group: &[Step]) -> Result<Fed, String> {
+    let given = asking.check(patch)?;
+    let outputs = group.iter().map(|step| step.fed.output.as_slice());
+    Ok(Fed {
+        output: asking.join_all(&given, outputs)?,
+        left: group[group.len() - 1].fed.left.clone(),
+    })
+}

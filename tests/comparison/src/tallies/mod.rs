@@ -1,0 +1,154 @@
+//! What was answered, counted.
+
+use std::fmt;
+
+use crate::calls::call::{Call, Operation};
+use crate::calls::comparison::Agreed;
+use crate::formats::fault;
+use crate::tallies::feeds::{FeedTally, Position};
+use crate::tallies::patches::PatchTally;
+use crate::tallies::runs::RunTally;
+
+mod cases;
+pub(crate) mod feeds;
+mod patches;
+mod runs;
+
+/// The numbers that the operations can answer.
+const NUMBERS: [u32; 13] = [
+    fault::ACCEPTED,
+    fault::CUT_SHORT,
+    fault::UNLISTED,
+    fault::LEFT_OVER,
+    fault::TYPE_TOO_LARGE,
+    fault::TOO_MANY_NODES,
+    fault::NOT_NULLABLE,
+    fault::WRONG_SHAPE,
+    fault::SLICE_CUT_SHORT,
+    fault::SLICE_UNLISTED,
+    fault::SLICE_LEFT_OVER,
+    fault::SLICE_MISPLACED,
+    fault::NO_ROOM,
+];
+
+/// Fewer calls than this are not judged by what they met: what is seldom, late in a run, might be
+/// missed by chance.
+const JUDGED_FROM: u64 = 300_000;
+
+/// The least share of accepted calls, in per cent.
+const LEAST_ACCEPTED: u64 = 30;
+
+/// Whether the operation can answer this number.
+fn is_possible(operation: Operation, number: u32) -> bool {
+    match number {
+        fault::TOO_MANY_NODES | fault::NOT_NULLABLE | fault::WRONG_SHAPE => operation.takes_patch(),
+        fault::SLICE_CUT_SHORT
+        | fault::SLICE_UNLISTED
+        | fault::SLICE_LEFT_OVER
+        | fault::SLICE_MISPLACED => operation != Operation::Check,
+        fault::NO_ROOM => operation != Operation::Admit,
+        _ => true,
+    }
+}
+
+/// How often each number was answered by each operation.
+#[derive(Clone, Debug, Default)]
+pub struct Tally {
+    counts: [[u64; NUMBERS.len()]; Operation::ALL.len()],
+    complete: u64,
+    patches: PatchTally,
+    /// The accepted feeds, alone and in runs.
+    pub feeds: FeedTally,
+    /// The runs, whose feeds are not among the calls.
+    pub runs: RunTally,
+}
+
+impl Tally {
+    /// Counts one answer. A number that the operation does not have is an error.
+    pub fn add(&mut self, call: &Call, agreed: &Agreed) -> Result<(), String> {
+        let (operation, answer) = (call.operation, &agreed.answer);
+        let column = NUMBERS
+            .iter()
+            .position(|number| *number == answer.number && is_possible(operation, *number))
+            .ok_or_else(|| format!("{operation:?} answers {}", answer.number))?;
+        self.counts[operation as usize][column] += 1;
+        if operation == Operation::Admit && answer.complete == 1 {
+            self.complete += 1;
+        }
+        if operation == Operation::Check {
+            self.patches.add(&call.files[0], answer);
+        }
+        if operation == Operation::Feed && answer.number == fault::ACCEPTED {
+            self.feeds
+                .add(Position::Alone, &call.files, &agreed.files)?;
+        }
+        Ok(())
+    }
+
+    /// All calls of an operation.
+    fn calls(&self, operation: Operation) -> u64 {
+        self.counts[operation as usize].iter().sum()
+    }
+
+    /// All calls outside runs.
+    pub fn total(&self) -> u64 {
+        self.counts.iter().flatten().sum()
+    }
+
+    /// What a comparison of this length should have met and did not.
+    pub fn gaps(&self) -> Vec<String> {
+        if self.total() < JUDGED_FROM {
+            return Vec::new();
+        }
+        let mut gaps = self.patches.gaps();
+        gaps.extend(self.feeds.gaps());
+        gaps.extend(self.runs.gaps());
+        for operation in Operation::ALL {
+            let counts = &self.counts[operation as usize];
+            if counts[0] * 100 < self.calls(operation) * LEAST_ACCEPTED {
+                gaps.push(format!(
+                    "{operation:?}: fewer than {LEAST_ACCEPTED} % accepted"
+                ));
+            }
+            for (number, count) in NUMBERS.iter().zip(counts) {
+                if is_possible(operation, *number) && *count == 0 {
+                    gaps.push(format!("{operation:?}: {number} was never answered"));
+                }
+            }
+        }
+        gaps
+    }
+}
+
+impl fmt::Display for Tally {
+    fn fmt(&self, out: &mut fmt::Formatter<'_>) -> fmt::Result {
+        write!(out, "{:<10}{:>9}{:>10}", "operation", "calls", "accepted")?;
+        for number in NUMBERS {
+            write!(out, "{number:>8}")?;
+        }
+        for operation in Operation::ALL {
+            let counts = &self.counts[operation as usize];
+            let calls = self.calls(operation);
+            let share = 100.0 * counts[0] as f64 / calls.max(1) as f64;
+            write!(
+                out,
+                "\n{:<10}{calls:>9}{share:>8.1} %",
+                format!("{operation:?}")
+            )?;
+            for (number, count) in NUMBERS.iter().zip(counts) {
+                if is_possible(operation, *number) {
+                    write!(out, "{count:>8}")?;
+                } else {
+                    write!(out, "{:>8}", "-")?;
+                }
+            }
+        }
+        let admitted = self.counts[Operation::Admit as usize][0];
+        writeln!(
+            out,
+            "\nof {admitted} admitted slices {} were complete",
+            self.complete
+        )?;
+        write!(out, "\n{}\n{}\n{}", self.patches, self.feeds, self.runs)
+    }
+}

@@ -1,0 +1,144 @@
+//! What runs were like, counted.
+
+use std::fmt;
+
+use second_interpreter::Slice;
+
+use crate::formats::fault;
+use crate::formats::files::contents;
+use crate::formats::trees::slice_tree;
+use crate::runs::recut::Anew;
+use crate::runs::{is_spent, Step};
+use crate::tallies::feeds::LATE;
+
+/// The numbers that a feed in a run can answer: its patch is always accepted.
+const NUMBERS: [u32; 6] = [
+    fault::ACCEPTED,
+    fault::SLICE_CUT_SHORT,
+    fault::SLICE_UNLISTED,
+    fault::SLICE_LEFT_OVER,
+    fault::SLICE_MISPLACED,
+    fault::NO_ROOM,
+];
+
+/// How often something was met, by its name.
+type Count = (u64, &'static str);
+
+/// What was met in runs.
+#[derive(Clone, Debug, Default)]
+pub struct RunTally {
+    numbers: [u64; NUMBERS.len()],
+    crossings: u64,
+    runs: u64,
+    old: u64,
+    without_feeds: u64,
+    none_accepted: u64,
+    late: u64,
+    spent: u64,
+    recuts: u64,
+    recut_feeds: u64,
+    joined: u64,
+}
+
+impl RunTally {
+    /// Counts one feed of a run. A number that it cannot have is an error.
+    pub fn add_feed(&mut self, number: u32, slice: &[u8]) -> Result<(), String> {
+        let column = (NUMBERS.iter().position(|known| *known == number))
+            .ok_or_else(|| format!("Feed answers {number} for a patch left in a run"))?;
+        self.numbers[column] += 1;
+        if number == fault::ACCEPTED {
+            self.crossings += u64::from(crosses(&slice_tree(contents(slice))));
+        }
+        Ok(())
+    }
+
+    /// Counts a run, by its accepted steps and all its feeds.
+    pub fn add_run(&mut self, steps: &[Step], feeds: usize, old: bool) {
+        self.runs += 1;
+        self.old += u64::from(old);
+        self.without_feeds += u64::from(feeds == 0);
+        self.none_accepted += u64::from(feeds > 0 && steps.is_empty());
+        self.late += u64::from(steps.len() > LATE);
+        let spent = |step: &Step| is_spent(&step.fed.left);
+        self.spent += u64::from(steps.last().is_some_and(spent));
+    }
+
+    /// Counts a stream that was cut anew.
+    pub fn add_recut(&mut self, anew: &Anew) {
+        self.recuts += 1;
+        self.recut_feeds += anew.feeds as u64;
+        self.joined += anew.joined as u64;
+    }
+
+    /// All runs.
+    pub fn total(&self) -> u64 {
+        self.runs
+    }
+
+    /// What runs should have met and did not.
+    pub fn gaps(&self) -> Vec<String> {
+        let mut gaps = Vec::new();
+        for (number, count) in NUMBERS.iter().zip(self.numbers) {
+            if count == 0 {
+                gaps.push(format!("no feed in a run was answered {number}"));
+            }
+        }
+        for (count, name) in self.of_runs().iter().chain(&self.of_feeds()) {
+            if *count == 0 {
+                gaps.push(format!("no {name}"));
+            }
+        }
+        gaps
+    }
+
+    fn of_runs(&self) -> [Count; 6] {
+        [
+            (self.old, "runs from a patch that earlier feeds left"),
+            (self.without_feeds, "runs without a feed"),
+            (
+                self.none_accepted,
+                "runs with feeds of which none was accepted",
+            ),
+            (self.late, "runs of more than ten accepted feeds"),
+            (self.spent, "runs to the end of the stream"),
+            (self.recuts, "runs whose stream was cut anew"),
+        ]
+    }
+
+    fn of_feeds(&self) -> [Count; 3] {
+        [
+            (self.crossings, "accepted feeds in runs that crossed"),
+            (self.recut_feeds, "feeds of streams cut anew"),
+            (self.joined, "of them with several slices as one"),
+        ]
+    }
+}
+
+/// Whether a sequence is crossed anywhere in the slice.
+fn crosses(slice: &Slice) -> bool {
+    match slice {
+        Slice::Crossed(..) => true,
+        Slice::Uncrossed(first) => crosses(first),
+        Slice::Beside(left, right) => crosses(left) || crosses(right),
+        _ => false,
+    }
+}
+
+impl fmt::Display for RunTally {
+    fn fmt(&self, out: &mut fmt::Formatter<'_>) -> fmt::Result {
+        let feeds: u64 = self.numbers.iter().sum();
+        writeln!(out, "{:>9} runs", self.runs)?;
+        for (count, name) in self.of_runs() {
+            writeln!(out, "{count:>9} {name}")?;
+        }
+        write!(out, "{feeds:>9} feeds in runs; by number:")?;
+        for (number, count) in NUMBERS.iter().zip(self.numbers) {
+            write!(out, "  {number}: {count}")?;
+        }
+        writeln!(out)?;
+        for (count, name) in self.of_feeds() {
+            writeln!(out, "{count:>9} {name}")?;
+        }
+        Ok(())
+    }
+}

@@ -1,0 +1,34 @@
+//! One stream, handed to the program, and all that comes of it held to what has to come.
+
+use crate::formats::expected;
+use crate::running::delivery::Delivery;
+use crate::running::process::Program;
+use crate::running::report::{difference, shown};
+use crate::streams::Case;
+
+/// Runs the program on the stream. Answers the lines, or says what is wrong: a byte of the output,
+/// something on standard error, a status other than 0, a line that comes late, no end.
+pub fn hold(program: &Program, case: &Case) -> Result<Vec<u8>, String> {
+    let expected = expected(&case.stream);
+    let ended = case.delivery.run(program, &case.stream, &expected)?;
+    let mut faults = ended.faults;
+    faults.extend(difference(&ended.output, &expected));
+    if faults.is_empty() {
+        return Ok(expected);
+    }
+    Err(format!("{}\n{}", faults.join("\n"), about(case)))
+}
+
+/// What the stream was.
+fn about(case: &Case) -> String {
+    let way = match &case.delivery {
+        // The list of pieces would be as long as the stream.
+        Delivery::Pieces(lengths) => format!("{} pieces", lengths.len()),
+        other => format!("{other:?}"),
+    };
+    format!(
+        "kind: {}\ndelivery: {way}\nstream, {}",
+        case.kind,
+        shown(&case.stream)
+    )
+}

@@ -1,0 +1,62 @@
+//! Streams that end: short ones, cut at every byte.
+
+use comparison::formats::files::{patch, section};
+use comparison::Random;
+
+use crate::formats::stream;
+use crate::streams::shows::short_run;
+
+/// A short stream has at most so many bytes.
+const SHORT: usize = 110;
+
+/// The stream cut at every length, and whole. The first turns have streams of their own.
+pub fn at_every_byte(turn: usize, random: &mut Random) -> Vec<Vec<u8>> {
+    let whole = match turn {
+        0 => stream(&[prepend(), section(&[1]), section(&[2])]),
+        1 => refused_slices(),
+        2 => stream(&[patch(&[1], &[1, 3, 0, 0]), section(&[1]), section(&[2])]),
+        3 => levels(),
+        _ => short(random),
+    };
+    (0..=whole.len()).map(|end| whole[..end].to_vec()).collect()
+}
+
+/// The patch of case 2.
+fn prepend() -> Vec<u8> {
+    patch(&[1], &[10, 14, 9, 2, 0])
+}
+
+/// Every number of a refused slice, with accepted ones between.
+fn refused_slices() -> Vec<u8> {
+    stream(&[
+        prepend(),
+        section(&[3]),
+        Vec::new(),
+        section(&[1]),
+        section(&[200]),
+        section(&[2, 2]),
+        section(&[2]),
+        section(&[2]),
+        section(&[0]),
+    ])
+}
+
+/// Values that look like line feeds, lengths and kinds.
+fn levels() -> Vec<u8> {
+    stream(&[
+        patch(&[4, 2, 2], &[4, 6, 4, 5, 3, 255, 2]),
+        section(&[7, 4, 10, 13, 3]),
+        section(&[7, 0, 4, 0, 0]),
+        section(&[7, 0, 0]),
+    ])
+}
+
+/// Any short stream.
+pub fn short(random: &mut Random) -> Vec<u8> {
+    loop {
+        let stream = short_run(random);
+        if (20..=SHORT).contains(&stream.len()) {
+            return stream;
+        }
+    }
+}

@@ -1,0 +1,116 @@
+//! What a stream and its lines are like, as far as it is counted by name.
+
+use crate::formats::{line_ends, refuses_patch, Parts};
+use crate::running::delivery::Delivery;
+use crate::streams::Case;
+
+/// The longest line, with its line feed.
+const LONGEST_LINE: usize = 1_536;
+
+/// The place in an output at which a program's buffer might end.
+const OUTPUT_BOUNDARY: usize = 65_536;
+
+/// The ways in which a stream came.
+pub const WAYS: [&str; 6] = [
+    "through a pipe",
+    "in pieces",
+    "byte by byte",
+    "from a file",
+    "from /dev/null",
+    "through a pipe that stays open",
+];
+
+/// The way in which a stream came.
+pub fn way(delivery: &Delivery) -> usize {
+    match delivery {
+        Delivery::Pipe => 0,
+        Delivery::Pieces(lengths) if lengths.iter().any(|length| *length > 1) => 1,
+        Delivery::Pieces(_) => 2,
+        Delivery::File => 3,
+        Delivery::Null => 4,
+        Delivery::Open => 5,
+    }
+}
+
+/// What has to be met in some stream.
+pub const FEATURES: [&str; 14] = [
+    "no bytes at all",
+    "end inside the patch's length",
+    "end inside the patch file",
+    "end behind the patch, without a slice",
+    "end inside a slice's length",
+    "end inside a slice file",
+    "refused patch with files behind it",
+    "refused slice with an accepted one behind it",
+    "more than a hundred slices",
+    "all of the input has come",
+    "line of 1,536 characters",
+    "line of 1,536 characters across 64 KiB of output",
+    "more than 128 KiB of output",
+    "more than 1 MiB of input",
+];
+
+/// Whether each feature is there.
+pub fn features(case: &Case, parts: &Parts, output: &[u8]) -> [bool; FEATURES.len()] {
+    let (files, rest) = (parts.files.len(), parts.rest.len());
+    let refused = refuses_patch(output);
+    let lines: Vec<&[u8]> = output.split_inclusive(|byte| *byte == b'\n').collect();
+    let longest = longest_line(output);
+    [
+        case.stream.is_empty(),
+        files == 0 && rest == 1,
+        files == 0 && rest > 1,
+        files == 1 && rest == 0 && !refused,
+        files > 0 && rest == 1 && !refused,
+        files > 0 && rest > 1 && !refused,
+        files > 1 && refused,
+        lines
+            .windows(2)
+            .any(|pair| !is_accepted(pair[0]) && is_accepted(pair[1])),
+        files > 101 && !refused,
+        lines.last().is_some_and(|line| is_spent(line)),
+        longest.is_some(),
+        longest.is_some_and(|(begin, end)| begin < OUTPUT_BOUNDARY && OUTPUT_BOUNDARY < end),
+        output.len() > 2 * OUTPUT_BOUNDARY,
+        case.stream.len() > 1 << 20,
+    ]
+}
+
+fn is_accepted(line: &[u8]) -> bool {
+    line.starts_with(b"0 ")
+}
+
+/// Whether the type left, the last field, has nothing but empty types side by side.
+fn is_spent(line: &[u8]) -> bool {
+    let field = line.rsplit(|byte| *byte == b' ').next().unwrap_or_default();
+    let kinds = field.trim_ascii_end().chunks(2);
+    is_accepted(line) && kinds.into_iter().all(|kind| kind == b"00" || kind == b"04")
+}
+
+/// Where a line of the greatest length begins and ends.
+fn longest_line(output: &[u8]) -> Option<(usize, usize)> {
+    let ends = line_ends(output);
+    let begins = std::iter::once(0).chain(ends.iter().copied());
+    begins
+        .zip(ends.iter().copied())
+        .find(|(begin, end)| end - begin == LONGEST_LINE)
+}
+
+/// How a file can lie about a place in the input.
+pub const PLACES: [&str; 5] = [
+    "contents across",
+    "contents begin at",
+    "length across",
+    "begins at",
+    "begins a byte behind",
+];
+
+/// How a file, whose length is here, lies about the boundary.
+pub fn place(begin: usize, file: &[u8], boundary: usize) -> Option<usize> {
+    match (begin + 2).checked_sub(boundary) {
+        None if begin + 2 + file.len() > boundary => Some(0),
+        None => None,
+        Some(behind @ 0..=3) => Some(behind + 1),
+        Some(_) => None,
+    }
+}
