@@ -1,4 +1,4 @@
-//! The numbers of answers, by the names that the header gives them.
+//! The numbers of answers, by the names of `Fault` in `crates/stream`.
 
 /// The call was accepted.
 pub const ACCEPTED: u32 = 0;

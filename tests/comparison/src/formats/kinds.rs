@@ -1,4 +1,5 @@
-//! The kinds of types, slices and nodes, by the names that the definitions and the C programs give them.
+//! The kinds of types, slices and nodes, by the names of the definitions in `crates/stream` and
+//! `crates/node`, or where these differ by document 01's words.
 
 /// The kinds of types.
 pub mod type_kind {
