@@ -11,9 +11,8 @@ use comparison::Operation;
 
 use crate::nodes::{
     chains, cue_then_lanes, lanes, largest, nodes_of, seeking, silent_largest, tree_of, MOST_NODES,
-    PATCH_SIZES,
 };
-use crate::patches::pass_on_growing_types;
+use crate::patches::{growing_patches, pass_on_growing_types, OF_PASS};
 use crate::rows::{claiming, lengthened, Group, Row, LARGEST};
 use crate::streams::{slice_tree, type_tree, Shape, Share};
 
@@ -176,28 +175,12 @@ fn crossing() -> Vec<Fed> {
 
 /// One node on types of a growing size, and patches of a growing number of nodes.
 pub fn growing() -> Vec<Row> {
-    let mut rows: Vec<Row> = pass_on_growing_types()
-        .into_iter()
+    let on_types = pass_on_growing_types().into_iter();
+    let patches = growing_patches(OF_PASS, &[PASS]).into_iter();
+    on_types
         .map(|(group, name, file)| row(group, (name, file, Share::Half)))
-        .collect();
-    let series = [
-        ("pairs of pass, balanced", Shape::Balanced, BOTH),
-        ("chains of pass, deep left", Shape::DeepLeft, CHAIN),
-        ("chains of pass, deep right", Shape::DeepRight, CHAIN),
-    ];
-    for (series, shape, fork) in series {
-        for nodes in PATCH_SIZES {
-            let group = Group::Growing {
-                series,
-                nodes,
-                largest: MOST_NODES,
-            };
-            let name = format!("{series}, {nodes} nodes");
-            let tree = tree_of(shape, nodes, fork, &|_| vec![PASS]);
-            rows.push(row(group, (name, patch(&[CUE], &tree), Share::All)));
-        }
-    }
-    rows
+        .chain(patches.map(|(group, name, file)| row(group, (name, file, Share::All))))
+        .collect()
 }
 
 /// Refused calls: with long files, and with a fault at the very end of the largest files.
@@ -206,51 +189,33 @@ pub fn refused() -> Vec<Row> {
     let nodes = nodes_of(Shape::DeepLeft, CHAIN, &silent_largest());
     let file = patch(&levels, &nodes);
     let slice = section(&slice_tree(&levels, Share::All));
+    let long_patch = lengthened(&file, 1 << 20);
+    let long_slice = lengthened(&slice, 1 << 20);
+    let claims = claiming(lengthened(&slice, 65_537));
+    let chains = patch(&levels, &[CHAIN; 65_535]);
     let cut = section(&slice[2..slice.len() - 1]);
     let mut misplaced = slice.clone();
     let last = misplaced.len() - 3;
     misplaced[last] = slice_kind::CUE_COME;
-    let rows = [
-        (
-            "patch file of a mebibyte",
-            lengthened(&file, 1 << 20),
-            slice.clone(),
-        ),
-        (
-            "slice file of a mebibyte",
-            file.clone(),
-            lengthened(&slice, 1 << 20),
-        ),
-        (
-            "slice claims 65,535 bytes, full",
-            file.clone(),
-            claiming(lengthened(&slice, 65_537)),
-        ),
-        (
-            "65,535 chains",
-            patch(&levels, &[CHAIN; 65_535]),
-            slice.clone(),
-        ),
-        ("slice cut at its last byte", file.clone(), cut),
-        (
-            "misplaced kind at the end of the slice",
-            file.clone(),
-            misplaced,
-        ),
-        (
-            "wrong shape in the last node",
-            patch(&levels, &wrong_shape_at_the_end()),
-            slice,
-        ),
-    ];
-    rows.into_iter()
-        .map(|(name, patch, slice)| Row {
-            group: Group::Refused,
-            name: name.to_string(),
-            operation: Operation::Feed,
-            files: vec![patch, slice],
-        })
-        .collect()
+    let misshapen = patch(&levels, &wrong_shape_at_the_end());
+    vec![
+        refusal("patch file of a mebibyte", &long_patch, &slice),
+        refusal("slice file of a mebibyte", &file, &long_slice),
+        refusal("slice claims 65,535 bytes, full", &file, &claims),
+        refusal("65,535 chains", &chains, &slice),
+        refusal("slice cut at its last byte", &file, &cut),
+        refusal("misplaced kind at the end of the slice", &file, &misplaced),
+        refusal("wrong shape in the last node", &misshapen, &slice),
+    ]
+}
+
+fn refusal(name: &str, patch: &[u8], slice: &[u8]) -> Row {
+    Row {
+        group: Group::Refused,
+        name: name.to_string(),
+        operation: Operation::Feed,
+        files: vec![patch.to_vec(), slice.to_vec()],
+    }
 }
 
 fn wrong_shape_at_the_end() -> Vec<u8> {

@@ -88,64 +88,49 @@ pub fn pass_on_growing_types() -> Vec<(Group, String, Vec<u8>)> {
 
 /// One node on types of a growing size, and patches of a growing number of nodes.
 pub fn growing() -> Vec<Row> {
-    let mut rows: Vec<Row> = pass_on_growing_types()
+    let silent = [&[SILENT], lanes(LEAF_TYPE, EMPTY).as_slice()].concat();
+    let mut patches = pass_on_growing_types();
+    patches.extend(growing_patches(OF_PASS, &[PASS]));
+    patches.extend(growing_patches(OF_SILENT, &silent));
+    patches
         .into_iter()
         .map(|(group, name, file)| row(group, &name, file))
-        .collect();
-    rows.extend(growing_patches());
-    rows
+        .collect()
 }
 
-/// Patches on one cue, with the least that can be at a leaf, or with a type at each.
-fn growing_patches() -> Vec<Row> {
-    let silent = [&[SILENT], lanes(LEAF_TYPE, EMPTY).as_slice()].concat();
-    let series = [
-        ("pairs of pass, balanced", Shape::Balanced, BOTH, vec![PASS]),
-        (
-            "chains of pass, deep left",
-            Shape::DeepLeft,
-            CHAIN,
-            vec![PASS],
-        ),
-        (
-            "chains of pass, deep right",
-            Shape::DeepRight,
-            CHAIN,
-            vec![PASS],
-        ),
-        (
-            "pairs of silent, balanced",
-            Shape::Balanced,
-            BOTH,
-            silent.clone(),
-        ),
-        (
-            "chains of silent, deep left",
-            Shape::DeepLeft,
-            CHAIN,
-            silent.clone(),
-        ),
-        (
-            "chains of silent, deep right",
-            Shape::DeepRight,
-            CHAIN,
-            silent,
-        ),
-    ];
-    let mut rows = Vec::new();
-    for (series, shape, fork, leaf) in series {
+/// Patches that are followed as they grow: their name, their shape and the kind of their forks.
+type Series = (&'static str, Shape, u8);
+
+/// With the least that can be at a leaf.
+pub const OF_PASS: [Series; 3] = [
+    ("pairs of pass, balanced", Shape::Balanced, BOTH),
+    ("chains of pass, deep left", Shape::DeepLeft, CHAIN),
+    ("chains of pass, deep right", Shape::DeepRight, CHAIN),
+];
+
+/// With a type at each leaf.
+const OF_SILENT: [Series; 3] = [
+    ("pairs of silent, balanced", Shape::Balanced, BOTH),
+    ("chains of silent, deep left", Shape::DeepLeft, CHAIN),
+    ("chains of silent, deep right", Shape::DeepRight, CHAIN),
+];
+
+/// Patches on one cue, all leaves alike: the group, a name, and the patch.
+pub fn growing_patches(all: [Series; 3], leaf: &[u8]) -> Vec<(Group, String, Vec<u8>)> {
+    let mut patches = Vec::new();
+    for (series, shape, fork) in all {
         for nodes in PATCH_SIZES {
             let group = Group::Growing {
                 series,
                 nodes,
                 largest: MOST_NODES,
             };
+            let tree = tree_of(shape, nodes, fork, &|_| leaf.to_vec());
             let name = format!("{series}, {nodes} nodes");
-            let nodes = tree_of(shape, nodes, fork, &|_| leaf.clone());
-            rows.push(row(group, &name, patch(&[CUE], &nodes)));
+            patches.push((group, name, patch(&[CUE], &tree)));
         }
     }
-    rows
+    patches
 }
 
 /// Refused calls: with long files, and with the fault at the very end of the largest patches.
