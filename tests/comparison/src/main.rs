@@ -7,6 +7,7 @@
 use std::process::ExitCode;
 use std::time::{Duration, Instant};
 
+use comparison::calls::library;
 use comparison::{compare, limits, Calls, Random, Runs, Tally};
 
 /// After so many calls there is a run.
@@ -43,6 +44,9 @@ fn options(mut words: impl Iterator<Item = String>) -> Option<Options> {
 
 fn run(options: &Options, tally: &mut Tally) -> Result<(), String> {
     let begin = Instant::now();
+    if library::abi() != library::ABI {
+        return Err(format!("the archive is of ABI {}", library::abi()));
+    }
     // What is in the buffers and beside everything comes from a generator of its own: it has
     // no say in which calls are made.
     let mut noise = Random::new(!options.seed);

@@ -34,7 +34,11 @@ pub struct Fed {
     pub patch: usize,
 }
 
+/// The binary interface that these declarations are of.
+pub const ABI: u32 = 1;
+
 extern "C" {
+    fn wosthile_abi() -> u32;
     fn wosthile_check(
         patch: *const u8,
         patch_length: usize,
@@ -92,6 +96,12 @@ fn start_mut(bytes: &mut [u8]) -> *mut u8 {
     } else {
         bytes.as_mut_ptr()
     }
+}
+
+/// Calls `wosthile_abi`: the interface that the archive was built for.
+pub fn abi() -> u32 {
+    // SAFETY: it takes nothing and touches nothing.
+    unsafe { wosthile_abi() }
 }
 
 /// Calls `wosthile_check`.
