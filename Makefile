@@ -88,9 +88,18 @@ proving = mkdir -p target; echo '$(strip $(1)), with its log in $(PROVER_LOG):';
 	$(1) 2>&1 | tee $(PROVER_LOG) | sed -n 's/^rt: /  /p' || { tail -n 40 $(PROVER_LOG); exit 1; }
 
 # A program is one file and what all programs share.
-SHARED = $(wildcard examples/shared/*.c)
-$(EXAMPLES): target/%: examples/%.c $(SHARED) $(wildcard examples/shared/*.h) include/wosthile.h $(ARCHIVE)
-	$(CC) $(CFLAGS) -Iinclude -Iexamples/shared -pthread $(filter %.c,$^) $(ARCHIVE) -o $@
+HEADERS = $(wildcard examples/shared/*.h) include/wosthile.h
+SHARED = $(patsubst examples/shared/%.c,target/shared/%.o,$(wildcard examples/shared/*.c))
+$(SHARED): target/shared/%.o: examples/shared/%.c $(HEADERS)
+	@mkdir -p target/shared
+	$(CC) $(CFLAGS) -Iinclude -c $< -o $@
+
+target/shared/libshared.a: $(SHARED)
+	@rm -f $@
+	ar rcs $@ $^
+
+$(EXAMPLES): target/%: examples/%.c target/shared/libshared.a $(HEADERS) $(ARCHIVE)
+	$(CC) $(CFLAGS) -Iinclude -Iexamples/shared -pthread $< target/shared/libshared.a $(ARCHIVE) -o $@
 
 fuzz: $(ARCHIVE)
 	$(CARGO) run $(CHECKED) --package comparison -- --seconds $(SECONDS) --seed $(SEED)

@@ -10,16 +10,33 @@ title() {
     printf '\n== %s\n\n' "$1"
 }
 
+# Writes a picture to a file in one go, so that a failed one leaves the last picture: draws FILE COMMAND
+draws() {
+    local file=$1
+    shift
+    "$@" >"$file.new"
+    mv "$file.new" "$file"
+    echo "$file: open it in a browser."
+}
+
+title "Explained: the patch of $name as a person reads it, the first and the last lines of all that explain prints."
+target/explain "$show" >"target/$name.explained"
+head -n 16 "target/$name.explained"
+echo "  .. ($(wc -l <"target/$name.explained") lines in target/$name.explained)"
+tail -n 6 "target/$name.explained"
+
+title "A refusal: a slice of a cue and a level side by side that says that a cue comes where the level is due."
+target/explain --slice '0 3 4 1 2' '0 3 7 2 2' && exit 1
+
 title "$name at 60 frames a second. Slices are late (seed $seed), so that two or three come as one:"
 target/frame_loop "$show" --seed "$seed"
 
 title "Rehearsed: the recording is cut anew a thousand times, and every joined output and last patch is compared."
 target/rehearsal "$show" 1000 "$seed"
 
-title "Drawn: the show as it was recorded, and as seed $seed cuts it."
-target/timeline "$show" 0 "$seed" >"target/$name.svg.new"
-mv "target/$name.svg.new" "target/$name.svg"
-echo "target/$name.svg: open it in a browser."
+title "Drawn: the show as it was recorded and as seed $seed cuts it, and its patch."
+draws "target/$name.svg" target/timeline "$show" 0 "$seed"
+draws "target/${name}_patch.svg" target/diagram "$show"
 
 title "Fed by the program, runner: for each slice a number and, if it is 0, what is sent and the input type left, in hexadecimal.
    The last lines that differ from the one before, with the number of their slice:"

@@ -13,8 +13,8 @@
  *
  * Files. A section is a count of two bytes, the high byte first, and then that many bytes. They hold one tree in
  * preorder: the root, then its parts from left to right. Each node of a tree begins with the byte of its kind
- * (enum wosthile_type_kind, wosthile_slice_kind and wosthile_node_kind). A type file and a slice file are one section; a
- * patch file is two, the type of its input and then its nodes. All values below are decimal.
+ * (enum wosthile_type_kind, wosthile_slice_kind and wosthile_node_kind). A type file and a slice file are one section;
+ * a patch file is two, the type of its input and then its nodes. All values below are decimal.
  *
  * A type is nullable if it is 0, or a 4 with both parts nullable; a sequence never is. A type has at most 255 nodes,
  * wherever it arises, and a patch at most 63; the nodes of a type that silent carries count for that type alone.
@@ -34,8 +34,8 @@
  * the slice together, from left to right: at a cue, 2 says that it comes now and 1 that it does not; at a level, 4 and
  * two bytes or 3; at an empty part there is 0; at a sequence 5 goes on in its first part, and the second has no bytes
  * yet; 6 goes through its first part and then into the second, and what is left of the sequence is what is left of the
- * second part; at parts side by side 7 goes through both. examples/shared/lanes.c does this, and keeps which leaf of the
- * first type each one is.
+ * second part; at parts side by side 7 goes through both. examples/shared/lanes.c does this, and keeps which leaf of
+ * the first type each one is.
  *
  * Every call ends, whatever the bytes and the lengths of the files; there is nothing to test before it.
  *
