@@ -100,7 +100,16 @@ size_t type_part(struct file section, size_t place, unsigned part)
     return within(section, place);
 }
 
-size_t count_of(struct file file) { return file.bytes[0] * 256u + file.bytes[1]; }
+unsigned value_at(struct file section, size_t place, unsigned value_bytes)
+{
+    unsigned value = 0;
+    for (size_t byte = place; byte < place + value_bytes; byte++) {
+        value = value * 256 + section.bytes[byte];
+    }
+    return value;
+}
+
+size_t count_of(struct file file) { return value_at(file, 0, 2); }
 
 struct file section_of(struct file file)
 {

@@ -65,6 +65,9 @@ size_t node_end(struct file section, size_t place);
 /* The place of a part of the type's node at a place; part 0 is the first one. */
 size_t type_part(struct file section, size_t place, unsigned part);
 
+/* The value of so many bytes from a place on, the high byte first. */
+unsigned value_at(struct file section, size_t place, unsigned value_bytes);
+
 /* The contents of the section at the front of a file, as far as the file goes. */
 struct file section_of(struct file file);
 

@@ -73,17 +73,12 @@ void list_type(const struct listed *listed, size_t section, size_t end)
     list_type_part(&walk, 0);
 }
 
-/* Adds the value behind a kind, as far as its bytes are there. */
+/* Adds the value behind a kind, if there is one and all its bytes are there. */
 static void add_value(struct text *text, const struct walk *walk, unsigned value_bytes)
 {
-    unsigned value = 0;
-    if (value_bytes == 0 || walk->byte + value_bytes >= walk->end) {
-        return;
+    if (value_bytes > 0 && walk->byte + value_bytes < walk->end) {
+        text_add(text, " %u", value_at(walk->listed->file, walk->byte + 1, value_bytes));
     }
-    for (unsigned byte = 1; byte <= value_bytes; byte++) {
-        value = value * 256 + walk->listed->file.bytes[walk->byte + byte];
-    }
-    text_add(text, " %u", value);
 }
 
 /* The slice of the part of the type in force at a node. */

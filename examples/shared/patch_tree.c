@@ -68,9 +68,7 @@ static size_t read_node(struct patch_tree *tree, struct file nodes, size_t place
     node->kind = nodes.bytes[place];
     node->depth = depth;
     node->byte = place;
-    for (size_t byte = place + 1; byte < next; byte++) {
-        node->value = node->value * 256 + nodes.bytes[byte];
-    }
+    node->value = value_at(nodes, place + 1, kind->value_bytes);
     if (kind->carries_type) {
         node->carried = type_of(cut_out(nodes, next, type_end(nodes, next)));
         next = type_end(nodes, next);

@@ -207,14 +207,20 @@ static void try_node_kind(uint8_t kind)
     try_shape(kind);
 }
 
+/* A slice of a kind, on a type of each kind. */
+static void try_slice_on_types(uint8_t kind)
+{
+    for (uint8_t type = 0; is_listed(type_kind(type)->name); type++) {
+        try_slice_kind(kind, type);
+    }
+}
+
 static void try_tables(void)
 {
     for (unsigned kind = 0; kind < 256; kind++) {
         try_type_kind((uint8_t)kind);
+        try_slice_on_types((uint8_t)kind);
         try_node_kind((uint8_t)kind);
-        for (uint8_t type = 0; is_listed(type_kind(type)->name); type++) {
-            try_slice_kind((uint8_t)kind, type);
-        }
     }
 }
 
@@ -439,25 +445,30 @@ static bool is_above(const struct patch_node *node, const struct patch_node *oth
     return node->byte < other->byte && other->byte < node->end;
 }
 
-/* Up to the refused node all is well. */
-static void try_nodes_before(const struct patch_tree *tree, struct file patch)
+/* All is well with a node that is not the refused one; what follows that one is left open. */
+static bool is_well(const struct patch_node *node, const struct patch_node *refused)
+{
+    if (is_above(node, refused)) {
+        return node->takes_input;
+    }
+    bool before = node->byte < refused->byte, part = refused->takes_input && is_above(refused, node);
+    return (!before && !part) || (node->number == WOSTHILE_ACCEPTED && node->input.length > 0);
+}
+
+/* Nothing is wrong before the refused node, and nothing in its parts if it takes its input. */
+static void try_other_nodes(const struct patch_tree *tree, struct file patch)
 {
     const struct patch_node *refused = &tree->nodes[tree->refused];
     expect(refused->number == tree->number, "the refused node has another number", patch);
-    for (size_t index = 0; index < tree->refused; index++) {
+    for (size_t index = 0; index < tree->count; index++) {
         const struct patch_node *node = &tree->nodes[index];
-        bool well = is_above(node, refused) ? node->takes_input : node->number == WOSTHILE_ACCEPTED;
-        expect(well && node->input.length > 0, "a node before the refused one is wrong", patch);
-    }
-    for (size_t index = tree->refused + 1; refused->takes_input && index < tree->count; index++) {
-        const struct patch_node *node = &tree->nodes[index];
-        expect(!is_above(refused, node) || node->number == WOSTHILE_ACCEPTED, "a part is refused before it", patch);
+        expect(node == refused || is_well(node, refused), "another node is wrong before the refused one", patch);
     }
 }
 
 /* With a node in its place that takes everything, the fault is gone, is found later, or is a type too large above it.
  */
-static void try_other_node(struct subject subject, const struct patch_tree *tree)
+static void try_good_node(struct subject subject, const struct patch_tree *tree)
 {
     static const uint8_t silent[2] = {WOSTHILE_NODE_SILENT, WOSTHILE_TYPE_EMPTY};
     static struct patch_tree now;
@@ -545,8 +556,8 @@ static void try_place(struct subject *subject)
         }
     }
     if (fault.at == AT_NODE) {
-        try_nodes_before(&tree, file);
-        try_other_node(*subject, &tree);
+        try_other_nodes(&tree, file);
+        try_good_node(*subject, &tree);
     }
 }
 
@@ -636,16 +647,20 @@ static void try_large(const struct repeated *large)
     }
 }
 
-static void try_all_met(void)
+/* Each of these has been met; which one has not is told by its number. */
+static void expect_met(const char *what, const size_t *met, const uint8_t *due, size_t count)
 {
-    static const uint32_t numbers[] = {0, 1, 2, 3, 4, 5, 6, 7, 11, 12, 13, 14};
-    for (size_t at = 0; at <= AT_NODE; at++) {
-        expect(met_places[at] > 0, "a kind of place was not met", (struct file){(const uint8_t[]){(uint8_t)at}, 1});
+    for (size_t index = 0; index < count; index++) {
+        expect(met[due[index]] > 0, what, (struct file){&due[index], 1});
     }
-    for (size_t index = 0; index < sizeof numbers / sizeof numbers[0]; index++) {
-        expect(met_numbers[numbers[index]] > 0, "a number was not met",
-               (struct file){(const uint8_t[]){(uint8_t)numbers[index]}, 1});
-    }
+}
+
+static void expect_all_met(void)
+{
+    static const uint8_t numbers[] = {0, 1, 2, 3, 4, 5, 6, 7, 11, 12, 13, 14};
+    static const uint8_t places[] = {AT_CUT_COUNT, AT_LARGE_COUNT, AT_SECTION_END, AT_BYTE, AT_BEHIND, AT_NODE};
+    expect_met("a number was not met", met_numbers, numbers, sizeof numbers);
+    expect_met("a place was not met", met_places, places, sizeof places);
 }
 
 /* ---- shows, cut and damaged ---- */
@@ -671,6 +686,16 @@ static size_t try_slices(const struct show *show, struct patch *patch, struct la
     return refused;
 }
 
+/* A show that ends inside a slice is told so, with its frame; the answer is 1 if it does. */
+static size_t try_end(const struct show *show)
+{
+    char text[MESSAGE_BYTES], due[MESSAGE_BYTES];
+    show_unfinished_text(text, sizeof text, &show->unfinished);
+    snprintf(due, sizeof due, "the slice of frame %zu: ", show->count + 1);
+    expect(show->unfinished.frame == 0 || strstr(text, due) != NULL, text, show->patch);
+    return show->unfinished.frame != 0;
+}
+
 static size_t try_show(const char *path)
 {
     static struct patch patch;
@@ -688,7 +713,7 @@ static size_t try_show(const char *path)
         try_text(text, show.patch);
     } else if (lanes_start(&lanes, patch_input_type(&patch))) {
         expect(text[0] == '\0', "an accepted patch has a fault", show.patch);
-        refused = try_slices(&show, &patch, &lanes) + (show.unfinished.frame != 0);
+        refused = try_slices(&show, &patch, &lanes) + try_end(&show);
     }
     show_release(&show);
     return refused;
@@ -738,15 +763,20 @@ static void try_damaged_show(const char *path, const char *written)
     try_damages(written, &show);
 }
 
+static void try_large_trees(void)
+{
+    for (size_t index = 0; index < sizeof large_trees / sizeof large_trees[0]; index++) {
+        try_large(&large_trees[index]);
+    }
+}
+
 static void try_all_files(void)
 {
     for (unsigned trial = 0; trial < TRIALS; trial++) {
         try_random_files();
     }
-    for (size_t index = 0; index < sizeof large_trees / sizeof large_trees[0]; index++) {
-        try_large(&large_trees[index]);
-    }
-    try_all_met();
+    try_large_trees();
+    expect_all_met();
 }
 
 int main(int count, char **words)
