@@ -251,19 +251,23 @@ static void explain_frame(struct playing *playing, size_t index)
     print_events("is sent", &sent, &playing->names->out);
 }
 
-static enum status explain_end(const struct playing *playing)
+/* Tells the slice in which the show file ends, if it ends in one. */
+static void print_unfinished(const struct show *show)
 {
-    const struct show *show = playing->show;
-    bool broken_off = show->unfinished.frame != 0;
-    printf("%zu slices: %zu bring something, %zu bring nothing, %zu are refused.\n", show->count, playing->bringing,
-           show->count - playing->bringing - playing->refused, playing->refused);
-    lanes_print_owed(&playing->in, &playing->names->in);
-    if (broken_off) {
-        char text[MESSAGE_BYTES];
+    char text[MESSAGE_BYTES];
+    if (show->unfinished.frame != 0) {
         show_unfinished_text(text, sizeof text, &show->unfinished);
         printf("At the end %s.\n", text);
     }
-    return playing->refused > 0 || broken_off ? STATUS_REFUSED : STATUS_DONE;
+}
+
+static enum status explain_end(const struct playing *playing)
+{
+    const struct show *show = playing->show;
+    printf("%zu slices: %zu bring something, %zu bring nothing, %zu are refused.\n", show->count, playing->bringing,
+           show->count - playing->bringing - playing->refused, playing->refused);
+    lanes_print_owed(&playing->in, &playing->names->in);
+    return playing->refused > 0 || show->unfinished.frame != 0 ? STATUS_REFUSED : STATUS_DONE;
 }
 
 static enum status explain_slices(struct playing *playing)
@@ -293,7 +297,10 @@ static enum status explain_show(const char *path, const struct show *show, bool 
     enum status status = explain_patch(&listed, &names->out);
     if (accepted) {
         status = explain_slices(playing);
+    } else {
+        printf("Without a patch no slice can be fed.\n");
     }
+    print_unfinished(show);
     free(names);
     free(playing);
     return status;
