@@ -176,9 +176,13 @@ explains_damaged_shows() {
 }
 
 holds "build explain" build explain examples/explain.c
-holds "build the test of faults" build faults tests/c/faults.c
+for test in kinds faults damaged_shows; do
+    holds "build the test of $test" build "$test" "tests/c/$test.c"
+done
 [ "$failed" -eq 0 ] || exit 1
-holds "the places of faults" "$folder/faults" "$folder/damaged.show" examples/shows/*.show
+holds "the tables of kinds" "$folder/kinds"
+holds "the places of faults" "$folder/faults"
+holds "damaged shows" "$folder/damaged_shows" "$folder/damaged.show" examples/shows/*.show
 for show in examples/shows/*.show; do
     holds "$show explained" explains_as_stored "$show"
     holds "$show damaged and explained" explains_damaged_shows "$show"

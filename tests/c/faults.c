@@ -1,230 +1,17 @@
 /*
- * The places of faults, and the tables of kinds that they are found with.
- *
- *   faults SHOW..
- *
- * The tables are held to the library: it accepts a tree with exactly the parts, the values and the carried types that
- * they list. Random files are then grown byte by byte, so that the library accepts them, and damaged. What can be said
- * for sure of the place of a fault is tried:
+ * The places of faults. Random files are grown byte by byte, so that the library accepts them, and damaged. What can be
+ * said for sure of the place of a fault is tried:
  *
  *   - while reading, one byte less and the library asks for more; other bytes behind the place change nothing; with a
  *     byte that is due in its place the fault is gone or comes later; and it is never before the byte that was damaged;
- *   - at a node, all nodes before it are accepted on their inputs and those above it take theirs; with a node in its
- *     place that takes everything, the fault is gone or comes later.
+ *   - at a node, nothing is wrong before it or in its parts; with a node in its place that takes everything, the fault
+ *     is gone or comes later.
  *
- * Last, the shows that are named are cut at every byte and damaged at random: every refusal has a place in its file.
+ * The files are made with the tables of kinds, so these are tried first, by kinds.c.
  */
-#include "arrivals.h"
-#include "faults.h"
-#include "program.h"
+#include "made.h"
 
-#include <stdio.h>
-#include <stdlib.h>
-#include <string.h>
-
-enum { TRIALS = 1500, DAMAGES = 300, FILE_BYTES = WOSTHILE_PATCH_FILE_MAX + 600 };
-
-static uint64_t random_state = 1;
-static size_t failures;
-
-static unsigned draw(unsigned below) { return (unsigned)(next_random(&random_state) % below); }
-
-/* A file that is being made. */
-struct made {
-    size_t length;
-    uint8_t bytes[FILE_BYTES];
-};
-
-static struct file file_of(const struct made *made) { return (struct file){made->bytes, made->length}; }
-
-static void print_file(const char *what, struct file file)
-{
-    fprintf(stderr, "  %s:", what);
-    for (size_t place = 0; place < file.length; place++) {
-        fprintf(stderr, " %d", file.bytes[place]);
-    }
-    fprintf(stderr, "\n");
-}
-
-/* Counts what does not hold, and prints the file that it does not hold for. */
-static void expect(bool holds, const char *what, struct file file)
-{
-    if (!holds) {
-        failures++;
-        print_file(what, file);
-    }
-}
-
-/* Appends a section to a file. */
-static void put(struct made *made, const uint8_t *bytes, size_t count)
-{
-    made->bytes[made->length] = (uint8_t)(count / 256);
-    made->bytes[made->length + 1] = (uint8_t)(count % 256);
-    memcpy(made->bytes + made->length + 2, bytes, count);
-    made->length += 2 + count;
-}
-
-static struct made section(const uint8_t *bytes, size_t count)
-{
-    struct made made = {.length = 0};
-    put(&made, bytes, count);
-    return made;
-}
-
-static uint32_t slice_number(struct file type, struct file slice)
-{
-    return wosthile_admit(type.bytes, type.length, slice.bytes, slice.length).number;
-}
-
-static uint32_t patch_number(struct file patch)
-{
-    uint8_t type[WOSTHILE_TYPE_FILE_MAX];
-    return wosthile_check(patch.bytes, patch.length, type, sizeof type).number;
-}
-
-/* ---- the tables ---- */
-
-static bool is_listed(const char *name) { return strcmp(name, UNLISTED_KIND) != 0; }
-
-/* A type of a kind is whole with as many parts as its row has, and with no other number of them. */
-static void try_type_kind(uint8_t kind)
-{
-    uint8_t bytes[1 + PARTS_MAX + 1] = {kind};
-    unsigned parts = type_kind(kind)->parts;
-    struct made shorter = section(bytes, parts), whole = section(bytes, 1 + parts), longer = section(bytes, 2 + parts);
-    if (!is_listed(type_kind(kind)->name)) {
-        expect(type_number(file_of(&whole)) == WOSTHILE_FAULT_UNLISTED, "a listed type has no row", file_of(&whole));
-        return;
-    }
-    expect(type_number(file_of(&shorter)) == WOSTHILE_FAULT_CUT_SHORT, "a type with a part less", file_of(&shorter));
-    expect(type_number(file_of(&whole)) == WOSTHILE_ACCEPTED, "a type with its parts", file_of(&whole));
-    expect(type_number(file_of(&longer)) == WOSTHILE_FAULT_LEFT_OVER, "a type with a part more", file_of(&longer));
-}
-
-/* The slice of a kind of a type whose parts are a cue and a level, all come; the answer is its length. */
-static size_t slice_of_kind(uint8_t kind, uint8_t *bytes)
-{
-    static const uint8_t come[PARTS_MAX][3] = {{WOSTHILE_SLICE_CUE_COME}, {WOSTHILE_SLICE_LEVEL_COME, 1, 1}};
-    static const size_t lengths[PARTS_MAX] = {1, 3};
-    const struct slice_kind *row = slice_kind(kind);
-    size_t length = 1 + row->value_bytes;
-    bytes[0] = kind;
-    for (unsigned part = 0; part < row->parts; part++) {
-        memcpy(bytes + length, come[row->part[part]], lengths[row->part[part]]);
-        length += lengths[row->part[part]];
-    }
-    return length;
-}
-
-/* A slice of a kind belongs to the kind of type in its row and to no other, and is whole with what its row lists. */
-static void try_slice_kind(uint8_t kind, uint8_t type_of)
-{
-    static const uint8_t parts[PARTS_MAX] = {WOSTHILE_TYPE_CUE, WOSTHILE_TYPE_LEVEL};
-    uint8_t type_bytes[1 + PARTS_MAX] = {type_of}, bytes[16] = {0};
-    memcpy(type_bytes + 1, parts, sizeof parts);
-    struct made type = section(type_bytes, 1 + type_kind(type_of)->parts);
-    size_t length = slice_of_kind(kind, bytes);
-    struct made shorter = section(bytes, length - 1), whole = section(bytes, length),
-                longer = section(bytes, length + 1);
-    struct file of = file_of(&type);
-    if (!is_listed(slice_kind(kind)->name)) {
-        expect(slice_number(of, file_of(&whole)) == WOSTHILE_FAULT_SLICE_UNLISTED, "a listed slice has no row",
-               file_of(&whole));
-        return;
-    }
-    if (slice_kind(kind)->of != type_of) {
-        expect(slice_number(of, file_of(&whole)) == WOSTHILE_FAULT_SLICE_MISPLACED, "a slice of another type",
-               file_of(&whole));
-        return;
-    }
-    expect(slice_number(of, file_of(&shorter)) == WOSTHILE_FAULT_SLICE_CUT_SHORT, "a slice cut", file_of(&shorter));
-    expect(slice_number(of, file_of(&whole)) == WOSTHILE_ACCEPTED, "a slice by its row", file_of(&whole));
-    expect(slice_number(of, file_of(&longer)) == WOSTHILE_FAULT_SLICE_LEFT_OVER, "a slice and more", file_of(&longer));
-}
-
-/* A node of a kind with silent parts, as its row has it; the answer is its length. */
-static size_t node_of_kind(uint8_t kind, uint8_t *bytes)
-{
-    const struct node_kind *row = node_kind(kind);
-    size_t length = 1 + row->value_bytes + row->carries_type;
-    memset(bytes, 0, length);
-    bytes[0] = kind;
-    for (unsigned part = 0; part < row->parts; part++) {
-        bytes[length++] = WOSTHILE_NODE_SILENT;
-        bytes[length++] = WOSTHILE_TYPE_EMPTY;
-    }
-    return length;
-}
-
-/* What the library says of nodes on an input, given as contents of sections. */
-static uint32_t nodes_number(struct file input, const uint8_t *nodes, size_t count)
-{
-    struct made patch = section(input.bytes, input.length);
-    put(&patch, nodes, count);
-    return patch_number(file_of(&patch));
-}
-
-/* The shape of a row with the part at a place replaced by a cue, which is no fork. */
-static struct made without_fork(struct file shape, size_t place)
-{
-    struct made made = {.length = place + 1};
-    size_t end = type_end(shape, place);
-    memcpy(made.bytes, shape.bytes, place);
-    made.bytes[place] = WOSTHILE_TYPE_CUE;
-    memcpy(made.bytes + made.length, shape.bytes + end, shape.length - end);
-    made.length += shape.length - end;
-    return made;
-}
-
-/* The node takes the shape of its row; without any one of the shape's forks it does not; any part may be anything. */
-static void try_shape(uint8_t kind)
-{
-    uint8_t nodes[16];
-    size_t length = node_of_kind(kind, nodes);
-    struct file shape = node_kind(kind)->takes;
-    for (size_t place = 0; place < shape.length; place++) {
-        bool fork = type_kind(shape.bytes[place])->parts > 0;
-        struct made other = without_fork(shape, place);
-        uint32_t number = nodes_number(file_of(&other), nodes, length);
-        expect(number == (fork ? WOSTHILE_FAULT_WRONG_SHAPE : WOSTHILE_ACCEPTED), "a shape", file_of(&other));
-    }
-}
-
-static void try_node_kind(uint8_t kind)
-{
-    uint8_t nodes[16] = {0};
-    if (!is_listed(node_kind(kind)->name)) {
-        nodes[0] = kind;
-        expect(nodes_number((struct file){nodes + 1, 1}, nodes, 1) == WOSTHILE_FAULT_UNLISTED,
-               "a listed node has no row", (struct file){nodes, 1});
-        return;
-    }
-    size_t length = node_of_kind(kind, nodes);
-    struct file shape = node_kind(kind)->takes, whole = {nodes, length};
-    expect(nodes_number(shape, nodes, length - 1) == WOSTHILE_FAULT_CUT_SHORT, "a node cut", whole);
-    expect(nodes_number(shape, nodes, length) == WOSTHILE_ACCEPTED, "a node by its row", whole);
-    expect(nodes_number(shape, nodes, length + 1) == WOSTHILE_FAULT_LEFT_OVER, "a node and more", whole);
-    try_shape(kind);
-}
-
-/* A slice of a kind, on a type of each kind. */
-static void try_slice_on_types(uint8_t kind)
-{
-    for (uint8_t type = 0; is_listed(type_kind(type)->name); type++) {
-        try_slice_kind(kind, type);
-    }
-}
-
-static void try_tables(void)
-{
-    for (unsigned kind = 0; kind < 256; kind++) {
-        try_type_kind((uint8_t)kind);
-        try_slice_on_types((uint8_t)kind);
-        try_node_kind((uint8_t)kind);
-    }
-}
-
-/* ---- files, grown at random so that the library accepts them, and damaged ---- */
+enum { TRIALS = 1500 };
 
 enum tree { TYPE, SLICE, NODES };
 
@@ -323,27 +110,6 @@ static uint32_t grow(struct subject *subject)
     } while (is_cut_short(number));
     return number;
 }
-
-/* Changes a byte, takes one out or puts one in, at random; the answer is its place. */
-static size_t damage(struct made *made, size_t from)
-{
-    size_t place = from + draw((unsigned)(made->length - from)), behind = made->length - place - 1;
-    unsigned way = draw(4);
-    uint8_t byte = (uint8_t)(draw(2) == 0 ? draw(256) : draw(16));
-    if (way == 0) {
-        memmove(made->bytes + place, made->bytes + place + 1, behind);
-        made->length--;
-    } else if (way == 1 && made->length < FILE_BYTES) {
-        memmove(made->bytes + place + 1, made->bytes + place, behind + 1);
-        made->bytes[place] = byte;
-        made->length++;
-    } else {
-        made->bytes[place] = byte;
-    }
-    return place;
-}
-
-/* ---- what is sure of a place ---- */
 
 /*
  * The fault is gone, or is found later; a fault at a node comes after all reading. A tree that becomes too large does
@@ -498,16 +264,6 @@ static void try_accepted(const struct patch_tree *tree, struct file patch)
     }
 }
 
-/* The text begins with the place, which is in the file or at its end. */
-static void try_text(const char *text, struct file file)
-{
-    size_t byte = 0;
-    int read = 0;
-    bool has_place = sscanf(text, "byte %zu%n", &byte, &read) == 1 && read > 0;
-    expect(has_place && byte <= file.length, text, file);
-    expect(strstr(text, ": ") != NULL && strlen(text) > 20 && strlen(text) < MESSAGE_BYTES - 1, text, file);
-}
-
 static void try_fault_text(const struct subject *subject, struct fault fault)
 {
     char text[MESSAGE_BYTES] = "";
@@ -580,8 +336,8 @@ static void try_subject(struct subject *subject)
     try_place(subject);
     try_one_byte(*subject);
     struct subject hurt = *subject;
-    damage(&hurt.file, 0);
-    damage(&hurt.file, 0);
+    damage(&hurt.file);
+    damage(&hurt.file);
     try_place(&hurt);
 }
 
@@ -663,106 +419,6 @@ static void expect_all_met(void)
     expect_met("a place was not met", met_places, places, sizeof places);
 }
 
-/* ---- shows, cut and damaged ---- */
-
-/* The refusals of a show as explain tells them: each has a place in its file. */
-static size_t try_slices(const struct show *show, struct patch *patch, struct lanes *lanes)
-{
-    size_t refused = 0;
-    for (size_t index = 0; index < show->count; index++) {
-        char text[MESSAGE_BYTES];
-        struct lane_events events;
-        uint8_t output[WOSTHILE_SLICE_FILE_MAX];
-        bool accepted = patch_feed(patch, show->slices[index], output).number == WOSTHILE_ACCEPTED;
-        slice_fault_text(text, sizeof text, lanes, show->slices[index], NULL);
-        expect(accepted == (text[0] == '\0'), "the feed and the text disagree", show->slices[index]);
-        if (accepted) {
-            lanes_follow(lanes, show->slices[index], &events);
-        } else {
-            try_text(text, show->slices[index]);
-            refused++;
-        }
-    }
-    return refused;
-}
-
-/* A show that ends inside a slice is told so, with its frame; the answer is 1 if it does. */
-static size_t try_end(const struct show *show)
-{
-    char text[MESSAGE_BYTES], due[MESSAGE_BYTES];
-    show_unfinished_text(text, sizeof text, &show->unfinished);
-    snprintf(due, sizeof due, "the slice of frame %zu: ", show->count + 1);
-    expect(show->unfinished.frame == 0 || strstr(text, due) != NULL, text, show->patch);
-    return show->unfinished.frame != 0;
-}
-
-static size_t try_show(const char *path)
-{
-    static struct patch patch;
-    struct show show;
-    struct type output;
-    struct lanes lanes;
-    char text[MESSAGE_BYTES];
-    size_t refused = 1;
-    if (show_read(path, &show) != NULL) {
-        expect(strstr(show.fault, "before its patch does") != NULL, show.fault, (struct file){NULL, 0});
-        return refused;
-    }
-    patch_fault_text(text, sizeof text, show.patch, NULL);
-    if (patch_start(&patch, show.patch, &output) != WOSTHILE_ACCEPTED) {
-        try_text(text, show.patch);
-    } else if (lanes_start(&lanes, patch_input_type(&patch))) {
-        expect(text[0] == '\0', "an accepted patch has a fault", show.patch);
-        refused = try_slices(&show, &patch, &lanes) + try_end(&show);
-    }
-    show_release(&show);
-    return refused;
-}
-
-static size_t try_written(const char *path, const uint8_t *bytes, size_t length)
-{
-    FILE *stream = fopen(path, "wb");
-    if (stream == NULL || fwrite(bytes, 1, length, stream) != length || fclose(stream) != 0) {
-        stop("%s cannot be written", path);
-    }
-    return try_show(path);
-}
-
-static void try_cuts(const char *path, const struct made *show)
-{
-    for (size_t length = 0; length < show->length; length++) {
-        try_written(path, show->bytes, length);
-    }
-}
-
-/* Random damages; most of them have to be found. */
-static void try_damages(const char *path, const struct made *show)
-{
-    size_t found = 0;
-    for (unsigned time = 0; time < DAMAGES; time++) {
-        struct made hurt = *show;
-        damage(&hurt, 0);
-        found += try_written(path, hurt.bytes, hurt.length) > 0;
-    }
-    expect(found > DAMAGES / 2, "few damages of the show are found", (struct file){NULL, 0});
-}
-
-static void try_damaged_show(const char *path, const char *written)
-{
-    static struct made show;
-    FILE *stream = fopen(path, "rb");
-    if (stream == NULL) {
-        stop("%s cannot be opened", path);
-    }
-    show.length = fread(show.bytes, 1, FILE_BYTES, stream);
-    fclose(stream);
-    if (show.length == FILE_BYTES) {
-        stop("%s is too long for this test", path);
-    }
-    try_cuts(written, &show);
-    try_damages(written, &show);
-}
-
 static void try_large_trees(void)
 {
     for (size_t index = 0; index < sizeof large_trees / sizeof large_trees[0]; index++) {
@@ -770,27 +426,13 @@ static void try_large_trees(void)
     }
 }
 
-static void try_all_files(void)
+int main(int count, char **words)
 {
+    program_begin("faults\n\nTries the places of faults.\n", count, words);
     for (unsigned trial = 0; trial < TRIALS; trial++) {
         try_random_files();
     }
     try_large_trees();
     expect_all_met();
-}
-
-int main(int count, char **words)
-{
-    program_begin("faults FILE SHOW..\n\nTries the places of faults; FILE is written anew for each damaged show.\n",
-                  count, words);
-    try_tables();
-    if (failures == 0) { /* all else is made with the tables */
-        try_all_files();
-    }
-    for (int show = 2; show < count; show++) {
-        try_damaged_show(words[show], words[1]);
-    }
-    printf("places of faults: %u random files, %d shows: %zu failures\n", 9 * TRIALS, count > 2 ? count - 2 : 0,
-           failures);
-    return program_end(failures == 0 ? STATUS_DONE : STATUS_REFUSED);
+    return end_test("the places of faults");
 }

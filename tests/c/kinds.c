@@ -1,0 +1,150 @@
+/*
+ * The tables of kinds are held to the library: it accepts a tree with exactly the parts, the values, the carried types
+ * and the shapes that a row lists, and has no kind that lacks a row.
+ */
+#include "made.h"
+
+/* A type of a kind is whole with as many parts as its row has, and with no other number of them. */
+static void try_type_kind(uint8_t kind)
+{
+    uint8_t bytes[1 + PARTS_MAX + 1] = {kind};
+    unsigned parts = type_kind(kind)->parts;
+    struct made shorter = section(bytes, parts), whole = section(bytes, 1 + parts), longer = section(bytes, 2 + parts);
+    if (!is_listed(type_kind(kind)->name)) {
+        expect(type_number(file_of(&whole)) == WOSTHILE_FAULT_UNLISTED, "a listed type has no row", file_of(&whole));
+        return;
+    }
+    expect(type_number(file_of(&shorter)) == WOSTHILE_FAULT_CUT_SHORT, "a type with a part less", file_of(&shorter));
+    expect(type_number(file_of(&whole)) == WOSTHILE_ACCEPTED, "a type with its parts", file_of(&whole));
+    expect(type_number(file_of(&longer)) == WOSTHILE_FAULT_LEFT_OVER, "a type with a part more", file_of(&longer));
+}
+
+/* The slice of a kind of a type whose parts are a cue and a level, all come; the answer is its length. */
+static size_t slice_of_kind(uint8_t kind, uint8_t *bytes)
+{
+    static const uint8_t come[PARTS_MAX][3] = {{WOSTHILE_SLICE_CUE_COME}, {WOSTHILE_SLICE_LEVEL_COME, 1, 1}};
+    static const size_t lengths[PARTS_MAX] = {1, 3};
+    const struct slice_kind *row = slice_kind(kind);
+    size_t length = 1 + row->value_bytes;
+    bytes[0] = kind;
+    for (unsigned part = 0; part < row->parts; part++) {
+        memcpy(bytes + length, come[row->part[part]], lengths[row->part[part]]);
+        length += lengths[row->part[part]];
+    }
+    return length;
+}
+
+/* A slice of a kind belongs to the kind of type in its row and to no other, and is whole with what its row lists. */
+static void try_slice_kind(uint8_t kind, uint8_t type_of)
+{
+    static const uint8_t parts[PARTS_MAX] = {WOSTHILE_TYPE_CUE, WOSTHILE_TYPE_LEVEL};
+    uint8_t type_bytes[1 + PARTS_MAX] = {type_of}, bytes[16] = {0};
+    memcpy(type_bytes + 1, parts, sizeof parts);
+    struct made type = section(type_bytes, 1 + type_kind(type_of)->parts);
+    size_t length = slice_of_kind(kind, bytes);
+    struct made shorter = section(bytes, length - 1), whole = section(bytes, length),
+                longer = section(bytes, length + 1);
+    struct file of = file_of(&type);
+    if (!is_listed(slice_kind(kind)->name)) {
+        expect(slice_number(of, file_of(&whole)) == WOSTHILE_FAULT_SLICE_UNLISTED, "a listed slice has no row",
+               file_of(&whole));
+        return;
+    }
+    if (slice_kind(kind)->of != type_of) {
+        expect(slice_number(of, file_of(&whole)) == WOSTHILE_FAULT_SLICE_MISPLACED, "a slice of another type",
+               file_of(&whole));
+        return;
+    }
+    expect(slice_number(of, file_of(&shorter)) == WOSTHILE_FAULT_SLICE_CUT_SHORT, "a slice cut", file_of(&shorter));
+    expect(slice_number(of, file_of(&whole)) == WOSTHILE_ACCEPTED, "a slice by its row", file_of(&whole));
+    expect(slice_number(of, file_of(&longer)) == WOSTHILE_FAULT_SLICE_LEFT_OVER, "a slice and more", file_of(&longer));
+}
+
+/* A node of a kind with silent parts, as its row has it; the answer is its length. */
+static size_t node_of_kind(uint8_t kind, uint8_t *bytes)
+{
+    const struct node_kind *row = node_kind(kind);
+    size_t length = 1 + row->value_bytes + row->carries_type;
+    memset(bytes, 0, length);
+    bytes[0] = kind;
+    for (unsigned part = 0; part < row->parts; part++) {
+        bytes[length++] = WOSTHILE_NODE_SILENT;
+        bytes[length++] = WOSTHILE_TYPE_EMPTY;
+    }
+    return length;
+}
+
+/* What the library says of nodes on an input, given as contents of sections. */
+static uint32_t nodes_number(struct file input, const uint8_t *nodes, size_t count)
+{
+    struct made patch = section(input.bytes, input.length);
+    put(&patch, nodes, count);
+    return patch_number(file_of(&patch));
+}
+
+/* The shape of a row with the part at a place replaced by a cue, which is no fork. */
+static struct made without_fork(struct file shape, size_t place)
+{
+    struct made made = {.length = place + 1};
+    size_t end = type_end(shape, place);
+    memcpy(made.bytes, shape.bytes, place);
+    made.bytes[place] = WOSTHILE_TYPE_CUE;
+    memcpy(made.bytes + made.length, shape.bytes + end, shape.length - end);
+    made.length += shape.length - end;
+    return made;
+}
+
+/* The node takes the shape of its row; without any one of the shape's forks it does not; any part may be anything. */
+static void try_shape(uint8_t kind)
+{
+    uint8_t nodes[16];
+    size_t length = node_of_kind(kind, nodes);
+    struct file shape = node_kind(kind)->takes;
+    for (size_t place = 0; place < shape.length; place++) {
+        bool fork = type_kind(shape.bytes[place])->parts > 0;
+        struct made other = without_fork(shape, place);
+        uint32_t number = nodes_number(file_of(&other), nodes, length);
+        expect(number == (fork ? WOSTHILE_FAULT_WRONG_SHAPE : WOSTHILE_ACCEPTED), "a shape", file_of(&other));
+    }
+}
+
+static void try_node_kind(uint8_t kind)
+{
+    uint8_t nodes[16] = {0};
+    if (!is_listed(node_kind(kind)->name)) {
+        nodes[0] = kind;
+        expect(nodes_number((struct file){nodes + 1, 1}, nodes, 1) == WOSTHILE_FAULT_UNLISTED,
+               "a listed node has no row", (struct file){nodes, 1});
+        return;
+    }
+    size_t length = node_of_kind(kind, nodes);
+    struct file shape = node_kind(kind)->takes, whole = {nodes, length};
+    expect(nodes_number(shape, nodes, length - 1) == WOSTHILE_FAULT_CUT_SHORT, "a node cut", whole);
+    expect(nodes_number(shape, nodes, length) == WOSTHILE_ACCEPTED, "a node by its row", whole);
+    expect(nodes_number(shape, nodes, length + 1) == WOSTHILE_FAULT_LEFT_OVER, "a node and more", whole);
+    try_shape(kind);
+}
+
+/* A slice of a kind, on a type of each kind. */
+static void try_slice_on_types(uint8_t kind)
+{
+    for (uint8_t type = 0; is_listed(type_kind(type)->name); type++) {
+        try_slice_kind(kind, type);
+    }
+}
+
+static void try_tables(void)
+{
+    for (unsigned kind = 0; kind < 256; kind++) {
+        try_type_kind((uint8_t)kind);
+        try_slice_on_types((uint8_t)kind);
+        try_node_kind((uint8_t)kind);
+    }
+}
+
+int main(int count, char **words)
+{
+    program_begin("kinds\n\nTries the tables of kinds.\n", count, words);
+    try_tables();
+    return end_test("the tables of kinds");
+}
