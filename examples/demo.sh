@@ -1,5 +1,5 @@
 #!/usr/bin/env bash
-# What `make demo` shows, on a show file: examples/demo.sh SHOW. The programs stand in target/ (`make programs`).
+# What `make demo` shows, on a show file: examples/demo.sh SHOW. The programs are in target/ (`make programs`).
 set -eu
 cd "$(dirname "$0")/.."
 show=$1

@@ -1,6 +1,6 @@
-# shellcheck shell=bash
+# shellcheck shell=bash disable=SC2034 # the scripts read what is set here
 # What the scripts beside this one begin with. Their words are ARCHIVE [COMPILER [WORDS]]; this leaves them in the root
-# of the repository, with a folder for what they build and write.
+# of the repository, with a folder for what they build and write, a log, and whether anything failed.
 set -u
 archive=$(realpath "$1") || exit 2
 compiler=${2-gcc}
@@ -18,4 +18,18 @@ export ASAN_OPTIONS=exitcode=99 UBSAN_OPTIONS=halt_on_error=1:exitcode=99 TSAN_O
 build() {
     "$compiler" -std=c11 -Wall -Wextra -Werror -pedantic -Iinclude -Iexamples/shared -pthread "${words[@]}" "${@:2}" \
         examples/shared/*.c "$archive" -o "$folder/$1"
+}
+
+log=$folder/log
+failed=0
+
+# One thing that holds or does not; its output is shown only if it does not: holds WHAT COMMAND
+holds() {
+    local what=$1
+    shift
+    if ! "$@" >"$log" 2>&1; then
+        cat "$log"
+        echo "$what: FAILED"
+        failed=1
+    fi
 }

@@ -8,7 +8,6 @@
 source "$(dirname "$0")/building.sh"
 
 mkdir "$folder/made" "$folder/empty"
-failed=0
 
 # A program, how it is called with a FILE, and what its answer is: text on standard output, or files in a folder.
 programs='

@@ -8,20 +8,6 @@
 # shellcheck source=tests/c/building.sh
 source "$(dirname "$0")/building.sh"
 
-log=$folder/log
-failed=0
-
-# One thing that holds or does not; its output is shown only if it does not: holds WHAT COMMAND
-holds() {
-    local what=$1
-    shift
-    if ! "$@" >"$log" 2>&1; then
-        cat "$log"
-        echo "$what: FAILED"
-        failed=1
-    fi
-}
-
 # Explains and holds the exit status: explains STATUS WORDS
 explains() {
     local status=$1

@@ -4,12 +4,10 @@
 # shellcheck source=tests/c/building.sh
 source "$(dirname "$0")/building.sh" "$1" gcc -O1 -g -fsanitize=address,undefined -fno-sanitize-recover=all
 program=$folder/rehearsal
-log=$folder/log
 
 build rehearsal -Wl,--wrap=wosthile_feed examples/rehearsal.c tests/c/losing_feed.c || exit 1
 
 # Rehearses a show with a feed that loses something, or with the right one: expect STATUS TOLD SHOW [LOSING].
-failed=0
 expect() {
     local status=$1 told=$2 show=$3 losing=${4-}
     if [ -n "$losing" ]; then
@@ -31,5 +29,5 @@ for show in comet_to_saturn two_skies_evening lamp_fade; do
         expect 1 'makes a difference' "$show" "$losing"
     done
 done
-[ "$failed" -eq 0 ] && echo "the rehearsal finds what three wrong feeds lose, in three shows, and nothing in the right"
+[ "$failed" -eq 0 ] && echo "the rehearsal finds what three wrong feeds lose, in three shows, and nothing in the right one"
 exit "$failed"

@@ -7,20 +7,6 @@
 # shellcheck source=tests/c/building.sh
 source "$(dirname "$0")/building.sh"
 
-log=$folder/log
-failed=0
-
-# One thing that holds or does not; its output is shown only if it does not: holds WHAT COMMAND
-holds() {
-    local what=$1
-    shift
-    if ! "$@" >"$log" 2>&1; then
-        cat "$log"
-        echo "$what: FAILED"
-        failed=1
-    fi
-}
-
 for program in make_shows frame_loop rehearsal timeline; do
     holds "build $program" build "$program" "examples/$program.c"
 done
@@ -59,22 +45,6 @@ sends_the_same() {
 # What the frame loop sends and what is owed at the end. In one frame the lanes decide the order, so it is left out.
 sent() {
     timeout 60 "$folder/frame_loop" "$@" | grep -E '^(    |The input)' | sort
-}
-
-# The picture is XML, and has the panels that were asked for.
-draws() {
-    local show=$1
-    "$folder/timeline" "$show" 0 7 19 >"$folder/picture.svg" || return 1
-    [ "$(grep -c 'class="title"' "$folder/picture.svg")" -eq 3 ] || return 1
-    "$folder/timeline" "$show" 19 --frames 20 40 >"$folder/part.svg" || return 1
-    if command -v xmllint >/dev/null; then
-        xmllint --noout "$folder/picture.svg" "$folder/part.svg"
-    elif command -v python3 >/dev/null; then
-        python3 -c 'import sys, xml.dom.minidom as xml; [xml.parse(name) for name in sys.argv[1:]]' \
-            "$folder/picture.svg" "$folder/part.svg"
-    else
-        grep -q '^</svg>$' "$folder/picture.svg"
-    fi
 }
 
 # Cut short at some bytes, and damaged there, a show ends by itself: played, refused or not read, never with a fault.
@@ -210,7 +180,6 @@ for stored in examples/shows/*.expected; do
 done
 for show in examples/shows/*.show; do
     holds "$show is sent the same however it is cut" sends_the_same "$show"
-    holds "$show as a picture" draws "$show"
     holds "$show rehearsed" "$folder/rehearsal" "$show" 200
     holds "$show damaged" survives_damage "$show"
 done
