@@ -553,7 +553,7 @@ static enum status open_patch(const char *path, struct opened_show *opened)
     lane_names_read(&opened->names, path, LANES_MAX, LANES_MAX);
     if (number != WOSTHILE_ACCEPTED) {
         char place[MESSAGE_BYTES];
-        patch_fault_text(place, sizeof place, patch, &opened->names.in);
+        patch_fault_text(place, sizeof place, patch, &opened->names.in, NULL);
         tell("%s: the patch is refused with %u: %s\n    %s", path, number, wosthile_sentence(number), place);
         return STATUS_REFUSED;
     }
@@ -583,7 +583,7 @@ int main(int count, char **words)
     program_begin(help, count, words);
     bool patch_alone = count == 3 && strcmp(words[1], "--patch") == 0;
     if (!patch_alone && (count != 2 || words[1][0] == '-')) {
-        stop_for_words();
+        stop_for_words(NULL);
     }
     const char *path = words[count - 1];
     enum status status = patch_alone ? open_patch(path, &opened) : open_show(path, &opened);

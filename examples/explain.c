@@ -140,7 +140,7 @@ static enum status explain_slice(struct file type, struct file slice)
         return STATUS_DONE;
     }
     char place[MESSAGE_BYTES];
-    slice_fault_text(place, sizeof place, &lanes, slice, NULL);
+    slice_fault_text(place, sizeof place, &lanes, slice, NULL, NULL);
     print_refusal("The slice is", fault.number, place);
     return STATUS_REFUSED;
 }
@@ -172,11 +172,8 @@ static enum status explain_patch(const struct listed *listed, const struct side_
         explain_type_section(&output, "Output type, a file that Check writes", output.file.length, true);
     } else {
         char place[MESSAGE_BYTES];
-        patch_fault_text(place, sizeof place, listed->file, listed->names);
+        patch_fault_text(place, sizeof place, listed->file, listed->names, listed->show);
         print_refusal("The patch is", fault.number, place);
-        if (listed->in_show) {
-            printf("    This is byte %zu of the show.\n", listed->begins + fault.byte);
-        }
     }
     free(tree);
     return fault.number == WOSTHILE_ACCEPTED ? STATUS_DONE : STATUS_REFUSED;
@@ -205,26 +202,24 @@ static void print_events(const char *what, const struct lane_events *events, con
 static void print_frame(const struct playing *playing, size_t index)
 {
     struct file slice = playing->show->slices[index];
-    printf("frame %zu, the slice at byte %zu of the show\n", index + 1, (size_t)(slice.bytes - playing->show->bytes));
+    printf("frame %zu, the slice at byte %zu of the show\n", index + 1, show_place(playing->show, slice));
 }
 
 static void list_frame(const struct playing *playing, size_t index)
 {
     struct file slice = playing->show->slices[index], type = {playing->in.type, 2 + playing->in.nodes};
-    struct listed listed = {slice, true, (size_t)(slice.bytes - playing->show->bytes), &playing->names->in};
+    struct listed listed = {slice, playing->show, &playing->names->in};
     print_frame(playing, index);
     list_slice(&listed, &playing->in, slice_front(type, slice));
 }
 
 static void explain_refused(struct playing *playing, size_t index, uint32_t number)
 {
-    struct file slice = playing->show->slices[index], type = {playing->in.type, 2 + playing->in.nodes};
+    struct file slice = playing->show->slices[index];
     char what[MESSAGE_BYTES], place[MESSAGE_BYTES];
-    size_t begins = (size_t)(slice.bytes - playing->show->bytes);
-    slice_fault_text(place, sizeof place, &playing->in, slice, &playing->names->in);
+    slice_fault_text(place, sizeof place, &playing->in, slice, &playing->names->in, playing->show);
     snprintf(what, sizeof what, "frame %zu: the slice is", index + 1);
     print_refusal(what, number, place);
-    printf("    This is byte %zu of the show.\n", begins + slice_fault(type, slice).byte);
     playing->refused++;
 }
 
@@ -290,10 +285,9 @@ static enum status explain_show(const char *path, const struct show *show, bool 
                     lanes_start(&playing->in, patch_input_type(&playing->patch)) &&
                     lanes_start(&playing->out, type_file(&output));
     lane_names_read(names, path, accepted ? playing->in.count : LANES_MAX, accepted ? playing->out.count : LANES_MAX);
-    size_t begins = (size_t)(show->patch.bytes - show->bytes);
-    printf("Patch: %zu bytes, from byte %zu of the show; slices behind it: %zu\n", show->patch.length, begins,
-           show->count);
-    struct listed listed = {show->patch, true, begins, &names->in};
+    printf("Patch: %zu bytes, from byte %zu of the show; slices behind it: %zu\n", show->patch.length,
+           show_place(show, show->patch), show->count);
+    struct listed listed = {show->patch, show, &names->in};
     enum status status = explain_patch(&listed, &names->out);
     if (accepted) {
         status = explain_slices(playing);
@@ -345,7 +339,7 @@ int main(int count, char **words)
         return program_end(explain_words(count, words));
     }
     if ((count != 2 && !all) || words[1][0] == '-') {
-        stop_for_words();
+        stop_for_words(NULL);
     }
     return program_end(explain_show_file(words[1], all));
 }

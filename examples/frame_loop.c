@@ -184,7 +184,7 @@ static void deliver(struct player *player, size_t frame, size_t index)
         return;
     }
     char place[MESSAGE_BYTES];
-    slice_fault_text(place, sizeof place, &player->delivered, slice, &player->opened->names.in);
+    slice_fault_text(place, sizeof place, &player->delivered, slice, &player->opened->names.in, &player->opened->show);
     tell("frame %zu: recorded slice %zu is refused with %u, and left out: %s\n    %s", frame, index + 1, number,
          wosthile_sentence(number), place);
     player->refused++;
@@ -337,7 +337,7 @@ int main(int count, char **list)
     struct opened_show opened;
     program_begin(help, count, list);
     if (!read_words(count, list, &words)) {
-        stop_for_words();
+        stop_for_words(NULL);
     }
     setvbuf(stdout, NULL, _IOLBF, BUFSIZ); /* a line is seen at once, through a pipe too */
     enum status status = open_show(words.path, &opened);

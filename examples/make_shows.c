@@ -492,7 +492,7 @@ int main(int count, char **words)
     static const struct score *const scores[] = {&comet_to_saturn, &two_skies_evening, &lamp_fade, &damaged};
     program_begin(help, count, words);
     if (count != 2 || words[1][0] == '-') {
-        stop_for_words();
+        stop_for_words(NULL);
     }
     for (size_t index = 0; index < sizeof scores / sizeof scores[0]; index++) {
         make_file(words[1], scores[index], ".show", write_show);

@@ -103,7 +103,7 @@ static void tell_refusal(const struct opened_show *opened, size_t index, struct 
         return;
     }
     char place[MESSAGE_BYTES];
-    slice_fault_text(place, sizeof place, &opened->in, opened->show.slices[index], &opened->names.in);
+    slice_fault_text(place, sizeof place, &opened->in, opened->show.slices[index], &opened->names.in, &opened->show);
     tell("recorded slice %zu is refused with %u, and left out: %s\n    %s", index + 1, refusal.number, sentence, place);
 }
 
@@ -367,7 +367,7 @@ int main(int count, char **words)
     program_begin(help, count, words);
     if (count < 2 || count > 4 || words[1][0] == '-' || (count > 2 && !read_number(words[2], &cuts)) ||
         (count > 3 && !read_number(words[3], &seed)) || cuts == 0) {
-        stop_for_words();
+        stop_for_words(NULL);
     }
     enum status status = open_show(words[1], &opened);
     if (status == STATUS_DONE) {

@@ -627,7 +627,7 @@ int main(int count, char **list)
     static struct opened_show opened;
     program_begin(help, count, list);
     if (!read_words(count, list, &words)) {
-        stop_for_words();
+        stop_for_words(NULL);
     }
     enum status status = open_show(words.path, &opened);
     if (status == STATUS_DONE) {

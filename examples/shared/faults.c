@@ -132,6 +132,22 @@ static void add_slice_due(struct text *text, const struct byte_set *due)
     }
 }
 
+/* What a file is, and the show that it lies in; NULL if it lies in none. */
+struct within {
+    const char *what;
+    struct file file;
+    const struct show *show;
+};
+
+/* Adds the place of a fault, which every text begins with. */
+static void add_place(struct text *text, size_t byte, struct within within)
+{
+    text_add(text, "byte %zu", byte);
+    if (within.show != NULL) {
+        text_add(text, " of the %s, byte %zu of the show", within.what, show_place(within.show, within.file) + byte);
+    }
+}
+
 /* Adds what the fault is where its number and its place say all: counts, and bytes behind a whole tree. */
 static bool add_plain_fault(struct text *text, struct fault fault, struct file file)
 {
@@ -191,14 +207,14 @@ static void add_slice_byte(struct text *text, const struct lanes *in_force, stru
 }
 
 void slice_fault_text(char *to, size_t room, const struct lanes *in_force, struct file slice,
-                      const struct side_names *names)
+                      const struct side_names *names, const struct show *show)
 {
     struct text text = text_begin(to, room);
     struct fault fault = slice_fault((struct file){in_force->type, 2 + in_force->nodes}, slice);
     if (fault.number == WOSTHILE_ACCEPTED) {
         return;
     }
-    text_add(&text, "byte %zu", fault.byte);
+    add_place(&text, fault.byte, (struct within){"slice", slice, show});
     if (!add_plain_fault(&text, fault, slice)) {
         add_slice_byte(&text, in_force, slice, fault, names);
     }
@@ -235,10 +251,11 @@ static void add_tree_byte(struct text *text, struct file file, struct fault faul
 }
 
 /* Adds a fault that was found while reading a type file or a patch file; the type's section comes first in both. */
-static void add_reading_fault(struct text *text, struct file file, struct fault fault, const struct byte_set *due,
+static void add_reading_fault(struct text *text, struct within within, struct fault fault, const struct byte_set *due,
                               const struct side_names *names)
 {
-    text_add(text, "byte %zu", fault.byte);
+    struct file file = within.file;
+    add_place(text, fault.byte, within);
     if (fault.section == 0 && (fault.at == AT_BYTE || fault.at == AT_SECTION_END)) {
         add_lane_before(text, section_of(file), fault.byte - 2, names);
     }
@@ -258,7 +275,7 @@ void type_fault_text(char *to, size_t room, struct file type, const struct side_
     if (fault.at == AT_BYTE || fault.at == AT_SECTION_END) {
         due = type_due(type, fault);
     }
-    add_reading_fault(&text, type, fault, &due, names);
+    add_reading_fault(&text, (struct within){"type", type, NULL}, fault, &due, names);
 }
 
 /* Adds a type, or no more than its size where that is what is wrong. */
@@ -274,12 +291,13 @@ static void add_given_type(struct text *text, const struct type *type, uint32_t 
 }
 
 /* Adds what is wrong at a node: it does not take its input, or what it carries, or what its parts give. */
-static void add_node_fault(struct text *text, const struct patch_tree *tree)
+static void add_node_fault(struct text *text, const struct patch_tree *tree, struct within within)
 {
     const struct patch_node *node = &tree->nodes[tree->refused];
     const struct node_kind *kind = node_kind(node->kind);
     char line[TYPE_TEXT_BYTES];
-    text_add(text, "byte %zu, node %zu (%s): ", node->byte, tree->refused + 1, kind->name);
+    add_place(text, node->byte, within);
+    text_add(text, ", node %s: ", kind->name);
     if (node->number == WOSTHILE_FAULT_WRONG_SHAPE) {
         shape_text(line, kind->takes);
         text_add(text, "it takes %s, and its input is ", line);
@@ -297,21 +315,22 @@ static void add_node_fault(struct text *text, const struct patch_tree *tree)
     }
 }
 
-void patch_fault_text(char *to, size_t room, struct file patch, const struct side_names *names)
+void patch_fault_text(char *to, size_t room, struct file patch, const struct side_names *names, const struct show *show)
 {
     struct text text = text_begin(to, room);
+    struct within within = {"patch", patch, show};
     struct patch_tree tree;
     struct fault fault = patch_fault(patch, &tree);
     if (fault.number == WOSTHILE_ACCEPTED) {
         return;
     }
     if (fault.at == AT_NODE) {
-        add_node_fault(&text, &tree);
+        add_node_fault(&text, &tree, within);
         return;
     }
     struct byte_set due = {{false}};
     if (fault.at == AT_BYTE || fault.at == AT_SECTION_END) {
         due = patch_due(patch, fault);
     }
-    add_reading_fault(&text, patch, fault, &due, names);
+    add_reading_fault(&text, within, fault, &due, names);
 }

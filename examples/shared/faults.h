@@ -3,8 +3,10 @@
  *
  *   byte 7, lane 2 "house lamp": kind 2 (cue come) where 3 or 4 (level) is due
  *
- * A byte is counted from 0 at the front of the file. The number and its sentence are not in the text: the caller has
- * them. The text is empty if the file is accepted. Names may be NULL; then lanes have their numbers alone.
+ * A byte is counted from 0 at the front of the file and, if the file lies in a show, also from the front of the show:
+ * byte 5 of the slice, byte 187 of the show. The number and its sentence are not in the text: the caller has them. The
+ * text is empty if the file is accepted. Names may be NULL; then lanes have their numbers alone. The show is NULL if
+ * the file lies in none.
  */
 #ifndef FAULTS_H
 #define FAULTS_H
@@ -21,10 +23,11 @@ void type_fault_text(char *to, size_t room, struct file type, const struct side_
 
 /* Of a slice of the type in force; the names are those of the lanes' side. */
 void slice_fault_text(char *to, size_t room, const struct lanes *in_force, struct file slice,
-                      const struct side_names *names);
+                      const struct side_names *names, const struct show *show);
 
 /* Of a patch file; the names are those of the input's lanes. */
-void patch_fault_text(char *to, size_t room, struct file patch, const struct side_names *names);
+void patch_fault_text(char *to, size_t room, struct file patch, const struct side_names *names,
+                      const struct show *show);
 
 /* The place of the type in force, a node of it, to which a byte of an admitted slice, or of one up to a fault, belongs.
  */

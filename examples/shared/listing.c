@@ -7,20 +7,20 @@ enum { LINE_BYTES = 256 };
 static void print_bytes(const struct listed *listed, size_t byte)
 {
     printf("  %6zu", byte);
-    if (listed->in_show) {
-        printf(" %8zu", listed->begins + byte);
+    if (listed->show != NULL) {
+        printf(" %8zu", show_place(listed->show, listed->file) + byte);
     }
 }
 
 static void print_heading(const struct listed *listed)
 {
-    printf("  %6s%s\n", "byte", listed->in_show ? "  in show" : "");
+    printf("  %6s%s\n", "byte", listed->show != NULL ? "  in show" : "");
 }
 
 /* A line without bytes at its front, under the words of a node. */
 static void print_below(const struct listed *listed, unsigned depth, const char *what, const char *words)
 {
-    printf("%*s%s %s\n", (listed->in_show ? 17 : 8) + 6 + 2 * (int)depth, "", what, words);
+    printf("%*s%s %s\n", (listed->show != NULL ? 17 : 8) + 6 + 2 * (int)depth, "", what, words);
 }
 
 /* A line of a tree: the byte, its kind in words as deep as the node is, and its lanes. */

@@ -10,8 +10,7 @@
 /* A file that is listed, alone or as part of a show. */
 struct listed {
     struct file file;
-    bool in_show;
-    size_t begins;                  /* the byte of the show at which the file begins, if it is part of one */
+    const struct show *show;        /* NULL if it is part of none */
     const struct side_names *names; /* NULL if there are none */
 };
 

@@ -6,7 +6,7 @@ static void tell_refused_patch(const char *path, struct opened_show *opened, uin
 {
     char place[MESSAGE_BYTES];
     lane_names_read(&opened->names, path, LANES_MAX, LANES_MAX);
-    patch_fault_text(place, sizeof place, opened->show.patch, &opened->names.in);
+    patch_fault_text(place, sizeof place, opened->show.patch, &opened->names.in, &opened->show);
     tell("%s: the patch is refused with %u: %s\n    %s", path, number, wosthile_sentence(number), place);
 }
 

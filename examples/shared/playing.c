@@ -47,12 +47,13 @@ static void grow_refusals(struct panel *panel)
 }
 
 /* Keeps that a slice is refused. */
-static void keep_refusal(struct panel *panel, struct refusal refusal, struct file slice, const struct side_names *names)
+static void keep_refusal(struct panel *panel, struct refusal refusal, const struct opened_show *opened)
 {
     grow_refusals(panel);
     if (panel->refused < REFUSALS_WITH_WORDS) {
         refusal.words = memory(MESSAGE_BYTES, 1);
-        slice_fault_text(refusal.words, MESSAGE_BYTES, &panel->in.lanes, slice, names);
+        slice_fault_text(refusal.words, MESSAGE_BYTES, &panel->in.lanes, opened->show.slices[refusal.recorded - 1],
+                         &opened->names.in, &opened->show);
     }
     panel->refusals[panel->refused++] = refusal;
 }
@@ -70,7 +71,7 @@ static void play_slices(struct panel *panel, const struct opened_show *opened, c
             keep(&panel->in, arrivals[index], slice);
         } else {
             struct refusal refusal = {.frame = arrivals[index], .recorded = index + 1, .number = number};
-            keep_refusal(panel, refusal, slice, &opened->names.in);
+            keep_refusal(panel, refusal, opened);
         }
         bool last = index + 1 == show->count || arrivals[index + 1] != arrivals[index];
         if (last && waiting.count > 0) {

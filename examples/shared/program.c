@@ -62,8 +62,11 @@ void stop(const char *format, ...)
     _Exit(STATUS_UNUSABLE); /* at once: another thread may be at work, and what is allocated goes with the program */
 }
 
-void stop_for_words(void)
+void stop_for_words(const char *word)
 {
+    if (word != NULL) {
+        tell("\"%s\" is no word for it here, or not one that it can use", word);
+    }
     stop("the words are: %.*s (--help says more)", (int)strcspn(program_help, "\n"), program_help);
 }
 

@@ -35,8 +35,8 @@ void tell(const char *format, ...) __attribute__((format(printf, 1, 2)));
 /* Tells what is wrong and ends the program with status 2. */
 noreturn void stop(const char *format, ...) __attribute__((format(printf, 1, 2)));
 
-/* Tells which words the program takes, and ends it with status 2. */
-noreturn void stop_for_words(void);
+/* Tells which words the program takes and, unless it is NULL, the word that it does not; ends it with status 2. */
+noreturn void stop_for_words(const char *word);
 
 /* The last call: the exit status, or 2 if standard output could not be written. */
 int program_end(enum status status);

@@ -122,6 +122,8 @@ const char *show_read(const char *path, struct show *show)
     return fault;
 }
 
+size_t show_place(const struct show *show, struct file file) { return (size_t)(file.bytes - show->bytes); }
+
 void show_release(struct show *show)
 {
     free(show->slices);

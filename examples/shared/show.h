@@ -39,6 +39,9 @@ const char *show_read(const char *path, struct show *show);
 
 void show_release(struct show *show);
 
+/* The byte of a show at which one of its files begins, behind its length. */
+size_t show_place(const struct show *show, struct file file);
+
 /* Says in words where a show file with an unfinished slice ends, and what is left out for it. */
 void show_unfinished_text(char *to, size_t room, const struct unfinished *unfinished);
 

@@ -17,7 +17,7 @@ static size_t try_slices(const struct show *show, struct patch *patch, struct la
         struct lane_events events;
         uint8_t output[WOSTHILE_SLICE_FILE_MAX];
         bool accepted = patch_feed(patch, show->slices[index], output).number == WOSTHILE_ACCEPTED;
-        slice_fault_text(text, sizeof text, lanes, show->slices[index], NULL);
+        slice_fault_text(text, sizeof text, lanes, show->slices[index], NULL, show);
         expect(accepted == (text[0] == '\0'), "the feed and the text disagree", show->slices[index]);
         if (accepted) {
             lanes_follow(lanes, show->slices[index], &events);
@@ -51,7 +51,7 @@ static size_t try_show(const char *path)
         expect(strstr(show.fault, "before its patch does") != NULL, show.fault, (struct file){NULL, 0});
         return refused;
     }
-    patch_fault_text(text, sizeof text, show.patch, NULL);
+    patch_fault_text(text, sizeof text, show.patch, NULL, &show);
     if (patch_start(&patch, show.patch, &output) != WOSTHILE_ACCEPTED) {
         try_text(text, show.patch);
     } else if (lanes_start(&lanes, patch_input_type(&patch))) {
@@ -110,7 +110,7 @@ int main(int count, char **words)
 {
     program_begin("damaged_shows FILE SHOW..\n\nTries damaged shows; FILE is written anew for each.\n", count, words);
     if (count < 3) {
-        stop_for_words();
+        stop_for_words(NULL);
     }
     for (int show = 2; show < count; show++) {
         try_damaged_show(words[show], words[1]);

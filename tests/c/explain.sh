@@ -78,12 +78,12 @@ explains_each_number() {
         refused 4 'byte 256, behind lane 127: the type has 255 nodes up to here and needs another' \
             --type "1 145 $(times 200 '4 1') 1" &&
         refused 4 'byte 260: the type has 255 nodes up to here and needs another' --patch "0 1 1 1 44 1 $(times 299 4)" &&
-        refused 4 'byte 34, node 30 (both): its parts give a type of 255 nodes and a type of 255 nodes' \
+        refused 4 'byte 34, node both: its parts give a type of 255 nodes and a type of 255 nodes' \
             --patch "0 1 1 0 33 $doubled 0" &&
         refused 5 'byte 67: the patch has 63 nodes up to here and needs another' --patch "0 1 1 0 81 $(times 40 '4 0') 0" &&
-        refused 6 'byte 6, node 2 (silent): it carries empty then empty' --patch '0 1 1 0 6 4 1 3 0 0 0' &&
-        refused 7 'byte 9, node 3 (left): it takes s beside t, and its input is cue' --patch '0 3 3 1 1 0 3 9 0 5' &&
-        refused 7 'byte 5, node 1 (spread): it takes s then (t beside r), and its input is cue' --patch '0 1 1 0 1 13' &&
+        refused 6 'byte 6, node silent: it carries empty then empty' --patch '0 1 1 0 6 4 1 3 0 0 0' &&
+        refused 7 'byte 9, node left: it takes s beside t, and its input is cue' --patch '0 3 3 1 1 0 3 9 0 5' &&
+        refused 7 'byte 5, node spread: it takes s then (t beside r), and its input is cue' --patch '0 1 1 0 1 13' &&
         explains_each_slice_number
 }
 

@@ -272,9 +272,9 @@ static void try_fault_text(const struct subject *subject, struct fault fault)
     if (subject->tree == TYPE) {
         type_fault_text(text, sizeof text, file, NULL);
     } else if (subject->tree == NODES) {
-        patch_fault_text(text, sizeof text, file, NULL);
+        patch_fault_text(text, sizeof text, file, NULL, NULL);
     } else if (lanes_start(&lanes, subject->type)) {
-        slice_fault_text(text, sizeof text, &lanes, file, NULL);
+        slice_fault_text(text, sizeof text, &lanes, file, NULL, NULL);
     }
     expect((text[0] == '\0') == (fault.number == WOSTHILE_ACCEPTED), "a text where there is no fault", file);
     if (fault.number != WOSTHILE_ACCEPTED) {
