@@ -1,10 +1,4 @@
-//! `bench`: times the library beside the second interpreter and says which goals are met; it
-//! succeeds if all of them are.
-//!
-//! `bench --runs N` times everything N times, and judges by the median. `--instructions FILE` takes
-//! instruction counts from a file: for each row a line with the library's and the second
-//! interpreter's. `bench --count N` makes every call N times, library and then second interpreter,
-//! row by row; `instructions.sh` counts what it executes.
+//! The program `bench`: how fast the library is beside the second interpreter.
 
 mod feeds;
 mod goals;
@@ -16,10 +10,27 @@ mod streams;
 mod table;
 mod timing;
 
+use std::num::{NonZeroU64, NonZeroUsize};
 use std::process::ExitCode;
 
+use comparison::convention::{self, number, Output, Stop};
 use measured::{Instructions, Measured};
 use rows::{Lent, Row, Side};
+
+const HELP: &str = "\
+bench ([--runs N] [--instructions FILE] | --count N)
+
+Times the library beside the second interpreter, call by call, and says which goals are met.
+
+  --runs N             times everything so many times, and judges by the median; 1 without this word
+  --instructions FILE  takes instruction counts from a file: for each row a line with the library's
+                       and the second interpreter's
+  --count N            makes every call so many times, library and then second interpreter, row by
+                       row; bench/instructions.sh counts what that executes
+
+Status: 0 all goals are met, 1 one is missed, or the answers differ, 2 the words or the file cannot
+be used, or the answer cannot be written.
+";
 
 fn counts(file: &str) -> Result<Vec<Instructions>, String> {
     let text = std::fs::read_to_string(file).map_err(|error| format!("{file}: {error}"))?;
@@ -33,35 +44,36 @@ fn counts(file: &str) -> Result<Vec<Instructions>, String> {
 }
 
 /// Every row, if the answers are as they should be and there are as many counts.
-fn sound_rows(instructions: &[Instructions]) -> Result<Vec<Row>, String> {
+fn sound_rows(instructions: &[Instructions]) -> Result<Vec<Row>, Stop> {
     let rows = rows::all();
     if !instructions.is_empty() && instructions.len() != rows.len() {
-        return Err(format!(
-            "{} counts for {} rows",
-            instructions.len(),
-            rows.len()
-        ));
+        let (counts, rows) = (instructions.len(), rows.len());
+        return Err(Stop::Unusable(format!("{counts} counts for {rows} rows")));
     }
     if let Some(row) = rows.iter().find(|row| !timing::is_sound(row)) {
-        return Err(format!(
+        return Err(Stop::Difference(format!(
             "{:?}, {}: the answers differ, or are not those of its group",
             row.operation, row.name
-        ));
+        )));
     }
     Ok(rows)
 }
 
-/// Prints the table and says whether the goals are met.
-fn print_table(runs: usize, instructions: &[Instructions]) -> Result<bool, String> {
+/// Prints the table. A missed goal is a difference.
+fn print_table(runs: usize, instructions: &[Instructions]) -> Result<(), Stop> {
     let rows = sound_rows(instructions)?;
-    println!("{}", table::heading(runs));
+    writeln!(Output, "{}", table::heading(runs))?;
     let runs: Vec<Vec<Measured>> = (0..runs)
         .map(|_| measured::in_run(&rows, &timing::time(&rows), instructions))
         .collect();
     let verdict = goals::judge(&runs);
-    println!("{}\n{}", table::lines(&runs), table::below(&runs));
-    print!("{}", verdict.text);
-    Ok(verdict.met)
+    writeln!(Output, "{}\n{}", table::lines(&runs), table::below(&runs))?;
+    write!(Output, "{}", verdict.text)?;
+    if verdict.met {
+        Ok(())
+    } else {
+        Err(Stop::Difference("a goal is missed".to_string()))
+    }
 }
 
 fn repeat_all(times: u64) {
@@ -72,38 +84,22 @@ fn repeat_all(times: u64) {
     }
 }
 
-fn number(word: &str) -> Result<usize, String> {
-    match word.parse() {
-        Ok(number) if number > 0 => Ok(number),
-        _ => Err(format!("no number above 0: {word}")),
-    }
-}
-
-fn run(words: &[&str]) -> Result<bool, String> {
+fn run(words: &[&str]) -> Result<(), Stop> {
     if let ["--count", times] = words {
-        repeat_all(number(times)? as u64);
-        return Ok(true);
+        repeat_all(number::<NonZeroU64>(times)?.get());
+        return Ok(());
     }
     let (runs, words) = match words {
-        ["--runs", runs, words @ ..] => (number(runs)?, words),
+        ["--runs", runs, words @ ..] => (number::<NonZeroUsize>(runs)?.get(), words),
         _ => (1, words),
     };
     match words {
         [] => print_table(runs, &[]),
-        ["--instructions", file] => print_table(runs, &counts(file)?),
-        _ => Err("usage: bench [--runs N] [--instructions FILE] | bench --count N".to_string()),
+        ["--instructions", file] => print_table(runs, &counts(file).map_err(Stop::Unusable)?),
+        _ => Err(Stop::Words),
     }
 }
 
 fn main() -> ExitCode {
-    let words: Vec<String> = std::env::args().skip(1).collect();
-    let words: Vec<&str> = words.iter().map(String::as_str).collect();
-    match run(&words) {
-        Ok(true) => ExitCode::SUCCESS,
-        Ok(false) => ExitCode::FAILURE,
-        Err(text) => {
-            eprintln!("{text}");
-            ExitCode::FAILURE
-        }
-    }
+    convention::run(HELP, run)
 }

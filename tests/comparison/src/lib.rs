@@ -6,8 +6,10 @@
 //! buffers and beside them. [`runs`] makes lists of feeds, each on the patch that the last one left,
 //! and holds demand 3 to them. [`tallies`] counts what was answered, so that one sees which numbers
 //! and which kinds of nodes were met. [`limits`] holds the answers that a program stored.
+//! [`convention`] is what this package's program and those of others have in common for their users.
 
 pub mod calls;
+pub mod convention;
 pub mod formats;
 pub mod generators;
 pub mod limits;

@@ -8,6 +8,7 @@ use std::path::Path;
 
 use crate::calls::call::{Call, Operation};
 use crate::calls::comparison::compare;
+use crate::convention::Stop;
 use crate::formats::files::patch;
 use crate::formats::kinds::node_kind::{CHAIN, PASS};
 use crate::formats::kinds::type_kind::{BESIDE, CUE};
@@ -43,16 +44,16 @@ fn lines(noise: &mut Random) -> Result<String, String> {
 }
 
 /// Holds the stored output of the program to the second interpreter's answers.
-pub fn compare_stored(noise: &mut Random) -> Result<(), String> {
+pub fn compare_stored(noise: &mut Random) -> Result<(), Stop> {
     let file = Path::new(env!("CARGO_MANIFEST_DIR")).join("../../crates/limits/stdout");
-    let stored =
-        std::fs::read_to_string(&file).map_err(|error| format!("{}: {error}", file.display()))?;
-    let expected = lines(noise)?;
+    let stored = std::fs::read_to_string(&file)
+        .map_err(|error| Stop::Unusable(format!("{}: {error}", file.display())))?;
+    let expected = lines(noise).map_err(Stop::Difference)?;
     if stored == expected {
         Ok(())
     } else {
-        Err(format!(
+        Err(Stop::Difference(format!(
             "case 10: crates/limits/stdout has\n{stored}the second interpreter answers\n{expected}"
-        ))
+        )))
     }
 }

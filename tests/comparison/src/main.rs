@@ -1,14 +1,26 @@
-//! `compare --calls N --seed S` or `compare --seconds N --seed S`: compares the library with the
-//! second interpreter, in single calls and, after every so many of them, in a run of feeds.
-//!
-//! Ends with status 1 at the first difference, or if the calls did not meet what they should; with
-//! 2 on wrong options.
+//! The program `compare`: the library beside the second interpreter.
 
+use std::num::NonZeroU64;
 use std::process::ExitCode;
 use std::time::{Duration, Instant};
 
 use comparison::calls::library;
+use comparison::convention::{self, number, Output, Stop};
 use comparison::{compare, limits, Calls, Random, Runs, Tally};
+
+const HELP: &str = "\
+compare (--calls N | --seconds N) [--seed S]
+
+Compares the library with the second interpreter, in single calls and, after every hundred of them,
+in a run of feeds. Prints what was met, or the first difference.
+
+  --calls N    makes so many calls
+  --seconds N  goes on for so long
+  --seed S     the number that the calls are drawn by; 1 without this word
+
+Status: 0 no difference, 1 a difference, or the calls did not meet what they should, 2 the words or
+the files cannot be used, or the answer cannot be written.
+";
 
 /// After so many calls there is a run.
 const CALLS_PER_RUN: u64 = 100;
@@ -24,40 +36,36 @@ struct Options {
     seed: u64,
 }
 
-fn options(mut words: impl Iterator<Item = String>) -> Option<Options> {
+fn options(words: &[&str]) -> Result<Options, Stop> {
     let mut extent = None;
     let mut seed = 1;
-    while let Some(word) = words.next() {
-        let value: u64 = words.next()?.parse().ok()?;
-        match word.as_str() {
-            "--calls" => extent = Some(Extent::Calls(value)),
-            "--seconds" => extent = Some(Extent::Time(Duration::from_secs(value))),
-            "--seed" => seed = value,
-            _ => return None,
+    for pair in words.chunks(2) {
+        match pair {
+            ["--calls", calls] => {
+                extent = Some(Extent::Calls(number::<NonZeroU64>(calls)?.get()));
+            }
+            ["--seconds", seconds] => {
+                extent = Some(Extent::Time(Duration::from_secs(number(seconds)?)));
+            }
+            ["--seed", word] => seed = number(word)?,
+            _ => return Err(Stop::Words),
         }
     }
-    Some(Options {
-        extent: extent?,
+    Ok(Options {
+        extent: extent.ok_or(Stop::Words)?,
         seed,
     })
 }
 
-fn run(options: &Options, tally: &mut Tally) -> Result<(), String> {
+fn run(options: &Options, noise: &mut Random, tally: &mut Tally) -> Result<(), String> {
     let begin = Instant::now();
-    if library::abi() != library::ABI {
-        return Err(format!("the archive is of ABI {}", library::abi()));
-    }
-    // What is in the buffers and beside everything comes from a generator of its own: it has
-    // no say in which calls are made.
-    let mut noise = Random::new(!options.seed);
-    limits::compare_stored(&mut noise)?;
     let mut runs = Runs::new(options.seed.wrapping_add(1 << 32));
     for (number, call) in (1_u64..).zip(Calls::new(options.seed)) {
-        compare(&call, &mut noise)
+        compare(&call, noise)
             .and_then(|agreed| tally.add(&call, &agreed))
             .map_err(|text| format!("seed {}, call {number}: {text}", options.seed))?;
         if number % CALLS_PER_RUN == 0 {
-            runs.compare_run(&mut noise, tally).map_err(|text| {
+            runs.compare_run(noise, tally).map_err(|text| {
                 let run = number / CALLS_PER_RUN;
                 format!("seed {}, run {run}: {text}", options.seed)
             })?;
@@ -73,31 +81,33 @@ fn run(options: &Options, tally: &mut Tally) -> Result<(), String> {
     Ok(())
 }
 
-fn main() -> ExitCode {
-    let Some(options) = options(std::env::args().skip(1)) else {
-        eprintln!("usage: compare (--calls N | --seconds N) [--seed S]");
-        return ExitCode::from(2);
-    };
+fn compare_all(words: &[&str]) -> Result<(), Stop> {
+    let options = options(words)?;
+    if library::abi() != library::ABI {
+        let text = format!("the archive is of ABI {}", library::abi());
+        return Err(Stop::Unusable(text));
+    }
+    // What is in the buffers and beside everything comes from a generator of its own: it has
+    // no say in which calls are made.
+    let mut noise = Random::new(!options.seed);
+    limits::compare_stored(&mut noise)?;
     let mut tally = Tally::default();
-    if let Err(text) = run(&options, &mut tally) {
-        println!("{text}");
-        return ExitCode::FAILURE;
-    }
-    println!("case 10: what the program has stored is what both answer\n");
-    println!("{tally}");
-    let gaps = tally.gaps();
-    for gap in &gaps {
-        println!("{gap}");
-    }
-    println!(
+    run(&options, &mut noise, &mut tally).map_err(Stop::Difference)?;
+    writeln!(
+        Output,
+        "case 10: what the program has stored is what both answer\n"
+    )?;
+    writeln!(Output, "{tally}")?;
+    writeln!(
+        Output,
         "{} calls and {} runs with seed {}: no difference",
         tally.total(),
         tally.runs.total(),
         options.seed
-    );
-    if gaps.is_empty() {
-        ExitCode::SUCCESS
-    } else {
-        ExitCode::FAILURE
-    }
+    )?;
+    convention::end_with_gaps(&tally.gaps())
+}
+
+fn main() -> ExitCode {
+    convention::run(HELP, compare_all)
 }

@@ -1,100 +1,70 @@
-//! `compare_program --program PATH [--streams N] [--seed S]`: compares the program at this path
-//! with the second interpreter's. `compare_program --measure PATH`: how long it takes, and how much
-//! memory, beside that.
-//!
-//! Ends with status 1 at the first difference, or if the streams did not meet what they should;
-//! with 2 on wrong options.
+//! The program `compare_program`: the built program beside the second interpreter's.
 
-use std::path::PathBuf;
+use std::num::NonZeroU64;
 use std::process::ExitCode;
 
+use comparison::convention::{self, number, Output, Stop};
 use program::{hold, measure, Program, Streams, Tally};
+
+const HELP: &str = "\
+compare_program (--program PATH [--streams N] [--seed S] | --measure PATH | --second)
+
+Compares the program at a path with the second interpreter's, in all that it writes. Prints what was
+met, or the first difference.
+
+  --program PATH  the program of document 01
+  --streams N     so many streams; 5000 without this word
+  --seed S        the number that the streams are drawn by; 1 without this word
+  --measure PATH  prints how long the program takes, and how much memory, beside the second one
+  --second        is the second interpreter's program, on standard input
+
+Status: 0 no difference, 1 a difference, or the streams did not meet what they should, 2 the words or
+the files cannot be used, or the answer cannot be written.
+";
 
 /// So many streams take the gate less than half a minute.
 const STREAMS: u64 = 5_000;
 
-enum Task {
-    Compare {
-        program: PathBuf,
-        streams: u64,
-        seed: u64,
-    },
-    Measure {
-        program: PathBuf,
-    },
-    /// The second interpreter's program on standard input, to be measured in a process of its own.
-    Second,
-}
-
-fn task(mut words: impl Iterator<Item = String>) -> Option<Task> {
+fn compare(words: &[&str]) -> Result<(), Stop> {
     let (mut program, mut streams, mut seed) = (None, STREAMS, 1);
-    while let Some(word) = words.next() {
-        if word == measure::SECOND {
-            return Some(Task::Second);
-        }
-        let value = words.next()?;
-        match word.as_str() {
-            "--measure" => {
-                return Some(Task::Measure {
-                    program: value.into(),
-                })
-            }
-            "--program" => program = Some(value.into()),
-            "--streams" => streams = value.parse().ok()?,
-            "--seed" => seed = value.parse().ok()?,
-            _ => return None,
+    for pair in words.chunks(2) {
+        match pair {
+            ["--program", path] => program = Some(Program::at(path)),
+            ["--streams", word] => streams = number::<NonZeroU64>(word)?.get(),
+            ["--seed", word] => seed = number(word)?,
+            _ => return Err(Stop::Words),
         }
     }
-    Some(Task::Compare {
-        program: program?,
-        streams,
-        seed,
-    })
+    compare_streams(&program.ok_or(Stop::Words)?, streams, seed)
 }
 
-fn compare(program: &Program, streams: u64, seed: u64) -> Result<(), String> {
+fn compare_streams(program: &Program, streams: u64, seed: u64) -> Result<(), Stop> {
     let mut tally = Tally::default();
     for (number, case) in (1..=streams).zip(Streams::new(seed)) {
         hold(program, &case)
-            .and_then(|lines| tally.add(&case, &lines))
-            .map_err(|text| format!("seed {seed}, stream {number}: {text}"))?;
+            .and_then(|lines| tally.add(&case, &lines).map_err(Stop::Difference))
+            .map_err(|stop| stop.found_at(&format!("seed {seed}, stream {number}")))?;
     }
-    println!("{tally}");
-    let gaps = tally.gaps();
-    println!("{} streams with seed {seed}: no difference", tally.total());
-    if gaps.is_empty() {
-        Ok(())
-    } else {
-        Err(gaps.join("\n"))
-    }
+    writeln!(Output, "{tally}")?;
+    let total = tally.total();
+    writeln!(Output, "{total} streams with seed {seed}: no difference")?;
+    convention::end_with_gaps(&tally.gaps())
 }
 
-fn second() -> Result<(), String> {
+fn second() -> Result<(), Stop> {
     let (mut input, mut output) = (std::io::stdin().lock(), std::io::stdout().lock());
-    second_interpreter::run_program(&mut input, &mut output).map_err(|error| error.to_string())
+    second_interpreter::run_program(&mut input, &mut output)
+        .map_err(|error| Stop::Unusable(format!("standard input or output: {error}")))
+}
+
+fn run(words: &[&str]) -> Result<(), Stop> {
+    match words {
+        [measure::SECOND] => second(),
+        ["--measure", path] => write!(Output, "{}", measure::table(&Program::at(path))?),
+        _ => compare(words),
+    }
 }
 
 fn main() -> ExitCode {
-    let result = match task(std::env::args().skip(1)) {
-        Some(Task::Compare {
-            program,
-            streams,
-            seed,
-        }) => compare(&Program::at(program), streams, seed),
-        Some(Task::Measure { program }) => measure::print(&Program::at(program)),
-        Some(Task::Second) => second(),
-        None => {
-            eprintln!(
-                "usage: compare_program (--program PATH [--streams N] [--seed S] | --measure PATH)"
-            );
-            return ExitCode::from(2);
-        }
-    };
-    match result {
-        Ok(()) => ExitCode::SUCCESS,
-        Err(text) => {
-            println!("{text}");
-            ExitCode::FAILURE
-        }
-    }
+    convention::run(HELP, run)
 }

@@ -7,6 +7,7 @@ use std::process::{Child, Command, Stdio};
 use std::thread;
 use std::time::{Duration, Instant};
 
+use comparison::convention::Stop;
 use comparison::formats::files::patch;
 use comparison::formats::kinds::node_kind::{BOTH, LEFT, PASS, RIGHT};
 use comparison::formats::kinds::type_kind::{BESIDE, CUE, LEVEL, SEQUENCE};
@@ -123,34 +124,42 @@ fn peak(program: &Program, slices: usize) -> Result<String, String> {
     Ok(line.ok_or("no VmHWM")?.trim().to_string())
 }
 
-/// Prints the times and the memory.
-pub fn print(program: &Program) -> Result<(), String> {
-    let mut second = Program::at(std::env::current_exe().map_err(|error| error.to_string())?);
-    second.words.push(SECOND.to_string());
-    println!("{TIMED} slices, from a file to a pipe; the fastest of {RUNS} runs");
-    println!(
-        "{:<36}{:>12}{:>12}{:>11}{:>11}",
+/// The times of both programs.
+fn times(program: &Program, second: &Program) -> Result<String, Stop> {
+    let mut text = format!(
+        "{:<36}{:>12}{:>12}{:>11}{:>11}\n",
         "", "bytes in", "bytes out", "program", "second"
     );
     for (name, stream) in [
         ("lanes, most slices bring nothing", lanes(TIMED)),
         ("128 levels", levels(TIMED)),
     ] {
-        let file = Temporary::holding(&stream)?;
-        let (ours, bytes) = time(program, &file)?;
-        let (theirs, second_bytes) = time(&second, &file)?;
+        let file = Temporary::holding(&stream).map_err(Stop::Unusable)?;
+        let (ours, bytes) = time(program, &file).map_err(Stop::Unusable)?;
+        let (theirs, second_bytes) = time(second, &file).map_err(Stop::Unusable)?;
         if bytes != second_bytes {
-            return Err(format!(
+            return Err(Stop::Difference(format!(
                 "{name}: {bytes} bytes come out, and {second_bytes}"
-            ));
+            )));
         }
         let seconds = |time: Duration| format!("{:.3} s", time.as_secs_f64());
         let (length, ours, theirs) = (stream.len(), seconds(ours), seconds(theirs));
-        println!("{name:<36}{length:>12}{bytes:>12}{ours:>11}{theirs:>11}");
+        text += &format!("{name:<36}{length:>12}{bytes:>12}{ours:>11}{theirs:>11}\n");
     }
-    println!("most memory, the lanes");
+    Ok(text)
+}
+
+/// The times and the memory.
+pub fn table(program: &Program) -> Result<String, Stop> {
+    let this = std::env::current_exe().map_err(|error| Stop::Unusable(error.to_string()))?;
+    let mut second = Program::at(this);
+    second.words.push(SECOND.to_string());
+    let mut text = format!("{TIMED} slices, from a file to a pipe; the fastest of {RUNS} runs\n");
+    text += &times(program, &second)?;
+    text += "most memory, the lanes\n";
     for slices in [FEW, MANY] {
-        println!("{slices:>9} slices: {}", peak(program, slices)?);
+        let most = peak(program, slices).map_err(Stop::Unusable)?;
+        text += &format!("{slices:>9} slices: {most}\n");
     }
-    Ok(())
+    Ok(text)
 }
