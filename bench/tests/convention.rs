@@ -19,6 +19,7 @@ const ROWS: [Row; 8] = [
 
 #[test]
 fn bench_keeps_the_convention() {
-    // Without words it writes the table, whose heading comes first: what cannot be written is told at once.
+    // Without words it writes the table. The heading comes first, so what cannot be written is told
+    // at once.
     hold(env!("CARGO_BIN_EXE_bench"), "", &ROWS);
 }
