@@ -132,7 +132,7 @@ explains_nothing() {
 # Each line that tells a refusal is followed by its place.
 has_places() {
     awk '/refused with [0-9]+: / { due = 1; next }
-         due && !/^    byte [0-9]+[,:]/ { print "no place: " $0; missing = 1 }
+         due && !/^    byte [0-9]+ of the (patch|slice), byte [0-9]+ of the show[,:]/ { print "no place: " $0; missing = 1 }
          { due = 0 }
          END { exit missing || due }' "$folder/out"
 }
