@@ -59,12 +59,12 @@
 #ifndef WOSTHILE_H
 #define WOSTHILE_H
 
-#include <stddef.h>
-#include <stdint.h>
-
 #if !defined(__x86_64__) || defined(__ILP32__)
 #error "libwosthile.a is built for x86-64 with 64-bit pointers"
 #endif
+
+#include <stddef.h>
+#include <stdint.h>
 
 /* The release, for people. */
 #define WOSTHILE_RELEASE "1.0.0"
@@ -131,7 +131,8 @@ enum wosthile_node_kind {
 /*
  * The number in every answer: 0, or that of a fault. 1 to 4 speak of a type or a patch, 5 to 7 of a patch alone, 11 to
  * 14 of a slice, 20 of a lent buffer. Where one place has several faults, 4 and 5 come before 1 and 1 before 2; in a
- * slice 11 comes before 12 and 12 before 14. What each says is in wosthile_sentence.
+ * slice 11 comes before 12 and 12 before 14. What each says is in wosthile_sentence. The program explain finds the byte
+ * at which a file is wrong; examples/shared/faults.h does it in C, with these calls alone.
  */
 enum wosthile_number {
     WOSTHILE_ACCEPTED = 0,
@@ -156,7 +157,7 @@ static inline const char *wosthile_sentence(uint32_t number)
     case WOSTHILE_ACCEPTED:
         return "The call was accepted.";
     case WOSTHILE_FAULT_CUT_SHORT:
-        return "A section is longer than the bytes remain, or a tree needs a byte past its section.";
+        return "A section is longer than the bytes that remain, or a tree needs a byte past its section.";
     case WOSTHILE_FAULT_UNLISTED:
         return "A kind byte is not listed.";
     case WOSTHILE_FAULT_LEFT_OVER:
@@ -179,7 +180,7 @@ static inline const char *wosthile_sentence(uint32_t number)
         return "A slice has a kind that does not belong there, as that of a cue that has come already; "
                "or the first part of a crossing is not complete.";
     case WOSTHILE_FAULT_NO_ROOM:
-        return "The lent buffer, or either of two, is too short for this answer.";
+        return "The lent buffer, or either of two, is too short for this answer; one of the greatest size never is.";
     default:
         return "No operation answers this number.";
     }
@@ -298,8 +299,10 @@ wosthile_fed wosthile_feed(const uint8_t *patch, size_t patch_len, const uint8_t
 /*
  * The WOSTHILE_ABI that the archive was built for, for callers that do not include this header.
  *
- * A caller that does include it cannot be linked with an archive of another ABI, which would take and give structs of
- * another size: the header refers to a function whose name has the number, and only the right archive has it.
+ * A caller that does include it is not linked with an archive of another ABI, which would take and give structs of
+ * another size: the header refers to a function whose name has the number, and only the right archive has it. A
+ * compiler that does not know the attribute retain (before gcc 11 and clang 13) lets a linker that removes unused
+ * sections remove the reference too; such a program may compare wosthile_abi() with WOSTHILE_ABI when it begins.
  */
 uint32_t wosthile_abi(void);
 
@@ -307,8 +310,17 @@ uint32_t wosthile_abi(void);
 #define WOSTHILE_NAMED_FOR(name, number) WOSTHILE_WITH_NUMBER(name, number)
 #define WOSTHILE_ABI_FUNCTION WOSTHILE_NAMED_FOR(wosthile_abi_, WOSTHILE_ABI)
 
+#ifdef __has_attribute
+#if __has_attribute(retain)
+#define WOSTHILE_KEPT __attribute__((used, retain))
+#endif
+#endif
+#ifndef WOSTHILE_KEPT
+#define WOSTHILE_KEPT __attribute__((used))
+#endif
+
 uint32_t WOSTHILE_ABI_FUNCTION(void);
-__attribute__((used)) static uint32_t (*const wosthile_abi_needed)(void) = WOSTHILE_ABI_FUNCTION;
+WOSTHILE_KEPT static uint32_t (*const wosthile_abi_needed)(void) = WOSTHILE_ABI_FUNCTION;
 
 /* The layout that the archive was built for. */
 #ifdef __cplusplus
