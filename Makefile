@@ -1,4 +1,4 @@
-# make demo      builds everything, then plays, rehearses and draws a shipped show
+# make demo      builds everything, then explains, plays, rehearses and draws a shipped show
 # make test      the gate: every proof from nothing, the must-fail edits, the layout, the library and the programs in use
 # make prove     the proofs alone, without the edits; what has not changed is not proved again
 # make lib       the library alone: target/staticlib/libwosthile.a
@@ -31,8 +31,6 @@ DESTDIR =
 ARCHIVE = target/staticlib/libwosthile.a
 RUNNER = target/bin/runner
 CFLAGS = -std=c11 -O2 -Wall -Wextra -pedantic
-PICTURE = target/$(basename $(notdir $(SHOW))).svg
-DIAGRAM = target/$(basename $(notdir $(SHOW)))_patch.svg
 EXAMPLES = $(patsubst examples/%.c,target/%,$(wildcard examples/*.c))
 CARGO = CARGO_TARGET_DIR=target/cargo cargo
 LOCKED = --quiet --offline --locked
@@ -40,7 +38,7 @@ CHECKED = $(LOCKED) --profile checked
 
 .PHONY: demo test prove lib programs play rehearse picture diagram shows example fuzz streams measure bench install clean
 demo: programs
-	examples/demo.sh $(SHOW)
+	examples/demo.sh '$(SHOW)'
 
 test:
 	.ci/run
@@ -53,18 +51,16 @@ lib: $(ARCHIVE)
 programs: $(RUNNER) $(EXAMPLES)
 
 play: target/frame_loop
-	target/frame_loop $(SHOW) --seed $(SEED)
+	target/frame_loop '$(SHOW)' --seed $(SEED)
 
 rehearse: target/rehearsal
-	target/rehearsal $(SHOW) $(CUTS) $(SEED)
+	target/rehearsal '$(SHOW)' $(CUTS) $(SEED)
 
 picture: target/timeline
-	target/timeline $(SHOW) $(SEEDS) >$(PICTURE).new
-	mv $(PICTURE).new $(PICTURE)
+	examples/draw.sh "target/$$(basename '$(SHOW)' .show).svg" target/timeline '$(SHOW)' $(SEEDS)
 
 diagram: target/diagram
-	target/diagram $(SHOW) >$(DIAGRAM).new
-	mv $(DIAGRAM).new $(DIAGRAM)
+	examples/draw.sh "target/$$(basename '$(SHOW)' .show)_patch.svg" target/diagram '$(SHOW)'
 
 shows: target/make_shows
 	target/make_shows examples/shows

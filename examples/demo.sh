@@ -10,15 +10,6 @@ title() {
     printf '\n== %s\n\n' "$1"
 }
 
-# Writes a picture to a file in one go, so that a failed one leaves the last picture: draws FILE COMMAND
-draws() {
-    local file=$1
-    shift
-    "$@" >"$file.new"
-    mv "$file.new" "$file"
-    echo "$file: open it in a browser."
-}
-
 title "Explained: the patch of $name as a person reads it, the first and the last lines of all that explain prints."
 target/explain "$show" >"target/$name.explained"
 head -n 16 "target/$name.explained"
@@ -35,8 +26,8 @@ title "Rehearsed: the recording is cut anew a thousand times, and every joined o
 target/rehearsal "$show" 1000 "$seed"
 
 title "Drawn: the show as it was recorded and as seed $seed cuts it, and its patch."
-draws "target/$name.svg" target/timeline "$show" 0 "$seed"
-draws "target/${name}_patch.svg" target/diagram "$show"
+examples/draw.sh "target/$name.svg" target/timeline "$show" 0 "$seed"
+examples/draw.sh "target/${name}_patch.svg" target/diagram "$show"
 
 title "Fed by the program, runner: for each slice a number and, if it is 0, what is sent and the input type left, in hexadecimal.
    The last lines that differ from the one before, with the number of their slice:"
