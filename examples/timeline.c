@@ -11,18 +11,22 @@ static const char help[] =
     "\n"
     "Draws a show file as an SVG picture on standard output, frames to the right. There is a panel for each seed, on\n"
     "the same frames, so that two cuts of a show can be compared by eye; seed 0, or no seed, is the show as recorded.\n"
-    "At most 16 seeds. --frames draws a part of the show larger. Slices that are refused, and a show file that ends\n"
-    "inside a slice, are marked and put in words.\n"
+    "At most 16 seeds. --frames draws a part of the show larger. Refused slices have marks with their numbers; those\n"
+    "that would lie on one another have one mark, with a count. A pointer that rests on a mark shows what is wrong.\n"
+    "The first 12 refused slices are put in words below the panels; so is a show file that ends inside a slice.\n"
     "\n"
     "Exit status: 0 drawn, even if slices are refused; 1 the patch is refused; 2 words or files that cannot be used.\n";
 
 /* All lengths are in pixels. */
 enum { PAGE_WIDTH_MIN = 900, MARGIN = SVG_MARGIN, NAMES_WIDTH_MAX = 420, PLOT_WIDTH_MIN = 640 };
 enum { HEADER_HEIGHT = 112, TITLE_HEIGHT = 24, STRIP_HEIGHT = 30, FAULTS_HEIGHT = 26, HEADING_HEIGHT = 22 };
-enum { AXIS_HEIGHT = 58, LIST_LINE_HEIGHT = 16, LATE_ROOM = 24 };
+enum { AXIS_HEIGHT = 58, LIST_LINE_HEIGHT = 16 };
+
+/* Before the first frame there is room for the arrow of a crossing that comes in it. */
+enum { ROOM_BEFORE_FRAMES = 14 };
 
 enum { PANELS_MAX = 16, LISTED_MAX = 12, LISTED_LINES_MAX = 48, FRAMES_A_SECOND = 60 };
-enum { WORDS_BYTES = MESSAGE_BYTES + 64 };
+enum { WORDS_BYTES = MESSAGE_BYTES + 64, COLUMN_WORDS_BYTES = WORDS_BYTES + 128, LABEL_BYTES = 48 };
 
 #define LANE_COLOUR "#e9eff6"
 #define JOINED_COLOUR "#ffd23f"
@@ -37,7 +41,8 @@ struct drawing {
     const struct opened_show *opened;
     const struct panel *recorded; /* played as it was recorded */
     struct window window;
-    double left, right; /* of the plot */
+    double left, right; /* of the lanes */
+    double frames_left; /* where the first frame begins */
     double frame_width, lane_height;
     bool faults; /* is there a row for refused slices? */
 };
@@ -56,14 +61,16 @@ struct life {
 
 static const size_t NEVER = SIZE_MAX;
 
-/* Where the middle of a frame is on the page; outside the window it is the edge of the plot. */
+/* Where the middle of a frame is on the page; outside the window it is the edge of the lanes. */
 static double middle_of(const struct drawing *drawing, size_t frame)
 {
-    if (frame == NEVER) {
+    if (frame < drawing->window.first) {
+        return drawing->left;
+    }
+    if (frame > drawing->window.last) {
         return drawing->right;
     }
-    double x = drawing->left + ((double)frame - (double)drawing->window.first + 0.5) * drawing->frame_width;
-    return x < drawing->left ? drawing->left : x > drawing->right ? drawing->right : x;
+    return drawing->frames_left + ((double)(frame - drawing->window.first) + 0.5) * drawing->frame_width;
 }
 
 static bool visible(const struct drawing *drawing, size_t frame)
@@ -117,8 +124,7 @@ static void draw_lane(const struct drawing *drawing, struct life life, double to
 {
     double bottom = top + drawing->lane_height;
     svg_line(drawing->left, bottom, drawing->right, bottom, LINE_COLOUR, 1);
-    double open = life.open == 0 ? drawing->left : middle_of(drawing, life.open),
-           close = middle_of(drawing, life.close);
+    double open = middle_of(drawing, life.open), close = middle_of(drawing, life.close);
     if (close > open) {
         svg_rectangle(open, top + 1, close - open, drawing->lane_height - 2, LANE_COLOUR, 1);
     }
@@ -203,7 +209,11 @@ static void draw_earlier_level(const struct drawing *drawing, const struct rows 
     }
 }
 
-/* A line through the lanes of a sequence: a bar where a lane ends, an arrow where one opens. */
+/*
+ * A line through the lanes of a sequence: a bar where a lane ends, an arrow to the line where one opens. How late it is
+ * is in a badge on the line between the two parts, so that it is not taken for a lane's; no other crossing has a badge
+ * there, since a lane begins the second part of one sequence at most.
+ */
 static void draw_crossing(const struct drawing *drawing, const struct rows *rows, const struct mark *mark,
                           const struct life *lives)
 {
@@ -219,8 +229,10 @@ static void draw_crossing(const struct drawing *drawing, const struct rows *rows
         }
     }
     size_t late = lateness(rows, mark);
-    if (late > 0 && x - LATE_ROOM > drawing->left) { /* else it would lie on the bands of the parts */
-        svg_text(x - 7, top_of(drawing, rows, to.first) + height * 0.72, TEXT_ENDS, TEXT_LATE, "+%zu", late);
+    if (late > 0) {
+        char words[24];
+        snprintf(words, sizeof words, "+%zu", late);
+        svg_badge(x, top_of(drawing, rows, to.first), words);
     }
 }
 
@@ -262,15 +274,16 @@ static unsigned most_slices(const struct drawing *drawing, const struct panel *p
 /* How many slices came in each frame, as a row of small bars; where there is none, nothing was fed. */
 static void draw_strip(const struct drawing *drawing, const struct panel *panel, double bottom)
 {
-    size_t frames = drawing->window.last - drawing->window.first + 1, room = (size_t)(drawing->right - drawing->left);
-    size_t columns = frames < room ? frames : room;
-    double width = (drawing->right - drawing->left) / (double)columns;
+    double room = drawing->right - drawing->frames_left;
+    size_t frames = drawing->window.last - drawing->window.first + 1;
+    size_t columns = frames < (size_t)room ? frames : (size_t)room;
+    double width = room / (double)columns;
     svg_text(drawing->left - 8, bottom - 2, TEXT_ENDS, TEXT_SMALL, "slices in a frame");
     svg_bars_begin(GREY_COLOUR, width * 0.8);
     for (size_t column = 0; column < columns; column++) {
         unsigned slices = most_slices(drawing, panel, column, columns);
         if (slices > 0) {
-            svg_bar(drawing->left + ((double)column + 0.5) * width, bottom, slices * 4);
+            svg_bar(drawing->frames_left + ((double)column + 0.5) * width, bottom, slices * 4);
         }
     }
     svg_bars_end();
@@ -282,27 +295,83 @@ static void refusal_words(char words[WORDS_BYTES], const struct refusal *refusal
              refusal->words != NULL ? refusal->words : wosthile_sentence(refusal->number));
 }
 
-/* A cross for each refused slice with its number below it, unless the number of the one before is in the way. */
+/* Refused slices whose marks would lie in the same column of pixels, and so have one. */
+struct refusal_column {
+    const struct refusal *first;
+    size_t count;
+    bool same_number;
+};
+
+/* The column that begins with a refusal; the refusals are in the order of their frames. */
+static struct refusal_column refusal_column(const struct drawing *drawing, const struct panel *panel, size_t index)
+{
+    const struct refusal *first = &panel->refusals[index];
+    struct refusal_column column = {first, 0, true};
+    size_t pixel = (size_t)middle_of(drawing, first->frame);
+    for (; index < panel->refused && visible(drawing, panel->refusals[index].frame) == visible(drawing, first->frame) &&
+           (size_t)middle_of(drawing, panel->refusals[index].frame) == pixel;
+         index++) {
+        column.count++;
+        column.same_number = column.same_number && panel->refusals[index].number == first->number;
+    }
+    return column;
+}
+
+/* What a pointer shows on the mark of a column. */
+static void column_words(char words[COLUMN_WORDS_BYTES], const struct refusal_column *column)
+{
+    char first[WORDS_BYTES];
+    refusal_words(first, column->first, column->first->frame);
+    if (column->count == 1) {
+        snprintf(words, COLUMN_WORDS_BYTES, "%s", first);
+    } else {
+        snprintf(words, COLUMN_WORDS_BYTES, "%zu slices are refused from frame %zu to frame %zu; the first in %s",
+                 column->count, column->first->frame, column->first[column->count - 1].frame, first);
+    }
+}
+
+/* What is written below the mark of a column: its number, with dots if it has others too, and how many it has. */
+static void column_label(char label[LABEL_BYTES], const struct refusal_column *column)
+{
+    int length = snprintf(label, LABEL_BYTES, "%u%s", column->first->number, column->same_number ? "" : "..");
+    if (column->count > 1) {
+        snprintf(label + length, LABEL_BYTES - (size_t)length, " ×%zu", column->count);
+    }
+}
+
+/*
+ * A cross with its label below it, unless that would leave the page or meet the label before it, which ends at
+ * label_end. The answer is where the last label ends now.
+ */
+static double draw_refusal(const struct drawing *drawing, const struct refusal_column *column, double middle,
+                           double label_end)
+{
+    char words[COLUMN_WORDS_BYTES], label[LABEL_BYTES];
+    column_words(words, column);
+    column_label(label, column);
+    double x = middle_of(drawing, column->first->frame), half = svg_text_width(TEXT_FAULT, label) * 0.6 + 2;
+    bool labelled = x - half >= label_end && x + half <= drawing->right + MARGIN;
+    svg_group_begin("refused", words);
+    svg_line(x - 4, middle - 4, x + 4, middle + 4, CROSSING_COLOUR, 2);
+    svg_line(x - 4, middle + 4, x + 4, middle - 4, CROSSING_COLOUR, 2);
+    if (labelled) {
+        svg_text(x, middle + 14, TEXT_CENTRED, TEXT_FAULT, "%s", label);
+    }
+    svg_group_end();
+    return labelled ? x + half : label_end;
+}
+
+/* The marks of the refused slices in the window. */
 static void draw_refusals(const struct drawing *drawing, const struct panel *panel, double middle)
 {
-    double label_end = drawing->left - 10;
-    svg_text(drawing->left - 8, middle + 8, TEXT_ENDS, TEXT_SMALL, "refused");
-    for (size_t index = 0; index < panel->refused; index++) {
-        const struct refusal *refusal = &panel->refusals[index];
-        if (!visible(drawing, refusal->frame)) {
-            continue;
+    double label_end = drawing->left - 8;
+    svg_text(label_end, middle + 8, TEXT_ENDS, TEXT_SMALL, "refused");
+    for (size_t index = 0; index < panel->refused;) {
+        struct refusal_column column = refusal_column(drawing, panel, index);
+        if (visible(drawing, column.first->frame)) {
+            label_end = draw_refusal(drawing, &column, middle, label_end);
         }
-        char words[WORDS_BYTES];
-        double x = middle_of(drawing, refusal->frame);
-        refusal_words(words, refusal, refusal->frame);
-        svg_group_begin("refused", words);
-        svg_line(x - 4, middle - 4, x + 4, middle + 4, CROSSING_COLOUR, 2);
-        svg_line(x - 4, middle + 4, x + 4, middle - 4, CROSSING_COLOUR, 2);
-        if (x - 7 >= label_end) {
-            svg_text(x, middle + 14, TEXT_CENTRED, TEXT_FAULT, "%u", refusal->number);
-            label_end = x + 7;
-        }
-        svg_group_end();
+        index += column.count;
     }
 }
 
@@ -383,8 +452,9 @@ static void draw_panel_title(const struct panel *panel, struct window window, do
         frames[panel->slices[frame] & 3]++;
     }
     if (panel->seed != 0) {
-        snprintf(cut, sizeof cut, "Cut by seed %llu: in %zu frames two slices come as one, in %zu frames three",
-                 (unsigned long long)panel->seed, frames[2], frames[3]);
+        snprintf(cut, sizeof cut, "Cut by seed %llu: in %zu frame%s two slices come as one, in %zu frame%s three",
+                 (unsigned long long)panel->seed, frames[2], frames[2] == 1 ? "" : "s", frames[3],
+                 frames[3] == 1 ? "" : "s");
     }
     if (panel->refused > 0) {
         snprintf(refused, sizeof refused, "; %zu refused", panel->refused);
@@ -442,13 +512,19 @@ static void sign_level(double x, double y)
 
 static void sign_crossing(double x, double y)
 {
-    svg_line(x + 2, y - 9, x + 2, y + 9, CROSSING_COLOUR, 1.5);
-    svg_arrow(x + 2, y);
+    svg_line(x + 11, y - 9, x + 11, y + 9, CROSSING_COLOUR, 1.5);
+    svg_arrow(x + 11, y);
 }
 
 static void sign_joined(double x, double y) { svg_rectangle(x, y - 7, 8, 15, JOINED_COLOUR, 0.55); }
 
 static void sign_late(double x, double y) { svg_text(x, y + 4, TEXT_STARTS, TEXT_LATE, "+2"); }
+
+static void sign_late_crossing(double x, double y)
+{
+    svg_line(x + 8, y - 9, x + 8, y + 9, CROSSING_COLOUR, 1.5);
+    svg_badge(x + 8, y, "+2");
+}
 
 /* The marks and what they mean, in two rows. */
 static void draw_legend(double y)
@@ -457,9 +533,10 @@ static void draw_legend(double y)
                                             {sign_cue, 26, "cue comes, and stays"},
                                             {sign_level, 26, "level comes, and stays"},
                                             {parts_sign, 14, "parts of a sequence, one after the other"}};
-    static const struct svg_sign frames[] = {{sign_crossing, 8, "crossing: one part ends, the next opens"},
+    static const struct svg_sign frames[] = {{sign_crossing, 12, "crossing: one part ends, the next opens"},
                                              {sign_joined, 8, "brought by slices that came as one"},
-                                             {sign_late, 12, "frames later than recorded"}};
+                                             {sign_late, 12, "frames later than recorded"},
+                                             {sign_late_crossing, 16, "the same, of a crossing"}};
     svg_legend(MARGIN, y, lanes, sizeof lanes / sizeof lanes[0]);
     svg_legend(MARGIN, y + 22, frames, sizeof frames / sizeof frames[0]);
 }
@@ -467,12 +544,10 @@ static void draw_legend(double y)
 static void draw_header(const char *path, struct window window, double width, double height)
 {
     svg_begin(width, height, path, "");
-    svg_text(width - MARGIN, 30, TEXT_ENDS, TEXT_SMALL, "frames %zu to %zu, %d frames a second", window.first,
+    svg_text(width - MARGIN, 30, TEXT_ENDS, TEXT_SMALL, "frame %zu to frame %zu, %d frames a second", window.first,
              window.last, FRAMES_A_SECOND);
-    svg_text(
-        MARGIN, 50, TEXT_STARTS, TEXT_PLAIN,
-        "Frames run to the right. Every lane is a cue or a level that comes once; a show follows its crossings from "
-        "lane to lane.");
+    svg_text(MARGIN, 50, TEXT_STARTS, TEXT_PLAIN,
+             "Frames run to the right. Each lane is for one cue or one level; it comes once, while the lane is open.");
     draw_legend(70);
 }
 
@@ -503,7 +578,8 @@ static void list_faults(struct fault_list *list, const struct opened_show *opene
         list_message(list, room, words);
     }
     if (recorded->refused > LISTED_MAX) {
-        snprintf(words, sizeof words, "and %zu more slices are refused", recorded->refused - LISTED_MAX);
+        size_t more = recorded->refused - LISTED_MAX;
+        snprintf(words, sizeof words, "and %zu more %s refused", more, more == 1 ? "slice is" : "slices are");
         list_message(list, room, words);
     }
     if (recorded->broken_off > 0) {
@@ -550,7 +626,8 @@ static struct drawing lay_out(const struct opened_show *opened, const struct pan
         .window = window,
         .left = left,
         .right = right,
-        .frame_width = (right - left) / (double)(window.last - window.first + 1),
+        .frames_left = left + ROOM_BEFORE_FRAMES,
+        .frame_width = (right - left - ROOM_BEFORE_FRAMES) / (double)(window.last - window.first + 1),
         .lane_height = opened->in.count + opened->out.count <= 64 ? 17 : 14,
         .faults = recorded->refused > 0 || recorded->broken_off > 0,
     };
@@ -578,32 +655,76 @@ struct words {
     struct window window; /* its last frame is 0 if none was asked for */
 };
 
-static bool read_words(int count, char **list, struct words *words)
+/* Reads --frames and the two words behind it; the answer is NULL, or the word that cannot be used. */
+static const char *read_window(int count, char **list, struct window *window)
 {
-    *words = (struct words){.path = count > 1 ? list[1] : NULL};
-    for (int index = 2; index < count; index++) {
-        uint64_t first = 0, last = 0;
-        if (strcmp(list[index], "--frames") == 0 && index + 2 < count && read_number(list[index + 1], &first) &&
-            read_number(list[index + 2], &last) && first >= 1 && first <= last) {
-            words->window = (struct window){first, last};
-            index += 2;
-        } else if (words->count == PANELS_MAX || !read_number(list[index], &words->seeds[words->count++])) {
-            return false;
-        }
+    uint64_t first = 0, last = 0;
+    if (count < 3) {
+        return list[0];
     }
-    words->count = words->count == 0 ? 1 : words->count;
-    return words->path != NULL;
+    if (!read_number(list[1], &first) || first == 0) {
+        return list[1];
+    }
+    if (!read_number(list[2], &last) || last < first) {
+        return list[2];
+    }
+    *window = (struct window){first, last};
+    return NULL;
 }
 
-/* The frames to draw: those asked for, as far as there are any, else all of the longest panel. */
-static struct window choose_window(struct window asked, struct panel *const *panels, size_t count)
+/* Reads the words; the program stops at one that cannot be used. */
+static struct words read_words(int count, char **list)
 {
-    size_t last = 1;
+    if (count < 2 || list[1][0] == '-') {
+        stop_for_words(list[1]);
+    }
+    struct words words = {.path = list[1]};
+    for (int index = 2; index < count; index++) {
+        const char *wrong = NULL;
+        if (strcmp(list[index], "--frames") == 0) {
+            wrong = read_window(count - index, list + index, &words.window);
+            index += 2;
+        } else if (words.count == PANELS_MAX || !read_number(list[index], &words.seeds[words.count++])) {
+            wrong = list[index];
+        }
+        if (wrong != NULL) {
+            stop_for_words(wrong);
+        }
+    }
+    words.count = words.count == 0 ? 1 : words.count;
+    return words;
+}
+
+/* The last frame in which anything comes in any panel. */
+static size_t last_frame(struct panel *const *panels, size_t count)
+{
+    size_t last = 0;
     for (size_t index = 0; index < count; index++) {
         last = panels[index]->frames > last ? panels[index]->frames : last;
     }
-    bool good = asked.last > 0 && asked.first <= last;
-    return good ? (struct window){asked.first, asked.last < last ? asked.last : last} : (struct window){1, last};
+    return last;
+}
+
+/* The frames to draw: those asked for, as far as there are any up to the last, else all. A show without any has one. */
+static struct window choose_window(const struct words *words, size_t recorded, size_t last)
+{
+    struct window asked = words->window;
+    char late[64] = "";
+    if (asked.last == 0) {
+        return (struct window){1, last > 0 ? last : 1};
+    }
+    if (last > recorded) {
+        snprintf(late, sizeof late, ", and late slices up to frame %zu", last);
+    }
+    const char *frames = recorded == 1 ? "frame" : "frames";
+    if (asked.first > last) {
+        stop("%s: the show has %zu %s%s: there is no frame %zu", words->path, recorded, frames, late, asked.first);
+    }
+    if (asked.last > last) {
+        tell("%s: the show has %zu %s%s: it is drawn up to frame %zu", words->path, recorded, frames, late, last);
+        asked.last = last;
+    }
+    return asked;
 }
 
 /* Plays the recording once as it was recorded and once for each seed, and draws it. */
@@ -613,7 +734,8 @@ static void play_and_draw(const struct opened_show *opened, const struct words *
     for (size_t index = 0; index < words->count; index++) {
         panels[index] = panel_play(opened, words->seeds[index]);
     }
-    struct drawing drawing = lay_out(opened, recorded, choose_window(words->window, panels, words->count));
+    struct window window = choose_window(words, recorded->frames, last_frame(panels, words->count));
+    struct drawing drawing = lay_out(opened, recorded, window);
     draw(words->path, &drawing, panels, words->count);
     for (size_t index = 0; index < words->count; index++) {
         panel_release(panels[index]);
@@ -623,12 +745,9 @@ static void play_and_draw(const struct opened_show *opened, const struct words *
 
 int main(int count, char **list)
 {
-    struct words words;
     static struct opened_show opened;
     program_begin(help, count, list);
-    if (!read_words(count, list, &words)) {
-        stop_for_words(NULL);
-    }
+    struct words words = read_words(count, list);
     enum status status = open_show(words.path, &opened);
     if (status == STATUS_DONE) {
         play_and_draw(&opened, &words);

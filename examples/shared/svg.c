@@ -21,6 +21,7 @@ static const struct look looks[] = {
     [TEXT_COUNT] = {"count", 10, "font-weight:bold"},
     [TEXT_VALUE] = {"value", 11, "paint-order:stroke;stroke:#fff;stroke-width:2px"},
     [TEXT_LATE] = {"late", 9, "fill:#6b2fa0;paint-order:stroke;stroke:#fff;stroke-width:2px"},
+    [TEXT_BADGE] = {"badge", 8.5, "font-weight:bold;fill:#fff"},
     [TEXT_PART] = {"part", 8.5, "font-weight:bold;fill:" CROSSING_COLOUR},
     [TEXT_FAULT] = {"fault", 10,
                     "font-weight:bold;fill:" CROSSING_COLOUR ";paint-order:stroke;stroke:#fff;stroke-width:2px"},
@@ -98,12 +99,13 @@ void svg_line(double x1, double y1, double x2, double y2, const char *colour, do
 
 void svg_diamond(double x, double y)
 {
-    printf("<path d=\"M%.1f %.1fl5.5 5.5l-5.5 5.5l-5.5 -5.5z\" fill=\"" CUE_COLOUR "\"/>\n", x, y - 5.5);
+    printf("<path d=\"M%.1f %.1fl5.5 5.5l-5.5 5.5l-5.5 -5.5z\" fill=\"" CUE_COLOUR "\" stroke=\"#fff\"/>\n", x,
+           y - 5.5);
 }
 
 void svg_arrow(double x, double y)
 {
-    printf("<path d=\"M%.1f %.1fl6 4l-6 4z\" fill=\"" CROSSING_COLOUR "\"/>\n", x, y - 4);
+    printf("<path d=\"M%.1f %.1fl-11 -4v8z\" fill=\"" CROSSING_COLOUR "\"/>\n", x, y);
 }
 
 void svg_curve(double x1, double y1, double x2, double y2, const char *colour, double width)
@@ -156,6 +158,13 @@ void svg_text(double x, double y, enum text_anchor anchor, enum text_look look, 
     printf("<text x=\"%.1f\" y=\"%.1f\" text-anchor=\"%s\" class=\"%s\">", x, y, anchors[anchor], looks[look].class);
     print_escaped(text);
     printf("</text>\n");
+}
+
+void svg_badge(double x, double y, const char *words)
+{
+    double width = svg_text_width(TEXT_BADGE, words) + 6, height = looks[TEXT_BADGE].size + 2;
+    svg_box(x - width / 2, y - height / 2, width, height, CROSSING_COLOUR, "#fff");
+    svg_text(x, y + 3, TEXT_CENTRED, TEXT_BADGE, "%s", words);
 }
 
 void svg_group_begin(const char *class, const char *words)

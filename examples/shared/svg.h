@@ -18,6 +18,7 @@ enum text_look {
     TEXT_COUNT, /* a small number in bold */
     TEXT_VALUE, /* on top of a drawing, with a white border */
     TEXT_LATE,  /* likewise, smaller */
+    TEXT_BADGE, /* white, in a badge */
     TEXT_PART,  /* the number of a part of a sequence */
     TEXT_FAULT
 };
@@ -48,10 +49,13 @@ void svg_box(double x, double y, double width, double height, const char *fill, 
 
 void svg_line(double x1, double y1, double x2, double y2, const char *colour, double width);
 
-/* The mark of a cue, a diamond around a point. */
+/* The mark of a cue, a diamond around a point; its white edge sets it off from what is below it. */
 void svg_diamond(double x, double y);
 
-/* The mark of a crossing, where a lane opens. */
+/*
+ * The mark of a crossing where a lane opens: an arrow that ends at a point. It is longer than half a diamond, so it is
+ * seen also where a cue comes with the crossing.
+ */
 void svg_arrow(double x, double y);
 
 /* A curve that leaves one point and reaches another from the left to the right. */
@@ -76,6 +80,9 @@ void svg_zigzag(double x, double top, double bottom, const char *colour);
 /* Text as printf makes it; characters that mean something in XML are written as XML wants them. */
 void svg_text(double x, double y, enum text_anchor anchor, enum text_look look, const char *format, ...)
     __attribute__((format(printf, 5, 6)));
+
+/* Words about a crossing, in a box of the crossing's colour around a point. */
+void svg_badge(double x, double y, const char *words);
 
 /* A group of shapes; a browser shows the words at a pointer that rests on one of them. */
 void svg_group_begin(const char *class, const char *words);

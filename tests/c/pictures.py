@@ -16,7 +16,7 @@ FOLDER = pathlib.Path(sys.argv[1])
 SHOWS = sorted(pathlib.Path("examples/shows").glob("*.show"))
 SVG = "{http://www.w3.org/2000/svg}"
 SIZES = {"page-title": 19, "title": 14, "plain": 11.5, "heading": 11.5, "small": 11, "value": 11, "count": 10,
-         "fault": 10, "late": 9, "part": 8.5}
+         "fault": 10, "late": 9, "badge": 8.5, "part": 8.5}
 
 EMPTY, CUE, LEVEL, SEQUENCE, BESIDE = range(5)
 NODES = ["pass", "silent", "cue", "level", "both", "left", "right", "first", "second", "then", "chain", "regroup right",
@@ -157,12 +157,53 @@ def broken_length_is_marked():
     assert len(groups(draw("timeline", show), "broken-off")) == 1
 
 
+def refusals_marked(picture):
+    """How many refused slices each mark is for."""
+    several = re.compile(r"(\d+) slices are refused from frame \d+ to frame \d+; the first in frame \d+: refused with ")
+    return [int(found.group(1)) if (found := several.match(words)) else 1 for words in titles(picture, "refused")]
+
+
 def many_refusals_are_marked():
+    """A mark each where there is room, and one for all that came in the same frame."""
     show = write_show("refusals", [CUE], [0], [[9]] * 400)
-    picture = draw("timeline", show, 0, 3)
-    assert len(groups(picture, "refused")) == 800
-    assert "and 388 more slices are refused" in words_of(picture, "small")
+    assert refusals_marked(draw("timeline", show)) == [1] * 400
+    marked = refusals_marked(draw("timeline", show, 3))
+    assert sum(marked) == 400 and max(marked) == 3
+    picture = draw("timeline", write_show("thirteen", [CUE], [0], [[9]] * 13), 3)
+    assert "and 1 more slice is refused" in words_of(picture, "small")
+    assert set(words_of(picture, "fault")) == {"12", "12 ×2"}
     no_overlap(picture)
+
+
+def pictures_of_long_shows_are_small():
+    """100,000 refused slices have no more marks than there are columns of pixels; each is in the count of one."""
+    show = write_show("long", [CUE], [0], [[9], [3]] * 50_000)
+    drawn, _ = run("timeline", show, 0, 3)
+    assert len(drawn) < 1_000_000, f"{len(drawn)} bytes"
+    picture = xml.fromstring(drawn)
+    marked = refusals_marked(picture)
+    assert len(marked) < 2 * float(picture.get("width")) and sum(marked) == 200_000
+    assert "and 99988 more slices are refused" in words_of(picture, "small")
+    no_overlap(picture)
+    part = draw("timeline", show, "--frames", 50_000, 50_099)
+    assert refusals_marked(part) == [1] * 100, "refused slices before or behind the part are marked in it"
+
+
+def frames_asked_for_are_drawn():
+    """Of a show with 60 frames, cut by a seed that brings its last slice late."""
+    show = write_show("sixty", [CUE], [0], [[1]] * 60)
+    late = next(seed for seed in range(1, 99) if b"frame 1 to frame 61," in run("timeline", show, seed)[0])
+    for words, first, last, told in [
+            ([], 1, 60, ""), (["--frames", 50, 60], 50, 60, ""),
+            (["--frames", 50, 100], 50, 60, "the show has 60 frames: it is drawn up to frame 60"),
+            ([late, "--frames", 60, 70], 60, 61, "60 frames, and late slices up to frame 61: it is drawn up to")]:
+        drawn, messages = run("timeline", show, *words)
+        assert told in messages and (told or not messages), messages
+        assert words_of(xml.fromstring(drawn), "small")[0].startswith(f"frame {first} to frame {last},")
+    for words, told in [(["--frames", 61, 70], "60 frames: there is no frame 61"),
+                        ([late, "--frames", 62, 62], "up to frame 61: there is no frame 62")]:
+        drawn, messages = run("timeline", show, *words, status=2)
+        assert drawn == b"" and told in messages, messages
 
 
 def low_levels_are_seen():
@@ -180,10 +221,46 @@ def low_levels_are_seen():
 
 def lateness_is_told():
     """Seed 19 brings the comet's last cue, of frame 120, with the crossing and the rings in frame 122."""
-    late = words_of(draw("timeline", "examples/shows/comet_to_saturn.show", 19, "--frames", 115, 125), "late")
-    legend = ["+2"]
-    assert sorted(late) == sorted(legend + ["+1", "+2"] * 2), late
-    assert words_of(draw("timeline", "examples/shows/comet_to_saturn.show", 0), "late") == legend
+    show, legend = "examples/shows/comet_to_saturn.show", ["+2"]
+    late = draw("timeline", show, 19, "--frames", 115, 125)
+    assert words_of(late, "late") == legend + ["+2"] * 2 and words_of(late, "badge") == legend + ["+1"] * 2
+    in_time = draw("timeline", show, 0)
+    assert words_of(in_time, "late") == words_of(in_time, "badge") == legend
+
+
+def lines(picture, colour):
+    """The straight lines of a colour, each as x and y of both ends."""
+    paths = [path.get("d") for path in picture.iter(SVG + "path") if path.get("stroke") == colour]
+    found = [re.fullmatch(r"M([\d.]+) ([\d.]+)L([\d.]+) ([\d.]+)", path) for path in paths]
+    return [tuple(map(float, line.groups())) for line in found if line]
+
+
+def late_crossings_are_told_from_lanes():
+    """How late a crossing is is written on its line, between two lanes."""
+    picture = draw("timeline", "examples/shows/comet_to_saturn.show", 19, "--frames", 115, 125)
+    between = {y for _, y, _, end in lines(picture, "#dde2e8") if y == end}
+    for badge in texts(picture, "badge")[1:]:
+        x, y = float(badge.get("x")), float(badge.get("y")) - 3
+        assert y in between
+        assert any(left == right == x and top < y < bottom for left, top, right, bottom in lines(picture, "#a4123f"))
+
+
+def arrows_are_seen_beside_cues():
+    """
+    Both cues of a sequence and the crossing come in the first frame: arrow and diamond are seen, and on no band. The
+    first of each, and the first two bands, are the legend's.
+    """
+    picture = draw("timeline", write_show("at_once", [SEQUENCE, CUE, CUE], [0], [[6, 2, 2]] + [[0]] * 300))
+    shapes = [path.get("d") for path in picture.iter(SVG + "path")]
+    arrows = [re.fullmatch(r"M([\d.]+) ([\d.]+)l-(\d+) -(\d+)v\d+z", shape) for shape in shapes]
+    arrows = [tuple(map(float, arrow.groups())) for arrow in arrows if arrow][1:]
+    diamonds = [re.match(r"M([\d.]+) ([\d.]+)l5.5 5.5", shape) for shape in shapes]
+    diamonds = [(float(diamond[1]), float(diamond[2]) + 5.5) for diamond in diamonds if diamond][1:]
+    bands = [float(band.get("x")) + float(band.get("width")) for band in picture.iter(SVG + "rect")
+             if band.get("fill") in ("#f3dfe5", "#e0bcc8")][2:]
+    assert len(arrows) == 2 and len(diamonds) == 4
+    for x, y, length, _ in arrows:
+        assert (x, y) in diamonds and length >= 5.5 + 4 and x - length >= max(bands)
 
 
 def long_names_are_whole():
@@ -338,9 +415,10 @@ def unusable_has_status_2():
 def main():
     failed = 0
     for test in [every_show_is_drawn, seconds_are_beside_frames, damage_is_marked, broken_length_is_marked,
-                 many_refusals_are_marked, low_levels_are_seen, lateness_is_told, long_names_are_whole, nodes_are_boxes,
-                 lanes_lead_to_their_names, patch_file_is_drawn, every_kind_is_drawn, largest_patches_are_drawn,
-                 documents_have_what_is_drawn, refused_patch_has_status_1, damaged_files_are_survived,
+                 many_refusals_are_marked, pictures_of_long_shows_are_small, frames_asked_for_are_drawn,
+                 low_levels_are_seen, lateness_is_told, late_crossings_are_told_from_lanes, arrows_are_seen_beside_cues,
+                 long_names_are_whole, nodes_are_boxes, lanes_lead_to_their_names, patch_file_is_drawn,
+                 every_kind_is_drawn, largest_patches_are_drawn, documents_have_what_is_drawn, refused_patch_has_status_1, damaged_files_are_survived,
                  unusable_has_status_2]:
         try:
             test()
