@@ -1,10 +1,10 @@
 /*
  * Explains a show, a patch, or a type with a slice: what its bytes say and, if it is refused, where and why.
  */
+#include "given_bytes.h"
 #include "listing.h"
 #include "program.h"
 
-#include <errno.h>
 #include <stdio.h>
 #include <stdlib.h>
 #include <string.h>
@@ -27,59 +27,6 @@ static const char help[] =
     "Exit status: 0 if nothing is wrong; 1 if something is refused, or a show file ends inside a slice; 2 if the "
     "words\n"
     "or the files cannot be used.\n";
-
-/* A file is at most two sections of 65,535 bytes, and a byte more shows that there is one too many. */
-enum { FILE_BYTES = 2 * (2 + 65535) + 1 };
-
-struct bytes {
-    size_t length;
-    uint8_t at[FILE_BYTES];
-};
-
-static struct file file_of(const struct bytes *bytes) { return (struct file){bytes->at, bytes->length}; }
-
-/* Reads bytes in decimal; false if the word is not made of digits and spaces, and then it is the name of a file. */
-static bool read_decimal(const char *word, struct bytes *bytes)
-{
-    if (word[strspn(word, "0123456789 ")] != '\0') {
-        return false;
-    }
-    bytes->length = 0;
-    for (const char *next = word + strspn(word, " "); *next != '\0'; next += strspn(next, " ")) {
-        char *behind;
-        unsigned long value = strtoul(next, &behind, 10);
-        if (value > 255 || bytes->length == FILE_BYTES) {
-            stop("\"%.40s\" has a number above 255, or more bytes than a file can have", next);
-        }
-        bytes->at[bytes->length++] = (uint8_t)value;
-        next = behind;
-    }
-    return true;
-}
-
-static void read_file(const char *path, struct bytes *bytes)
-{
-    FILE *stream = fopen(path, "rb");
-    if (stream == NULL) {
-        stop("%s cannot be opened: %s", path, strerror(errno));
-    }
-    bytes->length = fread(bytes->at, 1, FILE_BYTES, stream);
-    if (ferror(stream)) {
-        stop("%s cannot be read: %s", path, strerror(errno));
-    }
-    fclose(stream);
-    if (bytes->length == FILE_BYTES) {
-        stop("%s is longer than a patch, a type or a slice can be", path);
-    }
-}
-
-/* The bytes that a word gives, or the file that it names. */
-static void read_word(const char *word, struct bytes *bytes)
-{
-    if (!read_decimal(word, bytes)) {
-        read_file(word, bytes);
-    }
-}
 
 static void print_refusal(const char *what, uint32_t number, const char *place)
 {
@@ -314,13 +261,13 @@ static enum status explain_show_file(const char *path, bool all)
 
 static enum status explain_words(int count, char **words)
 {
-    static struct bytes first, second;
-    read_word(words[2], &first);
+    static struct given_bytes first, second;
+    given_bytes_read(words[2], &first);
     if (count > 3) {
-        read_word(words[3], &second);
-        return explain_slice(file_of(&first), file_of(&second));
+        given_bytes_read(words[3], &second);
+        return explain_slice(given_file(&first), given_file(&second));
     }
-    struct listed listed = {.file = file_of(&first)};
+    struct listed listed = {.file = given_file(&first)};
     return strcmp(words[1], "--patch") == 0 ? explain_patch(&listed, NULL) : explain_type(listed.file);
 }
 
