@@ -1,21 +1,25 @@
 /* Draws a patch as a picture: lanes come in from the left, run through the nodes, and are sent on at the right. */
 #include "faults.h"
+#include "given_bytes.h"
 #include "opening.h"
 #include "parts.h"
 #include "patch_tree.h"
 #include "svg.h"
 
-#include <errno.h>
 #include <stdio.h>
 #include <string.h>
 
 static const char help[] =
-    "diagram SHOW | --patch FILE\n"
+    "diagram SHOW | --patch PATCH\n"
     "\n"
-    "Draws the patch of a show file, or a patch file, as an SVG picture on standard output. A node is a box; one with\n"
-    "two parts is a frame around them, and a chain is a row. Every cue and level of the input is a line that runs\n"
-    "from its name at the left, through the nodes, to its name at the right; where a stream has more than 40 lanes,\n"
-    "streams are ribbons. A pointer that rests on a box shows the types that it takes and gives.\n"
+    "Draws the patch of a show file, or a patch, as an SVG picture on standard output. PATCH is a file, or its bytes "
+    "in\n"
+    "decimal as one word: diagram --patch \"0 1 1 0 1 0\".\n"
+    "\n"
+    "A node is a box; one with two parts is a frame around them, and a chain is a row. Every cue and level of the "
+    "input\n"
+    "is a line that runs from its name at the left, through the nodes, to its name at the right; where a stream has\n"
+    "more than 40 lanes, streams are ribbons. A pointer that rests on a box shows the types that it takes and gives.\n"
     "\n"
     "Exit status: 0 drawn; 1 the patch is refused; 2 words or files that cannot be used.\n";
 
@@ -539,28 +543,33 @@ static void draw(const struct diagram *diagram, const char *path, const struct c
     svg_end();
 }
 
-/* Reads a patch file that is in no show. Its lanes have no names. */
-static enum status open_patch(const char *path, struct opened_show *opened)
+/* Does a file that is refused as a patch begin as a show does, with a patch behind its length? */
+static bool begins_as_show(struct file file)
 {
-    static uint8_t bytes[2 * 65537 + 1]; /* two sections of the greatest length, and a byte too many */
-    FILE *stream = fopen(path, "rb");
-    struct file patch = {bytes, stream == NULL ? 0 : fread(bytes, 1, sizeof bytes, stream)};
-    if (stream == NULL || ferror(stream)) {
-        stop("%s: the file cannot be read: %s", path, strerror(errno));
-    }
-    fclose(stream);
+    struct file patch = section_of(file);
+    struct type output;
+    return wosthile_check(patch.bytes, patch.length, output.bytes, sizeof output.bytes).number == WOSTHILE_ACCEPTED;
+}
+
+/* Opens a patch that is in no show, from its file or its bytes. */
+static enum status open_patch(const char *word, struct opened_show *opened)
+{
+    static struct given_bytes bytes;
+    given_bytes_read(word, &bytes);
+    struct file patch = given_file(&bytes);
     uint32_t number = patch_start(&opened->patch, patch, &opened->output_type);
-    lane_names_read(&opened->names, path, LANES_MAX, LANES_MAX);
     if (number != WOSTHILE_ACCEPTED) {
         char place[MESSAGE_BYTES];
-        patch_fault_text(place, sizeof place, patch, &opened->names.in, NULL);
-        tell("%s: the patch is refused with %u: %s\n    %s", path, number, wosthile_sentence(number), place);
+        patch_fault_text(place, sizeof place, patch, NULL, NULL);
+        tell("%s: the patch is refused with %u: %s\n    %s%s", word, number, wosthile_sentence(number), place,
+             begins_as_show(patch) ? "\n    The file is a show and no patch; without --patch its patch is drawn." : "");
         return STATUS_REFUSED;
     }
     if (!lanes_start(&opened->in, patch_input_type(&opened->patch)) ||
         !lanes_start(&opened->out, type_file(&opened->output_type))) {
-        stop("%s: a type of the patch cannot be read", path);
+        stop("%s: a type of the patch cannot be read", word);
     }
+    lane_names_by_number(&opened->names);
     return STATUS_DONE;
 }
 
@@ -577,19 +586,29 @@ static void draw_opened(const struct opened_show *opened, const char *path)
     draw(&diagram, path, &in, &out);
 }
 
-int main(int count, char **words)
+/* Draws what the words ask for; the program stops at a word that cannot be used. */
+static enum status draw_words(int count, char **words)
 {
     static struct opened_show opened;
-    program_begin(help, count, words);
-    bool patch_alone = count == 3 && strcmp(words[1], "--patch") == 0;
-    if (!patch_alone && (count != 2 || words[1][0] == '-')) {
-        stop_for_words(NULL);
+    bool patch_alone = count > 1 && strcmp(words[1], "--patch") == 0;
+    int due = patch_alone ? 3 : 2;
+    if (count < due || (!patch_alone && words[1][0] == '-')) {
+        stop_for_words(words[1]);
     }
-    const char *path = words[count - 1];
-    enum status status = patch_alone ? open_patch(path, &opened) : open_show(path, &opened);
+    if (count > due) {
+        stop_for_words(words[due]);
+    }
+    const char *word = words[due - 1];
+    enum status status = patch_alone ? open_patch(word, &opened) : open_show(word, &opened);
     if (status == STATUS_DONE) {
-        draw_opened(&opened, path);
+        draw_opened(&opened, word);
     }
     close_show(&opened);
-    return program_end(status);
+    return status;
+}
+
+int main(int count, char **words)
+{
+    program_begin(help, count, words);
+    return program_end(draw_words(count, words));
 }

@@ -163,12 +163,17 @@ static void call_by_number(const struct side *side)
     }
 }
 
+void lane_names_by_number(struct lane_names *names)
+{
+    call_by_number(&(struct side){.word = "in", .names = &names->in});
+    call_by_number(&(struct side){.word = "out", .names = &names->out});
+}
+
 void lane_names_read(struct lane_names *names, const char *show_path, unsigned in_lanes, unsigned out_lanes)
 {
     char *path = names_path(show_path);
     struct reading reading = {path, 0, {{"in", in_lanes, &names->in, {0}}, {"out", out_lanes, &names->out, {0}}}};
-    call_by_number(&reading.sides[0]);
-    call_by_number(&reading.sides[1]);
+    lane_names_by_number(names);
     FILE *stream = fopen(path, "r");
     bool failed = stream == NULL && errno != ENOENT; /* most shows need no names */
     if (stream != NULL) {

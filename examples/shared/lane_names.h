@@ -20,6 +20,9 @@ struct lane_names {
     struct side_names in, out;
 };
 
+/* Calls every lane by its side and its number, `in 3` or `out 3`, for a patch that is in no show. */
+void lane_names_by_number(struct lane_names *names);
+
 /*
  * Reads the names beside a show that has so many lanes on each side. A lane without one is called `in 3` or `out 3`. A
  * line that names no lane of the show, or one that has a name already, is told on the error stream and left out; so is

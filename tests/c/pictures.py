@@ -319,12 +319,18 @@ def lanes_lead_to_their_names():
         assert reached == expected and expected.count([]) == len(own), f"{show}: {reached}"
 
 
-def patch_file_is_drawn():
+def patch_alone_is_drawn():
+    """From its file, or from its bytes in decimal; a show in its place is told."""
     show = SHOWS[0]
     path = FOLDER / "alone.patch"
     path.write_bytes(patch_of(show)[0])
-    alone = draw("diagram", "--patch", path)
-    assert titles(alone, "node") == titles(draw("diagram", show), "node") and "in 1" in words_of(alone, "plain")
+    for given in path, " ".join(map(str, patch_of(show)[0])):
+        alone = draw("diagram", "--patch", given)
+        assert titles(alone, "node") == titles(draw("diagram", show), "node") and "in 1" in words_of(alone, "plain")
+        no_overlap(alone)
+    hint = "The file is a show and no patch"
+    assert hint in run("diagram", "--patch", show, status=1)[1]
+    assert hint not in run("diagram", "--patch", "0 1 1 0 1 5", status=1)[1]
 
 
 def every_kind_is_drawn():
@@ -401,12 +407,18 @@ def damaged_files_are_survived():
 
 
 def unusable_has_status_2():
+    """The word that cannot be used is told, or that there is none."""
     show = SHOWS[0]
-    for words in [["timeline"], ["diagram"], ["timeline", show, "x"], ["diagram", show, "x"], ["diagram", "--patch"],
-                  ["timeline", show, "--frames", 5, 4], ["timeline", "nothing.show"], ["diagram", "nothing.show"],
-                  ["diagram", "--patch", "nothing"], ["timeline", show, *range(17)]]:
+    for words, wrong in [
+            (["timeline"], "the words are"), (["diagram"], "the words are"), (["timeline", show, "x"], '"x"'),
+            (["diagram", show, "x"], '"x"'), (["diagram", "--patch"], '"--patch"'), (["diagram", "--x"], '"--x"'),
+            (["diagram", "--patch", "a", "b"], '"b"'), (["timeline", "--frames", 1, 2], '"--frames"'),
+            (["timeline", show, "--frames", 5, 4], '"4"'), (["timeline", show, "--frames", 0, 4], '"0"'),
+            (["timeline", show, "--frames", 5], '"--frames"'), (["timeline", show, *range(17)], '"16"'),
+            (["timeline", "nothing.show"], "nothing.show"), (["diagram", "nothing.show"], "nothing.show"),
+            (["diagram", "--patch", "nothing"], "nothing"), (["diagram", "--patch", "0 256"], '"256"')]:
         drawn, told = run(*words, status=2)
-        assert drawn == b"" and told, words
+        assert drawn == b"" and wrong in told, (words, told)
     for program in "timeline", "diagram":
         with open("/dev/full", "wb") as full:
             assert "cannot be written" in run(program, show, status=2, stdout=full)[1]
@@ -417,7 +429,7 @@ def main():
     for test in [every_show_is_drawn, seconds_are_beside_frames, damage_is_marked, broken_length_is_marked,
                  many_refusals_are_marked, pictures_of_long_shows_are_small, frames_asked_for_are_drawn,
                  low_levels_are_seen, lateness_is_told, late_crossings_are_told_from_lanes, arrows_are_seen_beside_cues,
-                 long_names_are_whole, nodes_are_boxes, lanes_lead_to_their_names, patch_file_is_drawn,
+                 long_names_are_whole, nodes_are_boxes, lanes_lead_to_their_names, patch_alone_is_drawn,
                  every_kind_is_drawn, largest_patches_are_drawn, documents_have_what_is_drawn, refused_patch_has_status_1, damaged_files_are_survived,
                  unusable_has_status_2]:
         try:
