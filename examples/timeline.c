@@ -302,15 +302,18 @@ struct refusal_column {
     bool same_number;
 };
 
+static bool in_one_column(const struct drawing *drawing, size_t frame, size_t other)
+{
+    return visible(drawing, frame) == visible(drawing, other) &&
+           (size_t)middle_of(drawing, frame) == (size_t)middle_of(drawing, other);
+}
+
 /* The column that begins with a refusal; the refusals are in the order of their frames. */
 static struct refusal_column refusal_column(const struct drawing *drawing, const struct panel *panel, size_t index)
 {
     const struct refusal *first = &panel->refusals[index];
     struct refusal_column column = {first, 0, true};
-    size_t pixel = (size_t)middle_of(drawing, first->frame);
-    for (; index < panel->refused && visible(drawing, panel->refusals[index].frame) == visible(drawing, first->frame) &&
-           (size_t)middle_of(drawing, panel->refusals[index].frame) == pixel;
-         index++) {
+    for (; index < panel->refused && in_one_column(drawing, first->frame, panel->refusals[index].frame); index++) {
         column.count++;
         column.same_number = column.same_number && panel->refusals[index].number == first->number;
     }
