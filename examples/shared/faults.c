@@ -148,23 +148,51 @@ static void add_place(struct text *text, size_t byte, struct within within)
     }
 }
 
-/* Adds what the fault is where its number and its place say all: counts, and bytes behind a whole tree. */
-static bool add_plain_fault(struct text *text, struct fault fault, struct file file)
+/* Adds what a show says of the length of a file in it, since a wrong length looks like a wrong count. */
+static void add_length(struct text *text, struct within within)
 {
-    struct file rest = {file.bytes + fault.section, file.length - fault.section};
-    size_t end = fault.section + 2 + section_of(rest).length;
+    if (within.show != NULL) {
+        size_t begins = show_place(within.show, within.file);
+        text_add(text, "; the length of the %s, at bytes %zu to %zu of the show, says %zu", within.what, begins - 2,
+                 begins - 1, within.file.length);
+    }
+}
+
+/* Adds what a count or a length has wrong; the rest of the file begins with the count of the fault's section. */
+static bool add_count_fault(struct text *text, struct fault fault, struct within within, struct file rest)
+{
     if (fault.at == AT_CUT_COUNT) {
-        text_add(text, ": the file ends %s",
+        text_add(text, ": the %s ends %s", within.what,
                  rest.length == 0 ? "where a section is due" : "inside a count of two bytes");
     } else if (fault.at == AT_LARGE_COUNT) {
-        text_add(text, ": the count promises %zu bytes, and %zu follow", count_of(rest), rest.length - 2);
+        size_t count = count_of(rest), follow = rest.length - 2;
+        text_add(text, ": the count promises %zu %s, and %zu %s", count, plural(count, "byte", "bytes"), follow,
+                 plural(follow, "follows", "follow"));
     } else if (fault.at == AT_BEHIND) {
-        text_add(text, ": the last section ends, and bytes follow it: %zu", file.length - end);
-    } else if (fault.number == WOSTHILE_FAULT_LEFT_OVER || fault.number == WOSTHILE_FAULT_SLICE_LEFT_OVER) {
-        text_add(text, ": the tree is whole, and bytes of its section follow it: %zu", end - fault.byte);
+        size_t follow = rest.length - 2 - section_of(rest).length;
+        text_add(text, ": the last section ends, and %zu %s it", follow,
+                 plural(follow, "byte follows", "bytes follow"));
     } else {
         return false;
     }
+    add_length(text, within);
+    return true;
+}
+
+/* Adds what the fault is where its number and its place say all: counts, and bytes behind a whole tree. */
+static bool add_plain_fault(struct text *text, struct fault fault, struct within within)
+{
+    struct file file = within.file;
+    struct file rest = {file.bytes + fault.section, file.length - fault.section};
+    if (add_count_fault(text, fault, within, rest)) {
+        return true;
+    }
+    if (fault.number != WOSTHILE_FAULT_LEFT_OVER && fault.number != WOSTHILE_FAULT_SLICE_LEFT_OVER) {
+        return false;
+    }
+    size_t follow = fault.section + 2 + section_of(rest).length - fault.byte;
+    text_add(text, ": the tree is whole, and %zu %s it", follow,
+             plural(follow, "byte of its section follows", "bytes of its section follow"));
     return true;
 }
 
@@ -214,8 +242,9 @@ void slice_fault_text(char *to, size_t room, const struct lanes *in_force, struc
     if (fault.number == WOSTHILE_ACCEPTED) {
         return;
     }
-    add_place(&text, fault.byte, (struct within){"slice", slice, show});
-    if (!add_plain_fault(&text, fault, slice)) {
+    struct within within = {"slice", slice, show};
+    add_place(&text, fault.byte, within);
+    if (!add_plain_fault(&text, fault, within)) {
         add_slice_byte(&text, in_force, slice, fault, names);
     }
 }
@@ -259,7 +288,7 @@ static void add_reading_fault(struct text *text, struct within within, struct fa
     if (fault.section == 0 && (fault.at == AT_BYTE || fault.at == AT_SECTION_END)) {
         add_lane_before(text, section_of(file), fault.byte - 2, names);
     }
-    if (!add_plain_fault(text, fault, file)) {
+    if (!add_plain_fault(text, fault, within)) {
         add_tree_byte(text, file, fault, due);
     }
 }
@@ -285,7 +314,7 @@ static void add_given_type(struct text *text, const struct type *type, uint32_t 
     struct file section = section_of(type_file(type));
     type_text(line, section);
     if (number == WOSTHILE_FAULT_TYPE_TOO_LARGE) {
-        snprintf(line, sizeof line, "a type of %zu node%s", section.length, section.length == 1 ? "" : "s");
+        snprintf(line, sizeof line, "a type of %zu %s", section.length, plural(section.length, "node", "nodes"));
     }
     text_add(text, "%s", line);
 }

@@ -1,5 +1,6 @@
 #include "show.h"
 #include "program.h"
+#include "text.h"
 
 #include <errno.h>
 #include <stdio.h>
@@ -61,7 +62,7 @@ static void count_slices(struct show *show, struct file stream, size_t place)
         show->count++;
     }
     if (place < stream.length) {
-        show->unfinished = (struct unfinished){show->count + 1, stream.length - place, next_due(stream, place)};
+        show->unfinished = (struct unfinished){show->count + 1, place, stream.length - place, next_due(stream, place)};
     }
 }
 
@@ -133,17 +134,17 @@ void show_release(struct show *show)
 
 void show_unfinished_text(char *to, size_t room, const struct unfinished *unfinished)
 {
-    size_t frame = unfinished->frame, have = unfinished->have, missing = unfinished->due - have;
+    struct text text = text_begin(to, room);
+    text_add(&text, "the file ends inside the slice of frame %zu: ", unfinished->frame);
     if (unfinished->due == 0) {
-        snprintf(to, room,
-                 "the file ends inside the slice of frame %zu: its last byte is left out, half of the slice's length",
-                 frame);
-    } else {
-        snprintf(to, room,
-                 "the file ends inside the slice of frame %zu: its last %zu bytes are left out, the slice has %zu "
-                 "byte%s fewer than its length says",
-                 frame, have, missing, missing == 1 ? "" : "s");
+        text_add(&text, "byte %zu of the show is half of the slice's length, and is left out", unfinished->begin);
+        return;
     }
+    size_t follow = unfinished->have - 2;
+    text_add(&text,
+             "the slice's length, at bytes %zu to %zu of the show, says %zu, and %zu %s; the last %zu bytes are left out",
+             unfinished->begin, unfinished->begin + 1, unfinished->due - 2, follow,
+             plural(follow, "byte follows", "bytes follow"), unfinished->have);
 }
 
 void show_tell_unfinished(const char *path, const struct show *show)

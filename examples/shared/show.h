@@ -17,6 +17,7 @@ struct file {
 /* The slice in which a show file ends: a recording that was broken off. */
 struct unfinished {
     size_t frame; /* the frame of that slice; 0 if the show file ends with a whole file */
+    size_t begin; /* the byte of the show at which the slice's length begins */
     size_t have;  /* the bytes behind the last whole file, the two of the slice's length among them */
     size_t due;   /* how many bytes these were to be; 0 if even the length is cut */
 };

@@ -3,6 +3,8 @@
 #include <stdarg.h>
 #include <stdio.h>
 
+const char *plural(size_t count, const char *one, const char *many) { return count == 1 ? one : many; }
+
 struct text text_begin(char *to, size_t room)
 {
     to[0] = '\0';

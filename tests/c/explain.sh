@@ -61,20 +61,22 @@ times() {
 explains_each_number() {
     local doubled
     doubled=$(times 8 '10 4 0 0')
-    refused 1 'byte 0: the file ends where a section is due' --patch '' &&
-        refused 1 'byte 1: the file ends inside a count of two bytes' --patch '0' &&
+    refused 1 'byte 0: the patch ends where a section is due' --patch '' &&
+        refused 1 'byte 1: the patch ends inside a count of two bytes' --patch '0' &&
         refused 1 'byte 0: the count promises 5 bytes, and 2 follow' --type '0 5 4 1' &&
+        refused 1 'byte 0: the count promises 1 byte, and 0 follow' --type '0 1' &&
+        refused 1 'byte 1: the type ends inside a count of two bytes' --type '0' &&
         refused 1 'byte 4, behind lane 1: the section ends, and its type needs another byte' --type '0 2 4 1' &&
-        refused 1 'byte 3: the file ends where a section is due' --patch '0 1 1' &&
-        refused 1 'byte 3: the count promises 2 bytes, and 1 follow' --patch '0 1 1 0 2 0' &&
+        refused 1 'byte 3: the patch ends where a section is due' --patch '0 1 1' &&
+        refused 1 'byte 3: the count promises 2 bytes, and 1 follows' --patch '0 1 1 0 2 0' &&
         refused 1 'byte 7: the section ends, and its tree of nodes needs another byte' --patch '0 1 1 0 2 4 0' &&
         refused 2 'byte 4, behind lane 1: kind 7 is not listed here; 0 to 4 are' --patch '0 3 3 1 7 0 1 0' &&
         refused 2 'byte 6: kind 99 is not listed here; 0 to 14 are' --patch '0 1 1 0 3 4 99 0' &&
         refused 2 'byte 7: kind 5 is not listed here; 0 to 4 are' --patch '0 1 1 0 4 1 4 5 0' &&
-        refused 3 'byte 3, behind lane 1: the tree is whole, and bytes of its section follow it: 2' --type '0 3 1 1 1' &&
-        refused 3 'byte 3: the last section ends, and bytes follow it: 1' --type '0 1 1 1' &&
-        refused 3 'byte 6: the tree is whole, and bytes of its section follow it: 1' --patch '0 1 1 0 2 5 0' &&
-        refused 3 'byte 6: the last section ends, and bytes follow it: 2' --patch '0 1 1 0 1 5 0 0' &&
+        refused 3 'byte 3, behind lane 1: the tree is whole, and 2 bytes of its section follow it' --type '0 3 1 1 1' &&
+        refused 3 'byte 3: the last section ends, and 1 byte follows it' --type '0 1 1 1' &&
+        refused 3 'byte 6: the tree is whole, and 1 byte of its section follows it' --patch '0 1 1 0 2 5 0' &&
+        refused 3 'byte 6: the last section ends, and 2 bytes follow it' --patch '0 1 1 0 1 5 0 0' &&
         refused 4 'byte 256, behind lane 127: the type has 255 nodes up to here and needs another' \
             --type "1 145 $(times 200 '4 1') 1" &&
         refused 4 'byte 260: the type has 255 nodes up to here and needs another' --patch "0 1 1 1 44 1 $(times 299 4)" &&
@@ -89,17 +91,43 @@ explains_each_number() {
 
 explains_each_slice_number() {
     local type='0 5 4 1 3 2 1' # a cue beside a level and then a cue
-    refused 11 'byte 0: the count promises 4 bytes, and 2 follow' --slice "$type" '0 4 7 2' &&
+    refused 11 'byte 0: the slice ends where a section is due' --slice "$type" '' &&
+        refused 11 'byte 0: the count promises 4 bytes, and 2 follow' --slice "$type" '0 4 7 2' &&
         refused 11 'byte 4, lanes 2 to 3: the section ends where 5 or 6 (sequence) is due' --slice "$type" '0 2 7 2' &&
         refused 11 'byte 7, lane 2: the section ends where a byte of a value is due' --slice "$type" '0 5 7 2 5 4 1' &&
         refused 12 'byte 3, lane 1: kind 200 (not listed) where 1 or 2 (cue) is due' --slice "$type" '0 2 7 200' &&
-        refused 13 'byte 6: the tree is whole, and bytes of its section follow it: 2' --slice "$type" '0 6 7 1 5 3 3 3' &&
-        refused 13 'byte 6: the last section ends, and bytes follow it: 1' --slice "$type" '0 4 7 1 5 3 9' &&
+        refused 13 'byte 6: the tree is whole, and 2 bytes of its section follow it' --slice "$type" '0 6 7 1 5 3 3 3' &&
+        refused 13 'byte 6: the last section ends, and 1 byte follows it' --slice "$type" '0 4 7 1 5 3 9' &&
         refused 14 'byte 5, lane 2: kind 2 (cue come) where 3 or 4 (level) is due' --slice "$type" '0 4 7 1 5 2' &&
         refused 14 'byte 5, lane 2: kind 3 (level awaited) where 4 (level come) is due; the first part of a crossing has to be complete' \
             --slice "$type" '0 5 7 1 6 3 1' &&
         refused 14 'byte 2, lanes 1 to 3: kind 5 (in first part) where 7 (side by side) is due' --slice "$type" '0 2 5 1' &&
         refused 2 'byte 2: kind 9 is not listed here; 0 to 4 are' --slice '0 1 9' '0 1 0'
+}
+
+# Where a count in a show is wrong, its file's length may be, and is told with its place. Each show is a patch of a cue
+# and a slice, with one of them damaged.
+explains_wrong_lengths() {
+    local wrong=0 told bytes
+    while IFS='|' read -r told bytes; do
+        # shellcheck disable=SC2059 # the bytes are a format
+        printf "$bytes" >"$folder/length.show"
+        explains 1 "$folder/length.show" && grep -qF "$told" "$folder/out" && continue
+        cat "$folder/out"
+        echo "'$told' is due"
+        wrong=1
+    done <<'END'
+the patch ends where a section is due; the length of the patch, at bytes 0 to 1 of the show, says 3|\0\3\0\1\1
+the patch ends inside a count of two bytes; the length of the patch, at bytes 0 to 1 of the show, says 4|\0\4\0\1\1\0
+the count promises 9 bytes, and 1 follows; the length of the patch, at bytes 0 to 1 of the show, says 6|\0\6\0\1\1\0\11\0
+the last section ends, and 1 byte follows it; the length of the patch, at bytes 0 to 1 of the show, says 7|\0\7\0\1\1\0\1\0\0
+the slice ends where a section is due; the length of the slice, at bytes 8 to 9 of the show, says 0|\0\6\0\1\1\0\1\0\0\0
+the count promises 2 bytes, and 1 follows; the length of the slice, at bytes 8 to 9 of the show, says 3|\0\6\0\1\1\0\1\0\0\3\0\2\1
+the last section ends, and 3 bytes follow it; the length of the slice, at bytes 8 to 9 of the show, says 6|\0\6\0\1\1\0\1\0\0\6\0\1\1\0\0\0
+the slice's length, at bytes 8 to 9 of the show, says 7, and 1 byte follows; the last 3 bytes are left out|\0\6\0\1\1\0\1\0\0\7\0
+byte 8 of the show is half of the slice's length, and is left out|\0\6\0\1\1\0\1\0\0
+END
+    return "$wrong"
 }
 
 # What follows a count that promises too much has not been read by the library; it is listed only so far as it can be.
@@ -177,6 +205,7 @@ holds "all slices" explains_all_slices examples/shows/comet_to_saturn.show 0 240
 holds "all slices of the damaged show" explains_all_slices examples/shows/damaged.show 1 47
 holds "counts that promise too much" explains_unread_sections
 holds "each number" explains_each_number
+holds "wrong lengths in a show" explains_wrong_lengths
 holds "what is accepted" explains_what_is_accepted
 holds "words and files that cannot be used" explains_nothing
 [ "$failed" -eq 0 ] && echo "explain, $compiler ${words[*]}: all held"

@@ -108,14 +108,16 @@ tells_all_six() {
 cuts_of() {
     od -An -v -tu1 -w1 "$1" | awk -v OFS='\t' '
         { byte[NR - 1] = $1 }
-        function told(have, due, files) {
+        function told(begin, have, due, files) {
             if (files == 0) {
                 return have < 2 ? "it has " have " of the two bytes" : "it has " have " bytes, and the patch"
             }
             if (have < 2) {
-                return have == 0 ? "" : "slice of frame " files ": its last byte is left out"
+                return have == 0 ? "" : "slice of frame " files ": byte " begin " of the show is half of the slice"
             }
-            return "slice of frame " files ": its last " have " bytes are left out, the slice has " due - have " byte"
+            follow = have == 3 ? "1 byte follows" : have - 2 " bytes follow"
+            return "slice of frame " files ": the slice\047s length, at bytes " begin " to " begin + 1 \
+                " of the show, says " due - 2 ", and " follow "; the last " have " bytes are left out"
         }
         END {
             for (place = begin = files = 0; place <= NR; place++) {
@@ -124,7 +126,7 @@ cuts_of() {
                     begin = place
                     files++
                 }
-                print place, files == 0 ? 2 : 0, told(place - begin, due, files)
+                print place, files == 0 ? 2 : 0, told(begin, place - begin, due, files)
             }
         }'
 }
