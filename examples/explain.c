@@ -3,7 +3,7 @@
  */
 #include "given_bytes.h"
 #include "listing.h"
-#include "program.h"
+#include "opening.h"
 
 #include <stdio.h>
 #include <stdlib.h>
@@ -206,9 +206,14 @@ static void print_unfinished(const struct show *show)
 static enum status explain_end(const struct playing *playing)
 {
     const struct show *show = playing->show;
-    printf("%zu slices: %zu bring something, %zu bring nothing, %zu are refused.\n", show->count, playing->bringing,
-           show->count - playing->bringing - playing->refused, playing->refused);
+    size_t empty = show->count - playing->bringing - playing->refused;
+    printf("%zu %s: %zu %s something, %zu %s nothing, %zu %s refused.\n", show->count,
+           plural(show->count, "slice", "slices"), playing->bringing, plural(playing->bringing, "brings", "bring"),
+           empty, plural(empty, "brings", "bring"), playing->refused, plural(playing->refused, "is", "are"));
     lanes_print_owed(&playing->in, &playing->names->in);
+    if (playing->refused > 1) {
+        printf("%s\n", first_refusal_first);
+    }
     return playing->refused > 0 || show->unfinished.frame != 0 ? STATUS_REFUSED : STATUS_DONE;
 }
 
@@ -232,14 +237,14 @@ static enum status explain_show(const char *path, const struct show *show, bool 
                     lanes_start(&playing->in, patch_input_type(&playing->patch)) &&
                     lanes_start(&playing->out, type_file(&output));
     lane_names_read(names, path, accepted ? playing->in.count : LANES_MAX, accepted ? playing->out.count : LANES_MAX);
-    printf("Patch: %zu bytes, from byte %zu of the show; slices behind it: %zu\n", show->patch.length,
-           show_place(show, show->patch), show->count);
+    printf("Patch: %zu %s, from byte %zu of the show; slices behind it: %zu\n", show->patch.length,
+           plural(show->patch.length, "byte", "bytes"), show_place(show, show->patch), show->count);
     struct listed listed = {show->patch, show, &names->in};
     enum status status = explain_patch(&listed, &names->out);
     if (accepted) {
         status = explain_slices(playing);
     } else {
-        printf("Without a patch no slice can be fed.\n");
+        printf("Without a patch no slice can be fed.%s\n", patch_file_hint(show));
     }
     print_unfinished(show);
     free(names);

@@ -272,6 +272,19 @@ static struct tally draw_frames(struct player *player)
     }
 }
 
+/* The refusals were told on the error stream, so what to look at is told there too. */
+static void print_end(const struct opened_show *opened, struct tally tally, size_t refused)
+{
+    size_t slices = opened->show.count;
+    printf("The show is over: %zu %s, %zu %s, %zu %s, %zu refused.\n", tally.frames,
+           plural(tally.frames, "frame", "frames"), slices, plural(slices, "slice", "slices"), tally.feeds,
+           plural(tally.feeds, "feed", "feeds"), refused);
+    lanes_print_owed(&opened->in, &opened->names.in);
+    if (refused > 1) {
+        tell("%s", first_refusal_first);
+    }
+}
+
 /* Plays an opened show: the producer in a thread of its own, the frame loop in this one. */
 static void play(struct player *player)
 {
@@ -286,9 +299,7 @@ static void play(struct player *player)
     struct tally tally = draw_frames(player);
     pthread_join(producer, NULL);
     mailbox_close(&player->mailbox);
-    printf("The show is over: %zu frames, %zu slices, %zu feeds, %zu refused.\n", tally.frames, opened->show.count,
-           tally.feeds, tally.refused + player->refused);
-    lanes_print_owed(&opened->in, &opened->names.in);
+    print_end(opened, tally, player->refused + tally.refused);
 }
 
 /* Plays an opened show, its slices late as the seed says. */

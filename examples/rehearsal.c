@@ -333,9 +333,10 @@ static enum status compare(const struct run *start, const struct run *recorded, 
         printf("Cut %zu of %zu makes a difference.\n", same + 1, cuts);
         report_difference(start, recorded, slices, &cut);
     } else {
-        printf("All joined outputs and all final patches are the same, byte for byte: %zu cuts of %zu slices, "
-               "%zu feeds in all, the largest of %zu slices joined, in %.2f seconds.\n",
-               cuts, slices->count, tally.feeds, tally.largest, seconds_now() - began);
+        printf("All joined outputs and all final patches are the same, byte for byte: %zu %s of %zu %s, %zu %s in all, "
+               "the largest of %zu joined, in %.2f seconds.\n",
+               cuts, plural(cuts, "cut", "cuts"), slices->count, plural(slices->count, "slice", "slices"), tally.feeds,
+               plural(tally.feeds, "feed", "feeds"), tally.largest, seconds_now() - began);
     }
     free(cut.joins);
     return same < cuts ? STATUS_REFUSED : STATUS_DONE;
@@ -348,7 +349,10 @@ static enum status rehearse(struct opened_show *opened, size_t cuts, uint64_t se
     struct slices slices = feed_as_recorded(&recorded, opened);
     size_t left_out = opened->show.count - slices.count;
     if (left_out > 0) {
-        tell("%zu of %zu recorded slices are left out", left_out, opened->show.count);
+        tell("%zu of %zu recorded slices %s left out", left_out, opened->show.count, plural(left_out, "is", "are"));
+    }
+    if (left_out > 1) {
+        tell("%s", first_refusal_first);
     }
     enum status status = STATUS_UNUSABLE;
     if (slices.count == 0) {

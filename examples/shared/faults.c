@@ -3,6 +3,9 @@
 #include <stdio.h>
 #include <string.h>
 
+const char first_refusal_first[] =
+    "Look at the first refusal first: a slice that is left out can make later ones wrong.";
+
 /* A name that only says the side and the number, as lanes have that nobody named, is not worth saying twice. */
 static bool is_named(const struct side_names *names, unsigned lane)
 {

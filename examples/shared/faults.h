@@ -29,6 +29,9 @@ void slice_fault_text(char *to, size_t room, const struct lanes *in_force, struc
 void patch_fault_text(char *to, size_t room, struct file patch, const struct side_names *names,
                       const struct show *show);
 
+/* What to say behind several refused slices of one show. */
+extern const char first_refusal_first[];
+
 /* The place of the type in force, a node of it, to which a byte of an admitted slice, or of one up to a fault, belongs.
  */
 bool slice_byte_node(struct file type, struct file slice, size_t byte, size_t *node);

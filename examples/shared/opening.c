@@ -1,13 +1,21 @@
 #include "opening.h"
 #include "faults.h"
 
+/* A check that has no room for its answer has accepted the patch. */
+const char *patch_file_hint(const struct show *show)
+{
+    bool is_patch = wosthile_check(show->bytes, show->length, NULL, 0).number == WOSTHILE_FAULT_NO_ROOM;
+    return is_patch ? "\n    The file is a patch file and no show; explain and diagram take it with --patch." : "";
+}
+
 /* Which lanes a refused patch has is not known, so any of them may have a name. */
 static void tell_refused_patch(const char *path, struct opened_show *opened, uint32_t number)
 {
     char place[MESSAGE_BYTES];
     lane_names_read(&opened->names, path, LANES_MAX, LANES_MAX);
     patch_fault_text(place, sizeof place, opened->show.patch, &opened->names.in, &opened->show);
-    tell("%s: the patch is refused with %u: %s\n    %s", path, number, wosthile_sentence(number), place);
+    tell("%s: the patch is refused with %u: %s\n    %s%s", path, number, wosthile_sentence(number), place,
+         patch_file_hint(&opened->show));
 }
 
 enum status open_show(const char *path, struct opened_show *opened)
@@ -16,7 +24,6 @@ enum status open_show(const char *path, struct opened_show *opened)
     if (fault != NULL) {
         stop("%s: %s", path, fault);
     }
-    show_tell_unfinished(path, &opened->show);
     uint32_t number = patch_start(&opened->patch, opened->show.patch, &opened->output_type);
     if (number != WOSTHILE_ACCEPTED) {
         tell_refused_patch(path, opened, number);
@@ -26,6 +33,7 @@ enum status open_show(const char *path, struct opened_show *opened)
         !lanes_start(&opened->out, type_file(&opened->output_type))) {
         stop("a type of the patch cannot be read");
     }
+    show_tell_unfinished(path, &opened->show);
     lane_names_read(&opened->names, path, opened->in.count, opened->out.count);
     return STATUS_DONE;
 }

@@ -17,6 +17,12 @@ struct opened_show {
 };
 
 /*
+ * The end of a message about a show whose patch is refused: if the whole file is a patch that the library accepts, a
+ * line that says so, else nothing. (Such a file never ends before what is taken for the length of its patch says.)
+ */
+const char *patch_file_hint(const struct show *show);
+
+/*
  * Opens a show. If the file cannot be used, the program stops. If the patch is refused, this is told with its place,
  * and the answer is STATUS_REFUSED. An unfinished last slice, and lines beside the show that name no lane, are told,
  * and the answer is STATUS_DONE.

@@ -83,9 +83,9 @@ static const char *say_patch_is_cut(struct show *show, struct file stream)
 }
 
 /* Finds the files in the bytes of the show: how many slices there are is known only behind the last one. */
-static const char *find_files(struct show *show, size_t length)
+static const char *find_files(struct show *show)
 {
-    struct file stream = {show->bytes, length};
+    struct file stream = {show->bytes, show->length};
     size_t place = 0;
     if (!next_file(stream, &place, &show->patch)) {
         return say_patch_is_cut(show, stream);
@@ -112,9 +112,8 @@ const char *show_read(const char *path, struct show *show)
     if (stream == NULL) {
         return say_reason(show, "opened");
     }
-    size_t length = 0;
-    show->bytes = read_all(stream, &length);
-    const char *fault = show->bytes == NULL ? say_reason(show, "read") : find_files(show, length);
+    show->bytes = read_all(stream, &show->length);
+    const char *fault = show->bytes == NULL ? say_reason(show, "read") : find_files(show);
     fclose(stream);
     if (fault != NULL) {
         free(show->bytes);
@@ -141,10 +140,11 @@ void show_unfinished_text(char *to, size_t room, const struct unfinished *unfini
         return;
     }
     size_t follow = unfinished->have - 2;
-    text_add(&text,
-             "the slice's length, at bytes %zu to %zu of the show, says %zu, and %zu %s; the last %zu bytes are left out",
-             unfinished->begin, unfinished->begin + 1, unfinished->due - 2, follow,
-             plural(follow, "byte follows", "bytes follow"), unfinished->have);
+    text_add(
+        &text,
+        "the slice's length, at bytes %zu to %zu of the show, says %zu, and %zu %s; the last %zu bytes are left out",
+        unfinished->begin, unfinished->begin + 1, unfinished->due - 2, follow,
+        plural(follow, "byte follows", "bytes follow"), unfinished->have);
 }
 
 void show_tell_unfinished(const char *path, const struct show *show)

@@ -23,7 +23,8 @@ struct unfinished {
 };
 
 struct show {
-    uint8_t *bytes; /* the whole show file; the patch and the slices point into it */
+    uint8_t *bytes; /* the whole file; the patch and the slices point into it */
+    size_t length;  /* of the whole file */
     struct file patch;
     struct file *slices;
     size_t count; /* of whole slices */

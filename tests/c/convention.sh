@@ -19,12 +19,14 @@ explain     FILE         text
 make_shows  FILE         files
 '
 
-# A show with nothing wrong; one whose patch is refused, left on a cue; and one that ends before its patch does.
+# A show with nothing wrong; one whose patch is refused, left on a cue; one that ends before its patch does; and a patch.
 good=examples/shows/lamp_fade.show
 refused=$folder/refused.show
 cut=$folder/cut.show
+patch=$folder/alone.patch
 printf '\0\6\0\1\1\0\1\5' >"$refused"
 printf '\0\6\0\1\1' >"$cut"
+printf '\0\1\1\0\1\0' >"$patch"
 
 wrong() {
     head -n 20 "$folder/answer" "$folder/messages"
@@ -75,6 +77,8 @@ try_shows() {
     expect 0 some any "$program" "${@/FILE/$good}"
     expect 1 any any "$program" "${@/FILE/$refused}"
     grep -q 'refused with 7' "$folder/answer" "$folder/messages" || wrong "$program does not tell the number, 7"
+    expect 1 any any "$program" "${@/FILE/$patch}"
+    grep -q 'is a patch file and no show' "$folder/answer" "$folder/messages" || wrong "$program takes a patch for a show"
     expect 2 none some "$program" "${@/FILE/$cut}"
     expect 2 none some "$program" "${@/FILE/$folder/not_there.show}"
     expect 2 none some to_full_disk "$program" "${@/FILE/$good}"

@@ -7,7 +7,7 @@
 # shellcheck source=tests/c/building.sh
 source "$(dirname "$0")/building.sh"
 
-for program in make_shows frame_loop rehearsal timeline; do
+for program in make_shows frame_loop rehearsal timeline explain; do
     holds "build $program" build "$program" "examples/$program.c"
 done
 holds "build the test of lanes" build lanes tests/c/lanes.c
@@ -103,6 +103,49 @@ tells_all_six() {
     done
 }
 
+# Of a show whose patch is refused nothing else is told: what follows may not be slices.
+tells_refused_patch_alone() {
+    local program
+    printf '\0\6\0\1\1\0\1\5\0\7\0' >"$folder/refused.show"
+    for program in frame_loop rehearsal timeline; do
+        "$folder/$program" "$folder/refused.show" >"$folder/sent" 2>"$folder/messages"
+        [ $? -eq 1 ] && grep -q 'refused with 7' "$folder/messages" && ! grep -q 'file ends' "$folder/messages" || return 1
+    done
+}
+
+# A show of one cue that comes so many times: cue_comes TIMES
+cue_comes() {
+    printf '\0\6\0\1\1\0\1\0'
+    for _ in $(seq "$1"); do
+        printf '\0\3\0\1\2'
+    done
+}
+
+# Several refusals may have one cause, and this is said once. Counts of one are told as such.
+tells_counts() {
+    local times command told
+    while IFS='|' read -r times command told; do
+        cue_comes "$times" >"$folder/cues.show"
+        # shellcheck disable=SC2086 # the command is several words
+        "$folder"/${command/SHOW/$folder/cues.show} >"$folder/told" 2>&1
+        grep -qF "$told" "$folder/told" &&
+            [ "$(grep -c 'the first refusal first' "$folder/told")" -eq $((times > 2)) ] && continue
+        cat "$folder/told"
+        echo "'$told' is due"
+        return 1
+    done <<'END'
+1|frame_loop SHOW --fast|The show is over: 1 frame, 1 slice, 1 feed, 0 refused.
+2|frame_loop SHOW --fast|The show is over: 2 frames, 2 slices, 1 feed, 1 refused.
+3|frame_loop SHOW --fast|The show is over: 3 frames, 3 slices, 1 feed, 2 refused.
+2|rehearsal SHOW 1|: 1 of 2 recorded slices is left out
+2|rehearsal SHOW 1|: 1 cut of 1 slice, 1 feed in all, the largest of 1 joined
+4|rehearsal SHOW 2|: 3 of 4 recorded slices are left out
+1|explain SHOW|1 slice: 1 brings something, 0 bring nothing, 0 are refused.
+2|explain SHOW|2 slices: 1 brings something, 0 bring nothing, 1 is refused.
+3|explain SHOW|3 slices: 1 brings something, 0 bring nothing, 2 are refused.
+END
+}
+
 # For each place at which a show file can be cut: the place, the frame loop's exit status, and what has to be told.
 # Found from the lengths alone; where the cut is between two files, there is nothing to tell.
 cuts_of() {
@@ -186,6 +229,8 @@ for show in examples/shows/*.show; do
     holds "$show damaged" survives_damage "$show"
 done
 holds "damaged.show says what is wrong with it" tells_all_six
+holds "a refused patch" tells_refused_patch_alone
+holds "counts of refused slices" tells_counts
 holds "damaged.show cut at every byte" tells_cuts examples/shows/damaged.show 1
 holds "comet_to_saturn.show cut" tells_cuts examples/shows/comet_to_saturn.show 17
 holds "lines that name no lane" tells_wrong_names
