@@ -276,22 +276,24 @@ static enum status explain_words(int count, char **words)
     return strcmp(words[1], "--patch") == 0 ? explain_patch(&listed, NULL) : explain_type(listed.file);
 }
 
-/* The words that take files or bytes, and how many of them follow. */
-static bool takes_bytes(const char *word, int files)
+/* How many files, or their bytes, follow a word; 0 if it is the name of a show. */
+static int files_behind(const char *word)
 {
-    return files == 1 ? strcmp(word, "--patch") == 0 || strcmp(word, "--type") == 0
-                      : files == 2 && strcmp(word, "--slice") == 0;
+    bool one = strcmp(word, "--patch") == 0 || strcmp(word, "--type") == 0;
+    return one ? 1 : strcmp(word, "--slice") == 0 ? 2 : 0;
 }
 
 int main(int count, char **words)
 {
     program_begin(help, count, words);
-    bool all = count == 3 && strcmp(words[2], "--all") == 0;
-    if (count >= 3 && takes_bytes(words[1], count - 2)) {
-        return program_end(explain_words(count, words));
+    int files = count > 1 ? files_behind(words[1]) : 0;
+    bool all = files == 0 && count > 2 && strcmp(words[2], "--all") == 0;
+    int due = 2 + files + all;
+    if (count < due || (files == 0 && words[1][0] == '-')) {
+        stop_for_words(words[1]); /* NULL if there is none */
     }
-    if ((count != 2 && !all) || words[1][0] == '-') {
-        stop_for_words(NULL);
+    if (count > due) {
+        stop_for_words(words[due]);
     }
-    return program_end(explain_show_file(words[1], all));
+    return program_end(files > 0 ? explain_words(count, words) : explain_show_file(words[1], all));
 }

@@ -20,9 +20,13 @@ static const char help[] =
     "\n"
     "Plays a show file and prints what is sent on in each frame, in the words of its lanes.\n"
     "\n"
-    "  --seed N               slices are late as the number N says; with 0, and without this word, none is late\n"
+    "  --seed N               slices are late as the number N says, 0 to 18446744073709551615; with 0, and without "
+    "this\n"
+    "                         word, none is late\n"
     "  --frames-per-second N  1 to 1000; 60 without this word\n"
-    "  --fast                 as fast as can be: the seed alone decides how the stream is cut\n"
+    "  --fast                 as fast as can be: the seed alone decides how the stream is cut; not together with a "
+    "number\n"
+    "                         of frames a second\n"
     "\n"
     "At 60 frames a second, or another number, slices are delivered half a frame ahead. A thread that is held up for\n"
     "longer cuts the stream in another way than the seed says. The same is sent all the same.\n"
@@ -314,46 +318,61 @@ static void play_late(struct opened_show *opened, uint64_t seed, struct pace pac
 
 struct words {
     const char *path;
-    uint64_t seed;
-    unsigned long frames_per_second;
+    uint64_t seed, frames_per_second; /* 0 if they are not among the words */
     bool fast;
 };
 
-static bool read_words(int count, char **list, struct words *words)
+/* The number behind a word; the program stops if there is none, or if it is not in the range. */
+static uint64_t number_behind(int count, char **list, int *index, uint64_t least, uint64_t most)
 {
-    *words = (struct words){.frames_per_second = 60};
+    if (*index + 1 == count) {
+        stop_for_words(list[*index]);
+    }
+    ++*index;
+    return number_between(list[*index], least, most);
+}
+
+static struct words read_words(int count, char **list)
+{
+    struct words words = {.path = NULL};
     for (int index = 1; index < count; index++) {
-        uint64_t number = 0;
-        bool numbered = index + 1 < count && read_number(list[index + 1], &number);
-        if (strcmp(list[index], "--fast") == 0) {
-            words->fast = true;
-        } else if (strcmp(list[index], "--seed") == 0 && numbered) {
-            words->seed = number;
-            index++;
-        } else if (strcmp(list[index], "--frames-per-second") == 0 && numbered && number >= 1 && number <= 1000) {
-            words->frames_per_second = (unsigned long)number;
-            index++;
-        } else if (list[index][0] != '-' && words->path == NULL) {
-            words->path = list[index];
+        const char *word = list[index];
+        if (strcmp(word, "--fast") == 0) {
+            words.fast = true;
+        } else if (strcmp(word, "--seed") == 0) {
+            words.seed = number_behind(count, list, &index, 0, UINT64_MAX);
+        } else if (strcmp(word, "--frames-per-second") == 0) {
+            words.frames_per_second = number_behind(count, list, &index, 1, 1000);
+        } else if (word[0] != '-' && words.path == NULL) {
+            words.path = word;
         } else {
-            return false;
+            stop_for_words(word);
+        }
+        if (words.fast && words.frames_per_second > 0) {
+            stop_for_words(word);
         }
     }
-    return words->path != NULL;
+    if (words.path == NULL) {
+        stop_for_words(NULL);
+    }
+    return words;
+}
+
+static struct pace pace_of(const struct words *words)
+{
+    uint64_t frames_per_second = words->frames_per_second == 0 ? 60 : words->frames_per_second;
+    return (struct pace){words->fast, 1000000000 / (long)frames_per_second};
 }
 
 int main(int count, char **list)
 {
-    struct words words;
     struct opened_show opened;
     program_begin(help, count, list);
-    if (!read_words(count, list, &words)) {
-        stop_for_words(NULL);
-    }
+    struct words words = read_words(count, list);
     setvbuf(stdout, NULL, _IOLBF, BUFSIZ); /* a line is seen at once, through a pipe too */
     enum status status = open_show(words.path, &opened);
     if (status == STATUS_DONE) {
-        play_late(&opened, words.seed, (struct pace){words.fast, 1000000000 / (long)words.frames_per_second});
+        play_late(&opened, words.seed, pace_of(&words));
     }
     close_show(&opened);
     return program_end(status);

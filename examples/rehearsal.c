@@ -23,8 +23,8 @@ static const char help[] =
     "joined and fed as one. All that is sent, joined, and the patch left at the end have to be the same, byte for "
     "byte.\n"
     "\n"
-    "  CUTS  how many cuts are tried; 1000 without this word. The first takes all slices as one\n"
-    "  SEED  the number that the other cuts are drawn by; 1 without this word\n"
+    "  CUTS  how many cuts are tried, at least 1; 1000 without this word. The first takes all slices as one\n"
+    "  SEED  the number that the other cuts are drawn by, 0 to 18446744073709551615; 1 without this word\n"
     "\n"
     "A slice that is refused as recorded, and a last slice in which the file ends, are told on the error stream and\n"
     "left out of all cuts. Status: 0 no cut made a difference, 1 one did, or the patch is refused, 2 the words or the\n"
@@ -366,13 +366,16 @@ static enum status rehearse(struct opened_show *opened, size_t cuts, uint64_t se
 
 int main(int count, char **words)
 {
-    uint64_t cuts = 1000, seed = 1;
     struct opened_show opened;
     program_begin(help, count, words);
-    if (count < 2 || count > 4 || words[1][0] == '-' || (count > 2 && !read_number(words[2], &cuts)) ||
-        (count > 3 && !read_number(words[3], &seed)) || cuts == 0) {
-        stop_for_words(NULL);
+    if (count < 2 || words[1][0] == '-') {
+        stop_for_words(words[1]); /* NULL if there is none */
     }
+    if (count > 4) {
+        stop_for_words(words[4]);
+    }
+    uint64_t cuts = count > 2 ? number_between(words[2], 1, UINT64_MAX) : 1000;
+    uint64_t seed = count > 3 ? number_between(words[3], 0, UINT64_MAX) : 1;
     enum status status = open_show(words[1], &opened);
     if (status == STATUS_DONE) {
         status = rehearse(&opened, cuts, seed);

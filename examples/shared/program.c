@@ -62,10 +62,32 @@ void stop(const char *format, ...)
     _Exit(STATUS_UNUSABLE); /* at once: another thread may be at work, and what is allocated goes with the program */
 }
 
+/* Is a word, such as --seed, on the first line of the help? */
+static bool is_listed(const char *word)
+{
+    static const char between[] = " []|\n";
+    size_t length = strlen(word);
+    bool listed = false;
+    for (const char *next = program_help; !listed && *next != '\0' && *next != '\n'; next += strspn(next, between)) {
+        size_t bytes = strcspn(next, between);
+        listed = bytes == length && strncmp(next, word, length) == 0;
+        next += bytes;
+    }
+    return listed;
+}
+
+static const char *what_is_wrong(const char *word)
+{
+    if (word[0] != '-') {
+        return "cannot be used here";
+    }
+    return is_listed(word) ? "cannot be used like this" : "is not one of its words";
+}
+
 void stop_for_words(const char *word)
 {
     if (word != NULL) {
-        tell("\"%s\" is no word for it here, or not one that it can use", word);
+        tell("\"%s\" %s", word, what_is_wrong(word));
     }
     stop("the words are: %.*s (--help says more)", (int)strcspn(program_help, "\n"), program_help);
 }
@@ -87,6 +109,15 @@ bool read_number(const char *word, uint64_t *number)
     errno = 0;
     *number = strtoull(word, &behind, 10);
     return word[0] >= '0' && word[0] <= '9' && *behind == '\0' && errno == 0;
+}
+
+uint64_t number_between(const char *word, uint64_t least, uint64_t most)
+{
+    uint64_t number;
+    if (!read_number(word, &number) || number < least || number > most) {
+        stop_for_words(word);
+    }
+    return number;
 }
 
 void *memory(size_t count, size_t size)

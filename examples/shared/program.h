@@ -35,7 +35,10 @@ void tell(const char *format, ...) __attribute__((format(printf, 1, 2)));
 /* Tells what is wrong and ends the program with status 2. */
 noreturn void stop(const char *format, ...) __attribute__((format(printf, 1, 2)));
 
-/* Tells which words the program takes and, unless it is NULL, the word that it does not; ends it with status 2. */
+/*
+ * Tells which words the program takes and, unless it is NULL, the word that it cannot use; ends it with status 2. Where
+ * a value is wrong, the word is that value; where none follows, it is the word that needs one.
+ */
 noreturn void stop_for_words(const char *word);
 
 /* The last call: the exit status, or 2 if standard output could not be written. */
@@ -43,6 +46,9 @@ int program_end(enum status status);
 
 /* Reads a word that is a number and nothing else. */
 bool read_number(const char *word, uint64_t *number);
+
+/* The number that a word is, in a range; the program stops for the word if it is none. */
+uint64_t number_between(const char *word, uint64_t least, uint64_t most);
 
 /* Memory of zeroes; the program stops if there is none. The caller frees it. */
 void *memory(size_t count, size_t size);

@@ -70,6 +70,16 @@ try_words() {
     expect 2 none some to_closed_output "$folder/$program" --help
 }
 
+# A word that cannot be used is told, or the value that is wrong: name_words COMMANDS, each with what is told of a word.
+name_words() {
+    local command told
+    while IFS='|' read -r command told; do
+        # shellcheck disable=SC2086 # the command is several words
+        expect 2 none some "$folder"/${command/SHOW/$good}
+        grep -qF ": $told" "$folder/messages" || wrong "$command: '$told' is due"
+    done
+}
+
 # Shows, for a program that writes text: try_shows PROGRAM WORDS, with FILE in place of the show.
 try_shows() {
     local program=$folder/$1
@@ -109,6 +119,27 @@ while read -r program called; do
     esac
     tried=$((tried + 1))
 done < <(grep . <<<"$programs")
+
+name_words <<'END'
+frame_loop SHOW --sed 1|"--sed" is not one of its words
+frame_loop SHOW --seed|"--seed" cannot be used like this
+frame_loop SHOW --seed 99999999999999999999|"99999999999999999999" cannot be used here
+frame_loop SHOW --frames-per-second 0|"0" cannot be used here
+frame_loop SHOW --frames-per-second 1001|"1001" cannot be used here
+frame_loop SHOW --fast --frames-per-second 60|"--frames-per-second" cannot be used like this
+frame_loop SHOW second.show|"second.show" cannot be used here
+frame_loop --fast|the words are: frame_loop SHOW
+rehearsal SHOW 0|"0" cannot be used here
+rehearsal SHOW 5 -1|"-1" is not one of its words
+rehearsal SHOW 5 1 more|"more" cannot be used here
+rehearsal --cuts|"--cuts" is not one of its words
+explain --patch|"--patch" cannot be used like this
+explain --slice 0|"--slice" cannot be used like this
+explain --type 0 more|"more" cannot be used here
+explain SHOW more|"more" cannot be used here
+explain SHOW --all more|"more" cannot be used here
+explain --al|"--al" is not one of its words
+END
 
 # The README's example takes no words.
 build calls examples/calls.c || exit 1
