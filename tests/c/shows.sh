@@ -218,6 +218,39 @@ frame_loop: names.lanes, line 12: "in 18446744073709551617 lamp" is left out: th
 END
 }
 
+# What an editor may put around the words of a line counts for nothing; what is no text is told. Every name but the
+# third, of two control characters, is seen in what is sent as it is written.
+reads_odd_names() {
+    cp examples/shows/damaged.show "$folder/odd.show"
+    printf '%b' '\0357\0273\0277out 1 first\r\n' ' \t# a comment\n' ' \t\n' '\tout \t 2\t se\0303\0247ond \t \r\n' \
+        'out 3 t\01h\0302\0205ird\n' 'in 1 a\0b\n' 'in 1 Br\0374cke\n' 'in 1 \0355\0240\0200\n' '\0\n' 'in 1   \n' 'in2 b\n' \
+        >"$folder/odd.lanes"
+    (cd "$folder" && ./frame_loop odd.show --fast >sent 2>messages) || return 1
+    diff - <(grep 'odd.lanes' "$folder/messages") <<'END' || return 1
+frame_loop: odd.lanes, line 5: "out 3 t?h?ird" has a character that cannot be printed; ? takes its place
+frame_loop: odd.lanes, line 6: "in 1 a?b" is left out: it is no text in UTF-8
+frame_loop: odd.lanes, line 7: "in 1 Br?cke" is left out: it is no text in UTF-8
+frame_loop: odd.lanes, line 8: "in 1 ???" is left out: it is no text in UTF-8
+frame_loop: odd.lanes, line 9: "?" is left out: it is no text in UTF-8
+frame_loop: odd.lanes, line 10: "in 1" names no lane; a line that does is as: in 3 Saturn's rings
+frame_loop: odd.lanes, line 11: "in2 b" names no lane; a line that does is as: in 3 Saturn's rings
+END
+    diff - <(grep -e ': cue' -e ': level' -e crossing "$folder/sent") <<'END'
+    first: cue
+    seçond: level 33000
+    crossing: "first" .. "seçond" -> "t?h?ird"
+END
+}
+
+# Of many wrong lines the first ten are told, and how many more there are: tells_ten_lines LINES MORE
+tells_ten_lines() {
+    cp examples/shows/damaged.show "$folder/many.show"
+    yes lane | head -n "$1" >"$folder/many.lanes"
+    (cd "$folder" && ./frame_loop many.show --fast >sent 2>messages) || return 1
+    [ "$(grep -c 'many.lanes, line' "$folder/messages")" -eq 10 ] || return 1
+    [ "$(grep 'many.lanes: ' "$folder/messages")" = "$2" ]
+}
+
 holds "shipped shows" same_shows
 holds "lanes" "$folder/lanes"
 for stored in examples/shows/*.expected; do
@@ -234,6 +267,10 @@ holds "counts of refused slices" tells_counts
 holds "damaged.show cut at every byte" tells_cuts examples/shows/damaged.show 1
 holds "comet_to_saturn.show cut" tells_cuts examples/shows/comet_to_saturn.show 17
 holds "lines that name no lane" tells_wrong_names
+holds "lines as editors leave them" reads_odd_names
+holds "10 lines that name no lane" tells_ten_lines 10 ''
+holds "11 lines that name no lane" tells_ten_lines 11 'frame_loop: many.lanes: and 1 more line'
+holds "10000 lines that name no lane" tells_ten_lines 10000 'frame_loop: many.lanes: and 9990 more lines'
 holds "60 frames a second" plays_in_time
 holds "no slices" ends_by_itself
 [ "$failed" -eq 0 ] && echo "the example programs and the shows, $compiler ${words[*]}: all held"
