@@ -20,13 +20,11 @@ static const char help[] =
     "\n"
     "Plays a show file and prints what is sent on in each frame, in the words of its lanes.\n"
     "\n"
-    "  --seed N               slices are late as the number N says, 0 to 18446744073709551615; with 0, and without "
-    "this\n"
-    "                         word, none is late\n"
+    "  --seed N               slices are late as the number N says, 0 to 18446744073709551615; with 0, and without\n"
+    "                         this word, none is late\n"
     "  --frames-per-second N  1 to 1000; 60 without this word\n"
-    "  --fast                 as fast as can be: the seed alone decides how the stream is cut; not together with a "
-    "number\n"
-    "                         of frames a second\n"
+    "  --fast                 as fast as can be, in place of a number of frames a second: the seed alone decides how\n"
+    "                         the stream is cut\n"
     "\n"
     "At 60 frames a second, or another number, slices are delivered half a frame ahead. A thread that is held up for\n"
     "longer cuts the stream in another way than the seed says. The same is sent all the same.\n"
@@ -234,6 +232,7 @@ static void send_on(struct opened_show *opened, size_t frame, const struct joine
     for (size_t index = 0; index < events.count; index++) {
         lane_event_print(&events.list[index], &opened->names.out);
     }
+    program_flush();
 }
 
 struct tally {
@@ -284,6 +283,7 @@ static void print_end(const struct opened_show *opened, struct tally tally, size
            plural(tally.frames, "frame", "frames"), slices, plural(slices, "slice", "slices"), tally.feeds,
            plural(tally.feeds, "feed", "feeds"), refused);
     lanes_print_owed(&opened->in, &opened->names.in);
+    program_flush();
     if (refused > 1) {
         tell("%s", first_refusal_first);
     }
@@ -369,7 +369,6 @@ int main(int count, char **list)
     struct opened_show opened;
     program_begin(help, count, list);
     struct words words = read_words(count, list);
-    setvbuf(stdout, NULL, _IOLBF, BUFSIZ); /* a line is seen at once, through a pipe too */
     enum status status = open_show(words.path, &opened);
     if (status == STATUS_DONE) {
         play_late(&opened, words.seed, pace_of(&words));

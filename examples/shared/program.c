@@ -12,13 +12,31 @@
 /* The help of the program that runs, whose first word is its name and whose first line has its words. */
 static const char *program_help = "";
 
+/* The first reason for which standard output could not be written; 0 while there is none. */
+static int output_error;
+
+static bool is_closed(int stream) { return fcntl(stream, F_GETFD) == -1; }
+
+/* Who closes the error stream wants no messages; the place is taken, so that no file takes it that is opened later. */
+static void take_place_of_messages(void)
+{
+    int opened = open("/dev/null", O_WRONLY);
+    if (opened == -1 || dup2(opened, STDERR_FILENO) == -1) {
+        exit(STATUS_UNUSABLE);
+    }
+    if (opened != STDERR_FILENO) {
+        close(opened);
+    }
+}
+
 /* A file opened later would take the place of a closed stream, and what is printed would go into that file. */
 static void need_open_streams(void)
 {
-    if (fcntl(STDERR_FILENO, F_GETFD) == -1) {
-        exit(STATUS_UNUSABLE);
+    bool output_closed = is_closed(STDOUT_FILENO);
+    if (is_closed(STDERR_FILENO)) {
+        take_place_of_messages();
     }
-    if (fcntl(STDOUT_FILENO, F_GETFD) == -1) {
+    if (output_closed) {
         stop("standard output is closed");
     }
 }
@@ -92,12 +110,29 @@ void stop_for_words(const char *word)
     stop("the words are: %.*s (--help says more)", (int)strcspn(program_help, "\n"), program_help);
 }
 
+/* Notes the reason that errno has, unless an earlier one is known. */
+static void note_output_error(void)
+{
+    if (output_error == 0) {
+        output_error = errno;
+    }
+}
+
+void program_flush(void)
+{
+    if (fflush(stdout) != 0) {
+        note_output_error();
+    }
+}
+
 int program_end(enum status status)
 {
     bool failed = ferror(stdout) != 0;
     errno = 0;
     if (fclose(stdout) != 0 || failed) {
-        tell("standard output cannot be written%s%s", errno == 0 ? "" : ": ", errno == 0 ? "" : strerror(errno));
+        note_output_error();
+        tell("standard output cannot be written%s%s", output_error == 0 ? "" : ": ",
+             output_error == 0 ? "" : strerror(output_error));
         return STATUS_UNUSABLE;
     }
     return status;

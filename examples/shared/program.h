@@ -22,7 +22,8 @@ enum status {
 /*
  * The first call of every program. The help begins with the program's name and its words, as `rehearsal SHOW [CUTS]`,
  * on a line of their own; what the program does follows. If one of the words is --help it is printed, and the program
- * ends with status 0. With a closed standard output or error stream it ends with status 2.
+ * ends with status 0. With a closed standard output it ends with status 2; with a closed error stream its messages are
+ * lost.
  */
 void program_begin(const char *help, int count, char *const *words);
 
@@ -40,6 +41,9 @@ noreturn void stop(const char *format, ...) __attribute__((format(printf, 1, 2))
  * a value is wrong, the word is that value; where none follows, it is the word that needs one.
  */
 noreturn void stop_for_words(const char *word);
+
+/* Writes what has been printed so far, so that it is seen at once; for one thread, which makes the last call too. */
+void program_flush(void);
 
 /* The last call: the exit status, or 2 if standard output could not be written. */
 int program_end(enum status status);

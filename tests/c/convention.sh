@@ -92,6 +92,10 @@ try_shows() {
     expect 2 none some "$program" "${@/FILE/$cut}"
     expect 2 none some "$program" "${@/FILE/$folder/not_there.show}"
     expect 2 none some to_full_disk "$program" "${@/FILE/$good}"
+    grep -q 'standard output cannot be written: No space left on device' "$folder/messages" || wrong "$program: no reason"
+    expect 0 some none with_closed_messages "$program" "${@/FILE/$good}"
+    expect 2 none none with_closed_messages "$program" "${@/FILE/$folder/not_there.show}"
+    expect 2 none none with_closed_messages to_closed_output "$program" "${@/FILE/$good}"
     expect 2 none some to_closed_output "$program" "${@/FILE/$good}"
 }
 
@@ -103,8 +107,9 @@ try_folders() {
     expect 2 none some "$program" "${@/FILE/$folder/not_there}"
     # A file would take the place of the closed stream, so none is opened.
     expect 2 none some to_closed_output "$program" "${@/FILE/$folder/empty}"
-    expect 2 none none with_closed_messages "$program" "${@/FILE/$folder/empty}"
-    [ -z "$(ls -A "$folder/empty")" ] || wrong "$program writes files without a stream for its messages"
+    [ -z "$(ls -A "$folder/empty")" ] || wrong "$program writes files without a standard output"
+    expect 0 none none with_closed_messages "$program" "${@/FILE/$folder/empty}"
+    diff -r "$folder/made" "$folder/empty" || wrong "$program writes other files without a stream for its messages"
 }
 
 tried=0
