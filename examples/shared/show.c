@@ -66,18 +66,22 @@ static void count_slices(struct show *show, struct file stream, size_t place)
     }
 }
 
+/* Adds where the length of a file is that ends too early, what it says, and how many bytes follow it. */
+static void add_length(struct text *text, const char *what, size_t begin, size_t length, size_t follow)
+{
+    text_add(text, "the %s's length, at bytes %zu to %zu of the show, says %zu, and %zu %s", what, begin, begin + 1,
+             length, follow, plural(follow, "byte follows", "bytes follow"));
+}
+
 static const char *say_patch_is_cut(struct show *show, struct file stream)
 {
+    struct text text = text_begin(show->fault, sizeof show->fault);
     size_t due = next_due(stream, 0);
+    text_add(&text, "the file ends before its patch does: ");
     if (due == 0) {
-        snprintf(show->fault, sizeof show->fault,
-                 "the file ends before its patch does: it has %zu of the two bytes of the patch's length",
-                 stream.length);
+        text_add(&text, "it has %zu of the two bytes of the patch's length", stream.length);
     } else {
-        snprintf(show->fault, sizeof show->fault,
-                 "the file ends before its patch does: it has %zu bytes, and the patch, with its length, is to have "
-                 "%zu",
-                 stream.length, due);
+        add_length(&text, "patch", 0, due - 2, stream.length - 2);
     }
     return show->fault;
 }
@@ -137,14 +141,10 @@ void show_unfinished_text(char *to, size_t room, const struct unfinished *unfini
     text_add(&text, "the file ends inside the slice of frame %zu: ", unfinished->frame);
     if (unfinished->due == 0) {
         text_add(&text, "byte %zu of the show is half of the slice's length, and is left out", unfinished->begin);
-        return;
+    } else {
+        add_length(&text, "slice", unfinished->begin, unfinished->due - 2, unfinished->have - 2);
+        text_add(&text, "; the last %zu bytes are left out", unfinished->have);
     }
-    size_t follow = unfinished->have - 2;
-    text_add(
-        &text,
-        "the slice's length, at bytes %zu to %zu of the show, says %zu, and %zu %s; the last %zu bytes are left out",
-        unfinished->begin, unfinished->begin + 1, unfinished->due - 2, follow,
-        plural(follow, "byte follows", "bytes follow"), unfinished->have);
 }
 
 void show_tell_unfinished(const char *path, const struct show *show)

@@ -170,7 +170,8 @@ explains_damaged() {
     "$folder/explain" "$1" >"$folder/out" 2>"$folder/errors"
     local ended=$?
     if [ "$ended" -eq 2 ]; then
-        grep -q 'ends before its patch does: it has [0-9]* ' "$folder/errors" && [ ! -s "$folder/out" ]
+        grep -q "before its patch does: \(it has [01] of\|.*, at bytes 0 to 1 of the show, says [0-9]*, and [0-9]* byte\)" \
+            "$folder/errors" && [ ! -s "$folder/out" ]
     else
         [ "$ended" -le 1 ] && has_places
     fi && return 0

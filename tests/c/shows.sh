@@ -152,15 +152,16 @@ cuts_of() {
     od -An -v -tu1 -w1 "$1" | awk -v OFS='\t' '
         { byte[NR - 1] = $1 }
         function told(begin, have, due, files) {
-            if (files == 0) {
-                return have < 2 ? "it has " have " of the two bytes" : "it has " have " bytes, and the patch"
+            if (files == 0 && have < 2) {
+                return "it has " have " of the two bytes"
             }
             if (have < 2) {
                 return have == 0 ? "" : "slice of frame " files ": byte " begin " of the show is half of the slice"
             }
-            follow = have == 3 ? "1 byte follows" : have - 2 " bytes follow"
-            return "slice of frame " files ": the slice\047s length, at bytes " begin " to " begin + 1 \
-                " of the show, says " due - 2 ", and " follow "; the last " have " bytes are left out"
+            length_says = "s length, at bytes " begin " to " begin + 1 " of the show, says " due - 2 ", and " \
+                (have == 3 ? "1 byte follows" : have - 2 " bytes follow")
+            return files == 0 ? "before its patch does: the patch\047" length_says : \
+                "slice of frame " files ": the slice\047" length_says "; the last " have " bytes are left out"
         }
         END {
             for (place = begin = files = 0; place <= NR; place++) {
