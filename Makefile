@@ -7,7 +7,7 @@
 # make rehearse  the same recording, cut anew again and again: make rehearse SHOW=.. CUTS=1000 SEED=1
 # make picture   a show as an SVG time line in target/, a panel for each cut: make picture SHOW=.. SEEDS='0 19'
 # make diagram   the patch of a show as an SVG diagram in target/: make diagram SHOW=..
-# make shows     writes the shipped shows anew
+# make shows     writes the shipped shows anew, from the scores beside them
 # make example   builds examples/calls.c, a few calls of the library, and runs it
 # make fuzz      random calls and runs of feeds, compared with the second interpreter: make fuzz SECONDS=600 SEED=7
 # make streams   the program on random streams, compared with the second interpreter's: make streams STREAMS=20000 SEED=7
@@ -62,8 +62,8 @@ picture: target/timeline
 diagram: target/diagram
 	examples/draw.sh "target/$$(basename '$(SHOW)' .show)_patch.svg" target/diagram '$(SHOW)'
 
-shows: target/make_shows
-	target/make_shows examples/shows
+shows: target/make_show
+	for score in examples/shows/*.score; do target/make_show $$score || exit; done
 
 example: target/calls
 	target/calls

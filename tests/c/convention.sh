@@ -16,7 +16,7 @@ rehearsal   FILE 3       text
 timeline    FILE         text
 diagram     FILE         text
 explain     FILE         text
-make_shows  FILE         files
+make_show   examples/shows/lamp_fade.score FILE  files
 '
 
 # A show with nothing wrong; one whose patch is refused, left on a cue; one that ends before its patch does; and a patch.

@@ -7,17 +7,21 @@
 # shellcheck source=tests/c/building.sh
 source "$(dirname "$0")/building.sh"
 
-for program in make_shows frame_loop rehearsal timeline explain; do
+for program in make_show frame_loop rehearsal timeline explain; do
     holds "build $program" build "$program" "examples/$program.c"
 done
 holds "build the test of lanes" build lanes tests/c/lanes.c
 [ "$failed" -eq 0 ] || exit 1
 
-# The shipped shows are what make_shows writes, byte for byte, and there are no others.
+# The shipped shows are what make_show writes of the scores beside them, byte for byte, and there are no others.
 same_shows() {
-    mkdir "$folder/shows" && "$folder/make_shows" "$folder/shows" || return 1
-    diff -r --exclude='*.expected' --exclude='*.messages' --exclude='*.explained' --exclude='*.svg' \
-        "$folder/shows" examples/shows
+    local score
+    mkdir "$folder/shows" || return 1
+    for score in examples/shows/*.score; do
+        "$folder/make_show" "$score" "$folder/shows" || return 1
+    done
+    diff -r --exclude='*.score' --exclude='*.expected' --exclude='*.messages' --exclude='*.explained' \
+        --exclude='*.svg' "$folder/shows" examples/shows
 }
 
 # What the frame loop sends with the seed in the name of the stored text, X.seed-7.expected, and what it tells on the

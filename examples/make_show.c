@@ -1,0 +1,1027 @@
+/*
+ * Makes a show of a score, a text that says what can come, what is sent on for it, and what comes in which frame. The
+ * help below has a score.
+ *
+ * The score is read once, from its front to its end. When a line of a frame is read, all that comes before it is in
+ * force: the line becomes a slice of what is left of the type, and the library says whether it is one. Nothing is
+ * written before the whole score is read.
+ */
+#define _POSIX_C_SOURCE 200809L /* for getdelim and open_memstream */
+#include "faults.h"
+#include "feeding.h"
+#include "kinds.h"
+#include "lanes.h"
+#include "program.h"
+#include "text.h"
+
+#include <errno.h>
+#include <stdarg.h>
+#include <stdio.h>
+#include <stdlib.h>
+#include <string.h>
+
+static const char help[] =
+    "make_show SCORE [FOLDER]\n"
+    "\n"
+    "Makes a show of a score, a text file X.score: writes X.show, and the names of its lanes in X.lanes, beside it or\n"
+    "to a folder. This is a score:\n"
+    "\n"
+    "    # A comet, then Saturn and a lamp.\n"
+    "    type\n"
+    "      cue \"comet\" then (cue \"Saturn\" beside level \"dome lamp\")\n"
+    "    patch\n"
+    "      then pass (both right left)\n"
+    "    out 1 \"comet\"\n"
+    "    out 2 \"dome lamp\"\n"
+    "    out 3 \"Saturn\"\n"
+    "    frames 180\n"
+    "      60 cue \"comet\"\n"
+    "      119 cross to \"Saturn\"\n"
+    "      120 cue \"Saturn\"\n"
+    "      120 level \"dome lamp\" 30000\n"
+    "\n"
+    "type    what can come: cue, level and empty, each with a name if you like; then and beside between two parts,\n"
+    "        and parentheses. 'a then b then c' is 'a then (b then c)'; so is beside.\n"
+    "patch   what is sent on: a node, then its parts; parentheses are for the reader. 'level' has its value behind "
+    "it,\n"
+    "        'silent' a type.\n"
+    "out     the name of a lane of the output, which the patch makes.\n"
+    "frames  how many, 60 a second; then what comes, frame by frame, a line each. A lane is said by its name or by "
+    "its\n"
+    "        number, from left to right; 'cross to' says the first lane of a second part. Lines of one frame come one\n"
+    "        after the other in one slice. '10 bytes 0 2 5 2' records these bytes in place of a slice, good or not.\n"
+    "cut 1   at the end: so many bytes are missing of the last slice, as if the recording was broken off.\n"
+    "#       the rest of the line is a comment.\n"
+    "\n"
+    "Status: 0 the show is written; 1 the patch is refused, or a line says what cannot come at that time; 2 the words\n"
+    "or a file cannot be used, or a line cannot be read.\n";
+
+enum {
+    FRAMES_MAX = 2 * 60 * 60 * 60,        /* two hours */
+    NESTING_MAX = 255,                    /* of parts in parts; no accepted tree is deeper */
+    TREE_BYTES = WOSTHILE_PATCH_FILE_MAX, /* no accepted tree is longer */
+    SLICE_BYTES_MAX = 65535               /* of the bytes of a line, since their length is told in two bytes */
+};
+
+struct token {
+    enum { TOKEN_WORD, TOKEN_NAME, TOKEN_OPEN, TOKEN_CLOSE, TOKEN_LINE_END, TOKEN_END } kind;
+    const char *text; /* of a name without its quotation marks */
+    size_t length;
+    size_t line;
+};
+
+struct reader {
+    const char *path;
+    const char *at; /* behind the next token */
+    size_t line;
+    struct token next;
+    size_t kept_line; /* the line behind which no token is read; 0 if there is none */
+};
+
+/* Tells what is wrong with a line that cannot be read, and ends the program. */
+static noreturn void __attribute__((format(printf, 3, 4)))
+stop_at(const struct reader *reader, size_t line, const char *format, ...)
+{
+    char message[MESSAGE_BYTES];
+    va_list list;
+    va_start(list, format);
+    vsnprintf(message, sizeof message, format, list);
+    va_end(list);
+    stop("%s, line %zu: %s", reader->path, line, message);
+}
+
+/* Tells what is due in place of the next token. */
+static noreturn void stop_for_due(const struct reader *reader, const char *due)
+{
+    const struct token *next = &reader->next;
+    char text[LANE_NAME_BYTES] = "", clean[LANE_NAME_BYTES];
+    memcpy(text, next->text, next->length < sizeof text ? next->length : sizeof text - 1);
+    clean_text(clean, sizeof clean, text);
+    if (next->kind == TOKEN_END || next->kind == TOKEN_LINE_END) {
+        stop_at(reader, next->line, "the %s ends where %s is due", next->kind == TOKEN_END ? "score" : "line", due);
+    }
+    stop_at(reader, next->line, next->kind == TOKEN_NAME ? "the name \"%s\" where %s is due" : "\"%s\" where %s is due",
+            clean, due);
+}
+
+/* Goes over blanks and comments. */
+static void skip_blanks(struct reader *reader)
+{
+    while (*reader->at != '\0' && strchr(" \t\r\n\f\v#", *reader->at) != NULL) {
+        reader->line += *reader->at == '\n';
+        reader->at += *reader->at == '#' ? strcspn(reader->at, "\n") : 1;
+    }
+}
+
+/* The token that begins where the reader is. */
+static struct token find_token(const struct reader *reader)
+{
+    struct token token = {TOKEN_WORD, reader->at, 1, reader->line};
+    if (*reader->at == '\0') {
+        token.kind = TOKEN_END;
+        token.length = 0;
+    } else if (*reader->at == '(') {
+        token.kind = TOKEN_OPEN;
+    } else if (*reader->at == ')') {
+        token.kind = TOKEN_CLOSE;
+    } else if (*reader->at == '"') {
+        token.kind = TOKEN_NAME;
+        token.text++;
+        token.length = strcspn(token.text, "\"\n");
+    } else {
+        token.length = strcspn(token.text, " \t\r\n\f\v#()\"");
+    }
+    return token;
+}
+
+/* Goes on to the next token. */
+static void advance(struct reader *reader)
+{
+    struct reader before = *reader;
+    skip_blanks(reader);
+    struct token token = find_token(reader);
+    if (reader->kept_line != 0 && (token.line != reader->kept_line || token.kind == TOKEN_END)) {
+        *reader = before;
+        reader->next = (struct token){TOKEN_LINE_END, before.at, 0, before.kept_line};
+        return;
+    }
+    reader->at = token.text + token.length;
+    if (token.kind == TOKEN_NAME && *reader->at++ != '"') {
+        stop_at(reader, token.line, "a name has no quotation mark at its end");
+    }
+    reader->next = token;
+}
+
+/* Up to end_line no token of another line is read. */
+static void begin_line(struct reader *reader) { reader->kept_line = reader->next.line; }
+
+static void end_line(struct reader *reader)
+{
+    if (reader->next.kind != TOKEN_LINE_END && reader->next.kind != TOKEN_END) {
+        stop_for_due(reader, "the end of the line");
+    }
+    reader->kept_line = 0;
+    advance(reader);
+}
+
+static bool is_word(const struct token *token, const char *word, size_t length)
+{
+    return token->kind == TOKEN_WORD && token->length == length && strncmp(token->text, word, length) == 0;
+}
+
+/* Takes these words, with a space between two of them, if they come next. */
+static bool take_words(struct reader *reader, const char *words)
+{
+    struct reader behind = *reader;
+    while (*words != '\0') {
+        size_t length = strcspn(words, " ");
+        if (!is_word(&behind.next, words, length)) {
+            return false;
+        }
+        advance(&behind);
+        words += length + strspn(words + length, " ");
+    }
+    *reader = behind;
+    return true;
+}
+
+/* The words of a kind, from the tables of kinds; NULL if it has none here. */
+typedef const char *kind_words(uint8_t kind);
+
+static const char *listed(const char *name) { return strcmp(name, UNLISTED_KIND) == 0 ? NULL : name; }
+
+static const char *node_words(uint8_t kind) { return listed(node_kind(kind)->name); }
+
+static const char *between_words(uint8_t kind) { return type_kind(kind)->between; }
+
+/* Of a type that begins with its own name. */
+static const char *type_words(uint8_t kind)
+{
+    return type_kind(kind)->between == NULL ? listed(type_kind(kind)->name) : NULL;
+}
+
+/* The kind of the slice in which nothing comes of a type: the first one that is listed for it. */
+static uint8_t awaited_kind(uint8_t type)
+{
+    uint8_t kind = 0;
+    while (slice_kind(kind)->of != type && listed(slice_kind(kind)->name) != NULL) {
+        kind++;
+    }
+    return kind;
+}
+
+/* The kind of the slice in which a cue or a level comes: the last one that is listed for it. */
+static uint8_t come_kind(uint8_t type)
+{
+    uint8_t found = awaited_kind(type);
+    for (uint8_t kind = found; listed(slice_kind(kind)->name) != NULL; kind++) {
+        found = slice_kind(kind)->of == type ? kind : found;
+    }
+    return found;
+}
+
+/* Of a type that can come in a lane. */
+static const char *coming_words(uint8_t kind)
+{
+    bool comes = type_kind(kind)->parts == 0 && awaited_kind(kind) != come_kind(kind);
+    return comes ? type_words(kind) : NULL;
+}
+
+/* Takes the words of a kind, the longest that come next. */
+static bool take_kind(struct reader *reader, kind_words *words_of, uint8_t *kind)
+{
+    struct reader behind = *reader;
+    size_t longest = 0;
+    for (unsigned tried = 0; tried <= UINT8_MAX; tried++) {
+        const char *words = words_of((uint8_t)tried);
+        struct reader trial = *reader;
+        if (words != NULL && strlen(words) > longest && take_words(&trial, words)) {
+            longest = strlen(words);
+            behind = trial;
+            *kind = (uint8_t)tried;
+        }
+    }
+    *reader = behind;
+    return longest > 0;
+}
+
+/* Tells which words are due in place of the next token: those of the kinds, and another. */
+static noreturn void stop_for_kind(const struct reader *reader, kind_words *words_of, const char *other)
+{
+    char due[MESSAGE_BYTES / 2];
+    struct text text = text_begin(due, sizeof due);
+    const char *before = "";
+    for (unsigned kind = 0; kind <= UINT8_MAX; kind++) {
+        if (words_of((uint8_t)kind) != NULL) {
+            text_add(&text, "%s%s", before, words_of((uint8_t)kind));
+            before = ", ";
+        }
+    }
+    text_add(&text, " or %s", other);
+    stop_for_due(reader, due);
+}
+
+static size_t take_number(struct reader *reader, const char *what, size_t least, size_t most)
+{
+    char digits[24] = "", due[MESSAGE_BYTES / 2];
+    uint64_t number = 0;
+    bool read = reader->next.kind == TOKEN_WORD && reader->next.length < sizeof digits;
+    if (read) {
+        memcpy(digits, reader->next.text, reader->next.length);
+    }
+    if (!read || !read_number(digits, &number) || number < least || number > most) {
+        snprintf(due, sizeof due, "%s from %zu to %zu", what, least, most);
+        stop_for_due(reader, due);
+    }
+    advance(reader);
+    return (size_t)number;
+}
+
+static size_t take_value(struct reader *reader, unsigned value_bytes)
+{
+    return take_number(reader, "a value", 0, ((size_t)1 << 8 * value_bytes) - 1);
+}
+
+static void take_name(struct reader *reader, char name[LANE_NAME_BYTES])
+{
+    char text[LANE_NAME_BYTES] = "";
+    if (reader->next.kind != TOKEN_NAME) {
+        stop_for_due(reader, "a name in quotation marks");
+    }
+    if (reader->next.length < 1 || reader->next.length >= sizeof text) {
+        stop_at(reader, reader->next.line, "a name has 1 to %d bytes, and this one has %zu", LANE_NAME_BYTES - 1,
+                reader->next.length);
+    }
+    memcpy(text, reader->next.text, reader->next.length);
+    clean_text(name, LANE_NAME_BYTES, text);
+    if (strcmp(name, text) != 0) {
+        stop_at(reader, reader->next.line, "the name \"%s\" has a character that cannot be printed, here a ?", name);
+    }
+    advance(reader);
+}
+
+/* The bytes of a tree, and the line of the score that each is from. */
+struct tree {
+    size_t length;
+    uint8_t bytes[TREE_BYTES];
+    size_t lines[TREE_BYTES];
+};
+
+/* A file that is made in memory. */
+struct memory_file {
+    FILE *stream;
+    char *bytes;
+    size_t length;
+};
+
+struct score {
+    struct reader reader;
+    struct tree type, nodes;
+    struct patch patch;
+    struct lanes in, out; /* the first one moves on with the show; of the second only the start is used */
+    unsigned lanes;       /* of the type, as far as it is read */
+    struct lane_names names;
+    size_t frames, frame; /* how many there are, and the one that is being made */
+    struct joined coming; /* what comes in it so far */
+    size_t last_length;   /* the bytes of the frame before it, with their length */
+    size_t cut;
+    struct memory_file show_file, lanes_file;
+};
+
+/* Puts a byte into a tree; what was at the place and behind it moves on. */
+static void insert_byte(const struct reader *reader, struct tree *tree, size_t place, uint8_t byte, size_t line)
+{
+    if (tree->length == TREE_BYTES) {
+        stop_at(reader, line, "no type and no patch is so long");
+    }
+    size_t behind = tree->length - place;
+    memmove(tree->bytes + place + 1, tree->bytes + place, behind);
+    memmove(tree->lines + place + 1, tree->lines + place, behind * sizeof tree->lines[0]);
+    tree->bytes[place] = byte;
+    tree->lines[place] = line;
+    tree->length++;
+}
+
+static void add_byte(const struct reader *reader, struct tree *tree, uint8_t byte, size_t line)
+{
+    insert_byte(reader, tree, tree->length, byte, line);
+}
+
+static void add_value(const struct reader *reader, struct tree *tree, size_t value, unsigned value_bytes, size_t line)
+{
+    for (unsigned byte = value_bytes; byte > 0; byte--) {
+        add_byte(reader, tree, (uint8_t)(value >> 8 * (byte - 1)), line);
+    }
+}
+
+/* Takes the parenthesis that is opened next, if one is. */
+static bool take_open(struct reader *reader, unsigned depth)
+{
+    if (depth > NESTING_MAX) {
+        stop_at(reader, reader->next.line, "parts in parts lie deeper than %d", NESTING_MAX);
+    }
+    bool opened = reader->next.kind == TOKEN_OPEN;
+    if (opened) {
+        advance(reader);
+    }
+    return opened;
+}
+
+static bool take_close(struct reader *reader)
+{
+    bool closed = reader->next.kind == TOKEN_CLOSE;
+    if (closed) {
+        advance(reader);
+    }
+    return closed;
+}
+
+/* Counts a lane of the input, and takes its name if it has one. A type of more lanes is refused by the library. */
+static void read_lane(struct score *score)
+{
+    char name[LANE_NAME_BYTES];
+    unsigned lane = ++score->lanes;
+    bool named = score->reader.next.kind == TOKEN_NAME;
+    snprintf(name, sizeof name, "in %u", lane);
+    if (named) {
+        take_name(&score->reader, name);
+        fprintf(score->lanes_file.stream, "in %u %s\n", lane, name);
+    }
+    if (lane <= LANES_MAX) {
+        memcpy(score->names.in.of[lane], name, sizeof name);
+    }
+}
+
+static void read_type(struct score *score, struct tree *tree, unsigned depth);
+
+/* Reads a part of a type: a leaf, or parts in parentheses. The leaves of the input's type are its lanes. */
+static void read_type_part(struct score *score, struct tree *tree, unsigned depth)
+{
+    size_t line = score->reader.next.line;
+    uint8_t kind;
+    if (take_open(&score->reader, depth)) {
+        read_type(score, tree, depth + 1);
+        if (!take_close(&score->reader)) {
+            stop_for_kind(&score->reader, between_words, ")");
+        }
+        return;
+    }
+    if (!take_kind(&score->reader, type_words, &kind)) {
+        stop_for_kind(&score->reader, type_words, "(");
+    }
+    add_byte(&score->reader, tree, kind, line);
+    for (unsigned part = 0; part < type_kind(kind)->parts; part++) {
+        read_type_part(score, tree, depth + 1);
+    }
+    if (tree == &score->type && type_kind(kind)->parts == 0) {
+        read_lane(score);
+    }
+}
+
+/* Reads parts with a word between them, the same one. A fork is written before its parts, so it is put in later. */
+static void read_type(struct score *score, struct tree *tree, unsigned depth)
+{
+    struct reader *reader = &score->reader;
+    size_t begin = tree->length, last = begin;
+    uint8_t kind;
+    read_type_part(score, tree, depth);
+    size_t line = reader->next.line;
+    while (take_kind(reader, between_words, &kind)) {
+        if (last != begin && kind != tree->bytes[begin]) {
+            stop_at(reader, line, "\"%s\" behind \"%s\": parentheses have to say which parts belong together",
+                    between_words(kind), between_words(tree->bytes[begin]));
+        }
+        insert_byte(reader, tree, last, kind, line);
+        last = tree->length;
+        read_type_part(score, tree, depth);
+        line = reader->next.line;
+    }
+}
+
+/* Reads a node: its words, what it carries, and its parts. */
+static void read_node(struct score *score, unsigned depth)
+{
+    struct reader *reader = &score->reader;
+    size_t line = reader->next.line;
+    uint8_t kind;
+    if (take_open(reader, depth)) {
+        read_node(score, depth + 1);
+        if (!take_close(reader)) {
+            stop_for_due(reader, ")");
+        }
+        return;
+    }
+    if (!take_kind(reader, node_words, &kind)) {
+        stop_for_kind(reader, node_words, "(");
+    }
+    const struct node_kind *row = node_kind(kind);
+    add_byte(reader, &score->nodes, kind, line);
+    if (row->value_bytes > 0) {
+        add_value(reader, &score->nodes, take_value(reader, row->value_bytes), row->value_bytes, line);
+    }
+    if (row->carries_type) {
+        read_type_part(score, &score->nodes, depth + 1);
+    }
+    for (unsigned part = 0; part < row->parts; part++) {
+        read_node(score, depth + 1);
+    }
+}
+
+/* The line of the score that a byte of the patch file is from. */
+static size_t line_of_byte(const struct score *score, size_t byte)
+{
+    size_t nodes_begin = 2 + score->type.length + 2;
+    const struct tree *tree = byte < nodes_begin ? &score->type : &score->nodes;
+    size_t begin = byte < nodes_begin ? 2 : nodes_begin;
+    size_t place = byte < begin ? 0 : byte - begin;
+    return tree->lines[place < tree->length ? place : tree->length - 1];
+}
+
+static void write_count(FILE *stream, size_t count)
+{
+    fputc((int)(count / 256), stream);
+    fputc((int)(count % 256), stream);
+}
+
+/* A file after its length, as a show has them, or a section, which is the same on a smaller scale. */
+static void write_counted(FILE *stream, struct file file)
+{
+    write_count(stream, file.length);
+    fwrite(file.bytes, 1, file.length, stream);
+}
+
+static void begin_file(struct memory_file *file)
+{
+    file->stream = open_memstream(&file->bytes, &file->length);
+    if (file->stream == NULL) {
+        stop("there is not enough memory");
+    }
+}
+
+/* The bytes can be read from here on; the caller frees them. */
+static struct file end_file(struct memory_file *file)
+{
+    bool failed = ferror(file->stream) != 0;
+    if (fclose(file->stream) != 0 || failed) {
+        stop("there is not enough memory");
+    }
+    return (struct file){(const uint8_t *)file->bytes, file->length};
+}
+
+/* The score is one of a show that the library refuses: ends the program. */
+static noreturn void refuse_at(const struct score *score, size_t line, const char *why)
+{
+    tell("%s, line %zu: %s", score->reader.path, line, why);
+    exit(program_end(STATUS_REFUSED));
+}
+
+static noreturn void refuse_patch(const struct score *score, struct file patch)
+{
+    char place[MESSAGE_BYTES], why[2 * MESSAGE_BYTES];
+    struct patch_tree tree;
+    struct fault fault = patch_fault(patch, &tree);
+    patch_fault_text(place, sizeof place, patch, &score->names.in, NULL);
+    snprintf(why, sizeof why, "the patch is refused with %u: %s\n    %s", fault.number, wosthile_sentence(fault.number),
+             place);
+    refuse_at(score, line_of_byte(score, fault.byte), why);
+}
+
+/* Puts the patch in force that the type and the nodes are, and records it. */
+static void record_patch(struct score *score)
+{
+    struct memory_file made;
+    struct type output;
+    begin_file(&made);
+    write_counted(made.stream, (struct file){score->type.bytes, score->type.length});
+    write_counted(made.stream, (struct file){score->nodes.bytes, score->nodes.length});
+    struct file patch = end_file(&made);
+    if (patch_start(&score->patch, patch, &output) != WOSTHILE_ACCEPTED) {
+        refuse_patch(score, patch);
+    }
+    if (!lanes_start(&score->in, patch_input_type(&score->patch)) || !lanes_start(&score->out, type_file(&output))) {
+        stop("a type of the patch cannot be read");
+    }
+    write_counted(score->show_file.stream, patch);
+    free(made.bytes);
+}
+
+/* Reads a line that names a lane of the output. */
+static void read_out(struct score *score)
+{
+    struct reader *reader = &score->reader;
+    size_t line = reader->next.line;
+    begin_line(reader);
+    take_words(reader, "out");
+    size_t lane = take_number(reader, "a lane", 1, score->out.count);
+    char *name = score->names.out.of[lane];
+    if (name[0] != '\0') {
+        stop_at(reader, line, "lane %zu of the output has a name already, \"%s\"", lane, name);
+    }
+    take_name(reader, name);
+    end_line(reader);
+    fprintf(score->lanes_file.stream, "out %zu %s\n", lane, name);
+}
+
+/* What comes at a node of the type at the start: the slice's kind there, and a value if it has one. */
+struct event {
+    size_t node;
+    uint8_t kind;
+    size_t value;
+    size_t line;
+};
+
+/* A slice file as it is made, and whether what comes has a place in it. */
+struct slice {
+    uint8_t bytes[WOSTHILE_SLICE_FILE_MAX];
+    size_t length;
+    bool placed;
+};
+
+static void put_value(struct slice *slice, size_t value, unsigned value_bytes)
+{
+    for (unsigned byte = value_bytes; byte > 0; byte--) {
+        slice->bytes[slice->length++] = (uint8_t)(value >> 8 * (byte - 1));
+    }
+}
+
+/* Is a node of the type in force the whole one of the start that it was? If not, it has come, or is no other one. */
+static bool is_awaited(const struct lanes *lanes, size_t node, size_t start)
+{
+    return lanes->origin[node] == start && lanes->type[2 + node] == lanes->start[start].kind;
+}
+
+/* Writes the slice of a part of the type in force: nothing comes in it but the event, if there is one. */
+static void put_part(struct slice *slice, const struct lanes *lanes, size_t node, const struct event *event)
+{
+    struct file type = {lanes->type + 2, lanes->nodes};
+    bool comes = event != NULL && is_awaited(lanes, node, event->node);
+    uint8_t kind = comes ? event->kind : awaited_kind(type.bytes[node]);
+    const struct slice_kind *row = slice_kind(kind);
+    slice->placed = slice->placed || comes;
+    slice->bytes[slice->length++] = kind;
+    put_value(slice, comes ? event->value : 0, row->value_bytes);
+    for (unsigned part = 0; part < row->parts; part++) {
+        put_part(slice, lanes, type_part(type, node, row->part[part]), event);
+    }
+}
+
+static void make_slice(struct slice *slice, const struct lanes *lanes, const struct event *event)
+{
+    slice->length = 2;
+    slice->placed = false;
+    put_part(slice, lanes, 0, event);
+    slice->bytes[0] = (uint8_t)((slice->length - 2) / 256);
+    slice->bytes[1] = (uint8_t)((slice->length - 2) % 256);
+}
+
+/* Adds a lane, or a crossing by the lane that it leads to, given the node of the type at the start. */
+static void add_thing(struct text *text, const struct score *score, size_t node)
+{
+    const struct start_node *start = score->in.start;
+    bool crossing = type_kind(start[node].kind)->parts > 0;
+    unsigned lane = start[crossing ? start[node].second : node].lanes.first;
+    text_add(text, crossing ? "the crossing to " : "");
+    lane_range_text(text, (struct lane_range){lane, lane}, &score->names.in);
+}
+
+static bool is_within(struct lane_range inner, struct lane_range outer)
+{
+    return inner.first >= outer.first && inner.last <= outer.last;
+}
+
+/* The first crossing that has to come before anything at a node of the start: it leads to a part with that node. */
+static size_t crossing_before(const struct lanes *lanes, size_t node)
+{
+    const struct start_node *start = lanes->start;
+    for (size_t place = 0; place < lanes->nodes; place++) {
+        size_t origin = lanes->origin[place];
+        if (is_awaited(lanes, place, origin) && start[origin].kind == WOSTHILE_TYPE_SEQUENCE &&
+            is_within(start[node].lanes, start[start[origin].second].lanes)) {
+            return origin;
+        }
+    }
+    return node;
+}
+
+/* What is still owed in a range of lanes, as a node of the start: the first lane or, if none is, the first crossing. */
+static size_t owed_within(const struct lanes *lanes, struct lane_range range)
+{
+    size_t lane = SIZE_MAX, crossing = SIZE_MAX;
+    for (size_t place = lanes->nodes; place > 0; place--) {
+        size_t origin = lanes->origin[place - 1];
+        uint8_t kind = lanes->type[2 + place - 1];
+        bool within = is_within(lanes->start[origin].lanes, range);
+        lane = within && coming_words(kind) != NULL ? origin : lane;
+        crossing = within && kind == WOSTHILE_TYPE_SEQUENCE ? origin : crossing;
+    }
+    return lane != SIZE_MAX ? lane : crossing;
+}
+
+/* Tells why an event has no place at this time. If it has a place, it is a crossing from a part that is not complete.
+ */
+static noreturn void refuse_event(const struct score *score, const struct event *event, bool placed)
+{
+    char why[MESSAGE_BYTES];
+    struct text text = text_begin(why, sizeof why);
+    const struct lanes *lanes = &score->in;
+    size_t before = crossing_before(lanes, event->node);
+    add_thing(&text, score, event->node);
+    if (placed) {
+        text_add(&text, " comes before ");
+        add_thing(&text, score, owed_within(lanes, lanes->start[event->node + 1].lanes));
+        text_add(&text, ", which belongs to the part before it and has not come");
+    } else if (before != event->node) {
+        text_add(&text, " is behind ");
+        add_thing(&text, score, before);
+        text_add(&text, ", which has not come");
+    } else {
+        text_add(&text, " has come already");
+    }
+    refuse_at(score, event->line, why);
+}
+
+/* Adds a slice, with an event or with nothing, to what comes in the frame that is being made. */
+static void add_slice(struct score *score, const struct event *event)
+{
+    struct slice slice;
+    struct lane_events events;
+    make_slice(&slice, &score->in, event);
+    struct file file = {slice.bytes, slice.length};
+    bool placed = event == NULL || slice.placed;
+    if (!placed || lanes_follow(&score->in, file, &events) != WOSTHILE_ACCEPTED) {
+        refuse_event(score, event, placed);
+    }
+    if (joined_add(&score->coming, patch_input_type(&score->patch), file) != WOSTHILE_ACCEPTED) {
+        stop("frame %zu: the slices of its lines cannot be joined", score->frame);
+    }
+}
+
+/* Records a slice file, good or not, as that of the frame; the answer is the number of its feed. */
+static uint32_t record_frame(struct score *score, struct file slice)
+{
+    uint8_t output[WOSTHILE_SLICE_FILE_MAX];
+    write_counted(score->show_file.stream, slice);
+    score->last_length = 2 + slice.length;
+    score->coming = (struct joined){.count = 0};
+    score->frame++;
+    return patch_feed(&score->patch, slice, output).number;
+}
+
+/* Records what has come in the frame. */
+static void end_frame(struct score *score)
+{
+    if (score->coming.count == 0) {
+        add_slice(score, NULL);
+    }
+    struct joined coming = score->coming;
+    if (record_frame(score, joined_file(&coming)) != WOSTHILE_ACCEPTED) {
+        stop("frame %zu: the slice of its lines is refused", score->frame - 1);
+    }
+}
+
+static void end_frames_before(struct score *score, size_t frame)
+{
+    while (score->frame < frame) {
+        end_frame(score);
+    }
+}
+
+/* Finds the lane that has a name, which no other lane has. */
+static unsigned lane_of_name(const struct score *score, const char *name, size_t line)
+{
+    unsigned found = 0;
+    for (unsigned lane = 1; lane <= score->in.count; lane++) {
+        bool same = strcmp(score->names.in.of[lane], name) == 0;
+        if (same && found != 0) {
+            stop_at(&score->reader, line, "lanes %u and %u have the name \"%s\": say the number", found, lane, name);
+        }
+        found = same ? lane : found;
+    }
+    if (found == 0) {
+        stop_at(&score->reader, line, "no lane of the type has the name \"%s\"", name);
+    }
+    return found;
+}
+
+static unsigned take_lane(struct score *score)
+{
+    char name[LANE_NAME_BYTES];
+    size_t line = score->reader.next.line;
+    if (score->reader.next.kind != TOKEN_NAME) {
+        return (unsigned)take_number(&score->reader, "the name of a lane or its number", 1, score->in.count);
+    }
+    take_name(&score->reader, name);
+    return lane_of_name(score, name, line);
+}
+
+static noreturn void stop_for_lane(const struct score *score, unsigned lane, size_t line, const char *why)
+{
+    char message[MESSAGE_BYTES];
+    struct text text = text_begin(message, sizeof message);
+    lane_range_text(&text, (struct lane_range){lane, lane}, &score->names.in);
+    stop_at(&score->reader, line, "%s %s", message, why);
+}
+
+/* The node of the start that is a lane. */
+static size_t lane_node(const struct lanes *lanes, unsigned lane)
+{
+    size_t node = 0;
+    while (type_kind(lanes->start[node].kind)->parts > 0 || lanes->start[node].lanes.first != lane) {
+        node++;
+    }
+    return node;
+}
+
+/* The sequence of the start whose second part begins with a lane; the number of nodes if there is none. */
+static size_t crossing_node(const struct lanes *lanes, unsigned lane)
+{
+    const struct start_node *start = lanes->start;
+    size_t node = 0;
+    while (node < lanes->start_nodes &&
+           (start[node].kind != WOSTHILE_TYPE_SEQUENCE || start[start[node].second].lanes.first != lane)) {
+        node++;
+    }
+    return node;
+}
+
+/* Reads `cross to LANE`, behind its first word. */
+static void read_crossing(struct score *score, struct event *event)
+{
+    if (!take_words(&score->reader, "to")) {
+        stop_for_due(&score->reader, "to");
+    }
+    unsigned lane = take_lane(score);
+    event->node = crossing_node(&score->in, lane);
+    event->kind = WOSTHILE_SLICE_CROSSED;
+    if (event->node == score->in.start_nodes) {
+        stop_for_lane(score, lane, event->line, "is not the first lane of a second part, so no crossing leads to it");
+    }
+}
+
+/* Reads `cue LANE` or `level LANE VALUE`, behind its first word, which is a kind of type. */
+static void read_coming(struct score *score, struct event *event, uint8_t type)
+{
+    char why[MESSAGE_BYTES / 2];
+    unsigned lane = take_lane(score);
+    event->node = lane_node(&score->in, lane);
+    event->kind = come_kind(type);
+    uint8_t due = score->in.start[event->node].kind;
+    if (due != type) {
+        snprintf(why, sizeof why, "is of kind %s, not %s", type_kind(due)->name, type_kind(type)->name);
+        stop_for_lane(score, lane, event->line, why);
+    }
+    if (slice_kind(event->kind)->value_bytes > 0) {
+        event->value = take_value(&score->reader, slice_kind(event->kind)->value_bytes);
+    }
+}
+
+/* Reads the bytes of a line, which are the whole slice file of the frame. The show moves on if it is a good one. */
+static void read_bytes(struct score *score, size_t line)
+{
+    struct memory_file made;
+    struct lane_events events;
+    if (score->coming.count > 0) {
+        stop_at(&score->reader, line, "frame %zu has other lines, and bytes are all of a frame", score->frame);
+    }
+    begin_file(&made);
+    while (score->reader.next.kind == TOKEN_WORD) {
+        fputc((int)take_number(&score->reader, "a byte", 0, UINT8_MAX), made.stream);
+    }
+    struct file slice = end_file(&made);
+    if (slice.length > SLICE_BYTES_MAX) {
+        stop_at(&score->reader, line, "a slice has at most %d bytes", SLICE_BYTES_MAX);
+    }
+    end_line(&score->reader);
+    lanes_follow(&score->in, slice, &events);
+    record_frame(score, slice);
+    free(made.bytes);
+}
+
+/* Reads a line of a frame, and adds what it says to the show. */
+static void read_frame_line(struct score *score)
+{
+    struct reader *reader = &score->reader;
+    struct event event = {.line = reader->next.line};
+    uint8_t type;
+    if (score->frame > score->frames) {
+        stop_at(reader, event.line, "frame %zu is the last one, and bytes are all of a frame", score->frames);
+    }
+    begin_line(reader);
+    end_frames_before(score, take_number(reader, "a frame", score->frame, score->frames));
+    if (take_words(reader, "bytes")) {
+        read_bytes(score, event.line);
+        return;
+    }
+    if (take_words(reader, "cross")) {
+        read_crossing(score, &event);
+    } else if (take_kind(reader, coming_words, &type)) {
+        read_coming(score, &event, type);
+    } else {
+        stop_for_kind(reader, coming_words, "cross or bytes");
+    }
+    end_line(reader);
+    add_slice(score, &event);
+}
+
+static bool is_number(const struct token *token)
+{
+    return token->kind == TOKEN_WORD && token->text[0] >= '0' && token->text[0] <= '9';
+}
+
+/* Reads the frames, and records all of them, also those in which nothing comes. */
+static void read_frames(struct score *score)
+{
+    struct reader *reader = &score->reader;
+    begin_line(reader);
+    if (!take_words(reader, "frames")) {
+        stop_for_due(reader, "out or frames");
+    }
+    score->frames = take_number(reader, "a number of frames", 1, FRAMES_MAX);
+    score->frame = 1;
+    end_line(reader);
+    while (is_number(&reader->next)) {
+        read_frame_line(score);
+    }
+    end_frames_before(score, score->frames + 1);
+}
+
+static void read_cut(struct score *score)
+{
+    struct reader *reader = &score->reader;
+    begin_line(reader);
+    take_words(reader, "cut");
+    score->cut = take_number(reader, "a number of bytes of the last slice", 1, score->last_length - 1);
+    end_line(reader);
+}
+
+/* Reads the score and makes both files in memory. */
+static void read_score(struct score *score)
+{
+    struct reader *reader = &score->reader;
+    if (!take_words(reader, "type")) {
+        stop_for_due(reader, "type");
+    }
+    read_type(score, &score->type, 0);
+    if (!take_words(reader, "patch")) {
+        stop_for_kind(reader, between_words, "patch");
+    }
+    read_node(score, 0);
+    record_patch(score);
+    while (is_word(&reader->next, "out", strlen("out"))) {
+        read_out(score);
+    }
+    read_frames(score);
+    if (is_word(&reader->next, "cut", strlen("cut"))) {
+        read_cut(score);
+    }
+    if (reader->next.kind != TOKEN_END) {
+        stop_for_due(reader,
+                     score->cut == 0 ? "a line of a frame, cut or the end of the score" : "the end of the score");
+    }
+}
+
+/* The text of a file, up to its end; the caller frees it. */
+static char *read_text(const char *path)
+{
+    char *text = NULL;
+    size_t room = 0;
+    errno = 0;
+    FILE *stream = fopen(path, "r");
+    if (stream == NULL) {
+        stop("%s cannot be opened: %s", path, strerror(errno));
+    }
+    ssize_t length = getdelim(&text, &room, '\0', stream);
+    if (text == NULL || (length < 0 && !feof(stream))) {
+        stop("%s cannot be read: %s", path, strerror(errno));
+    }
+    if (length > 0 && text[length - 1] == '\0') {
+        stop("%s is no text: it has a byte 0", path);
+    }
+    text[length < 0 ? 0 : length] = '\0';
+    fclose(stream);
+    return text;
+}
+
+/* The path of a file beside the score, or in a folder unless that is NULL, with the score's name and another ending. */
+static char *path_of(const char *score_path, const char *folder, const char *ending)
+{
+    const char *slash = strrchr(score_path, '/');
+    const char *name = folder == NULL || slash == NULL ? score_path : slash + 1;
+    size_t length = strlen(name) - strlen(".score");
+    size_t room = (folder == NULL ? 0 : strlen(folder)) + length + strlen(ending) + 2;
+    char *path = memory(room, 1);
+    snprintf(path, room, "%s%s%.*s%s", folder == NULL ? "" : folder, folder == NULL ? "" : "/", (int)length, name,
+             ending);
+    return path;
+}
+
+/* Writes a file; if it cannot be written whole, this is told and no file is left. */
+static bool write_whole(const char *path, struct file file)
+{
+    errno = 0;
+    FILE *stream = fopen(path, "wb");
+    bool written = stream != NULL && fwrite(file.bytes, 1, file.length, stream) == file.length;
+    written = stream != NULL && fclose(stream) == 0 && written;
+    if (!written) {
+        tell("%s cannot be written: %s", path, strerror(errno));
+    }
+    if (!written && stream != NULL) {
+        remove(path);
+    }
+    return written;
+}
+
+/* Gives a new file the name of the old one, whose place it takes. */
+static bool take_place(const char *new_path, const char *path)
+{
+    bool renamed = rename(new_path, path) == 0;
+    if (!renamed) {
+        tell("%s cannot be written: %s", path, strerror(errno));
+        remove(new_path);
+    }
+    return renamed;
+}
+
+/* Writes one of the two files under a name of its own first, so that what was there stays if it cannot be written. */
+static bool write_file(const char *score_path, const char *folder, const char *ending, struct file file)
+{
+    char new_ending[16];
+    snprintf(new_ending, sizeof new_ending, "%s.new", ending);
+    char *path = path_of(score_path, folder, ending), *new_path = path_of(score_path, folder, new_ending);
+    bool written = write_whole(new_path, file) && take_place(new_path, path);
+    free(path);
+    free(new_path);
+    return written;
+}
+
+static bool is_score_path(const char *path)
+{
+    size_t length = strlen(path), ending = strlen(".score");
+    return length > ending && strcmp(path + length - ending, ".score") == 0 && path[length - ending - 1] != '/';
+}
+
+int main(int count, char **words)
+{
+    static struct score score;
+    program_begin(help, count, words);
+    if (count < 2 || count > 3) {
+        stop_for_words(NULL);
+    }
+    const char *path = words[1], *folder = count == 3 ? words[2] : NULL;
+    if (!is_score_path(path)) {
+        stop_for_words(path);
+    }
+    char *text = read_text(path);
+    score.reader = (struct reader){.path = path, .at = text, .line = 1};
+    begin_file(&score.show_file);
+    begin_file(&score.lanes_file);
+    advance(&score.reader);
+    read_score(&score);
+    struct file show = end_file(&score.show_file), lanes = end_file(&score.lanes_file);
+    show.length -= score.cut;
+    bool written = write_file(path, folder, ".show", show) && write_file(path, folder, ".lanes", lanes);
+    free(score.show_file.bytes);
+    free(score.lanes_file.bytes);
+    free(text);
+    return program_end(written ? STATUS_DONE : STATUS_UNUSABLE);
+}
