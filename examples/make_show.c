@@ -245,19 +245,19 @@ static bool take_kind(struct reader *reader, kind_words *words_of, uint8_t *kind
     return longest > 0;
 }
 
-/* Tells which words are due in place of the next token: those of the kinds, and another. */
-static noreturn void stop_for_kind(const struct reader *reader, kind_words *words_of, const char *other)
+/* Tells which words are due in place of the next token: those of the kinds, and others that end the list. */
+static noreturn void stop_for_kind(const struct reader *reader, kind_words *words_of, const char *others)
 {
     char due[MESSAGE_BYTES / 2];
     struct text text = text_begin(due, sizeof due);
     const char *before = "";
     for (unsigned kind = 0; kind <= UINT8_MAX; kind++) {
         if (words_of((uint8_t)kind) != NULL) {
-            text_add(&text, "%s%s", before, words_of((uint8_t)kind));
+            text_add(&text, "%s\"%s\"", before, words_of((uint8_t)kind));
             before = ", ";
         }
     }
-    text_add(&text, " or %s", other);
+    text_add(&text, "%s", others);
     stop_for_due(reader, due);
 }
 
@@ -328,6 +328,14 @@ struct score {
     struct memory_file show_file, lanes_file;
 };
 
+/* Writes a value in so many bytes, the high byte first. */
+static void put_value(uint8_t *to, size_t value, unsigned value_bytes)
+{
+    for (unsigned byte = 0; byte < value_bytes; byte++) {
+        to[byte] = (uint8_t)(value >> 8 * (value_bytes - 1 - byte));
+    }
+}
+
 /* Puts a byte into a tree; what was at the place and behind it moves on. */
 static void insert_byte(const struct reader *reader, struct tree *tree, size_t place, uint8_t byte, size_t line)
 {
@@ -342,15 +350,13 @@ static void insert_byte(const struct reader *reader, struct tree *tree, size_t p
     tree->length++;
 }
 
-static void add_byte(const struct reader *reader, struct tree *tree, uint8_t byte, size_t line)
-{
-    insert_byte(reader, tree, tree->length, byte, line);
-}
-
+/* Adds a kind to the end of a tree, or a value. */
 static void add_value(const struct reader *reader, struct tree *tree, size_t value, unsigned value_bytes, size_t line)
 {
-    for (unsigned byte = value_bytes; byte > 0; byte--) {
-        add_byte(reader, tree, (uint8_t)(value >> 8 * (byte - 1)), line);
+    uint8_t bytes[sizeof value];
+    put_value(bytes, value, value_bytes);
+    for (unsigned byte = 0; byte < value_bytes; byte++) {
+        insert_byte(reader, tree, tree->length, bytes[byte], line);
     }
 }
 
@@ -402,14 +408,14 @@ static void read_type_part(struct score *score, struct tree *tree, unsigned dept
     if (take_open(&score->reader, depth)) {
         read_type(score, tree, depth + 1);
         if (!take_close(&score->reader)) {
-            stop_for_kind(&score->reader, between_words, ")");
+            stop_for_kind(&score->reader, between_words, " or \")\"");
         }
         return;
     }
     if (!take_kind(&score->reader, type_words, &kind)) {
-        stop_for_kind(&score->reader, type_words, "(");
+        stop_for_kind(&score->reader, type_words, " or \"(\"");
     }
-    add_byte(&score->reader, tree, kind, line);
+    add_value(&score->reader, tree, kind, 1, line);
     for (unsigned part = 0; part < type_kind(kind)->parts; part++) {
         read_type_part(score, tree, depth + 1);
     }
@@ -447,15 +453,15 @@ static void read_node(struct score *score, unsigned depth)
     if (take_open(reader, depth)) {
         read_node(score, depth + 1);
         if (!take_close(reader)) {
-            stop_for_due(reader, ")");
+            stop_for_due(reader, "\")\"");
         }
         return;
     }
     if (!take_kind(reader, node_words, &kind)) {
-        stop_for_kind(reader, node_words, "(");
+        stop_for_kind(reader, node_words, " or \"(\"");
     }
     const struct node_kind *row = node_kind(kind);
-    add_byte(reader, &score->nodes, kind, line);
+    add_value(reader, &score->nodes, kind, 1, line);
     if (row->value_bytes > 0) {
         add_value(reader, &score->nodes, take_value(reader, row->value_bytes), row->value_bytes, line);
     }
@@ -477,16 +483,12 @@ static size_t line_of_byte(const struct score *score, size_t byte)
     return tree->lines[place < tree->length ? place : tree->length - 1];
 }
 
-static void write_count(FILE *stream, size_t count)
-{
-    fputc((int)(count / 256), stream);
-    fputc((int)(count % 256), stream);
-}
-
 /* A file after its length, as a show has them, or a section, which is the same on a smaller scale. */
 static void write_counted(FILE *stream, struct file file)
 {
-    write_count(stream, file.length);
+    uint8_t count[2];
+    put_value(count, file.length, sizeof count);
+    fwrite(count, 1, sizeof count, stream);
     fwrite(file.bytes, 1, file.length, stream);
 }
 
@@ -577,13 +579,6 @@ struct slice {
     bool placed;
 };
 
-static void put_value(struct slice *slice, size_t value, unsigned value_bytes)
-{
-    for (unsigned byte = value_bytes; byte > 0; byte--) {
-        slice->bytes[slice->length++] = (uint8_t)(value >> 8 * (byte - 1));
-    }
-}
-
 /* Is a node of the type in force the whole one of the start that it was? If not, it has come, or is no other one. */
 static bool is_awaited(const struct lanes *lanes, size_t node, size_t start)
 {
@@ -599,7 +594,8 @@ static void put_part(struct slice *slice, const struct lanes *lanes, size_t node
     const struct slice_kind *row = slice_kind(kind);
     slice->placed = slice->placed || comes;
     slice->bytes[slice->length++] = kind;
-    put_value(slice, comes ? event->value : 0, row->value_bytes);
+    put_value(slice->bytes + slice->length, comes ? event->value : 0, row->value_bytes);
+    slice->length += row->value_bytes;
     for (unsigned part = 0; part < row->parts; part++) {
         put_part(slice, lanes, type_part(type, node, row->part[part]), event);
     }
@@ -610,8 +606,7 @@ static void make_slice(struct slice *slice, const struct lanes *lanes, const str
     slice->length = 2;
     slice->placed = false;
     put_part(slice, lanes, 0, event);
-    slice->bytes[0] = (uint8_t)((slice->length - 2) / 256);
-    slice->bytes[1] = (uint8_t)((slice->length - 2) % 256);
+    put_value(slice->bytes, slice->length - 2, 2);
 }
 
 /* Adds a lane, or a crossing by the lane that it leads to, given the node of the type at the start. */
@@ -667,9 +662,9 @@ static noreturn void refuse_event(const struct score *score, const struct event 
     size_t before = crossing_before(lanes, event->node);
     add_thing(&text, score, event->node);
     if (placed) {
-        text_add(&text, " comes before ");
+        text_add(&text, " has to wait for ");
         add_thing(&text, score, owed_within(lanes, lanes->start[event->node + 1].lanes));
-        text_add(&text, ", which belongs to the part before it and has not come");
+        text_add(&text, ", which has not come");
     } else if (before != event->node) {
         text_add(&text, " is behind ");
         add_thing(&text, score, before);
@@ -748,7 +743,8 @@ static unsigned take_lane(struct score *score)
     char name[LANE_NAME_BYTES];
     size_t line = score->reader.next.line;
     if (score->reader.next.kind != TOKEN_NAME) {
-        return (unsigned)take_number(&score->reader, "the name of a lane or its number", 1, score->in.count);
+        return (unsigned)take_number(&score->reader, "the name of a lane in quotation marks or a number", 1,
+                                     score->in.count);
     }
     take_name(&score->reader, name);
     return lane_of_name(score, name, line);
@@ -788,7 +784,7 @@ static size_t crossing_node(const struct lanes *lanes, unsigned lane)
 static void read_crossing(struct score *score, struct event *event)
 {
     if (!take_words(&score->reader, "to")) {
-        stop_for_due(&score->reader, "to");
+        stop_for_due(&score->reader, "\"to\"");
     }
     unsigned lane = take_lane(score);
     event->node = crossing_node(&score->in, lane);
@@ -844,7 +840,7 @@ static void read_frame_line(struct score *score)
     struct event event = {.line = reader->next.line};
     uint8_t type;
     if (score->frame > score->frames) {
-        stop_at(reader, event.line, "frame %zu is the last one, and bytes are all of a frame", score->frames);
+        stop_at(reader, event.line, "frame %zu, the last one, has its bytes, which are all of a frame", score->frames);
     }
     begin_line(reader);
     end_frames_before(score, take_number(reader, "a frame", score->frame, score->frames));
@@ -857,7 +853,7 @@ static void read_frame_line(struct score *score)
     } else if (take_kind(reader, coming_words, &type)) {
         read_coming(score, &event, type);
     } else {
-        stop_for_kind(reader, coming_words, "cross or bytes");
+        stop_for_kind(reader, coming_words, ", \"cross\" or \"bytes\"");
     }
     end_line(reader);
     add_slice(score, &event);
@@ -874,7 +870,7 @@ static void read_frames(struct score *score)
     struct reader *reader = &score->reader;
     begin_line(reader);
     if (!take_words(reader, "frames")) {
-        stop_for_due(reader, "out or frames");
+        stop_for_due(reader, "\"out\" or \"frames\"");
     }
     score->frames = take_number(reader, "a number of frames", 1, FRAMES_MAX);
     score->frame = 1;
@@ -899,11 +895,11 @@ static void read_score(struct score *score)
 {
     struct reader *reader = &score->reader;
     if (!take_words(reader, "type")) {
-        stop_for_due(reader, "type");
+        stop_for_due(reader, "\"type\"");
     }
     read_type(score, &score->type, 0);
     if (!take_words(reader, "patch")) {
-        stop_for_kind(reader, between_words, "patch");
+        stop_for_kind(reader, between_words, " or \"patch\"");
     }
     read_node(score, 0);
     record_patch(score);
@@ -916,7 +912,7 @@ static void read_score(struct score *score)
     }
     if (reader->next.kind != TOKEN_END) {
         stop_for_due(reader,
-                     score->cut == 0 ? "a line of a frame, cut or the end of the score" : "the end of the score");
+                     score->cut == 0 ? "a line of a frame, \"cut\" or the end of the score" : "the end of the score");
     }
 }
 
@@ -940,6 +936,13 @@ static char *read_text(const char *path)
     text[length < 0 ? 0 : length] = '\0';
     fclose(stream);
     return text;
+}
+
+/* Some editors put a mark of the encoding in front of a text, which nobody sees. */
+static const char *behind_mark(const char *text)
+{
+    static const char mark[] = "\xef\xbb\xbf";
+    return strncmp(text, mark, strlen(mark)) == 0 ? text + strlen(mark) : text;
 }
 
 /* The path of a file beside the score, or in a folder unless that is NULL, with the score's name and another ending. */
@@ -1012,7 +1015,7 @@ int main(int count, char **words)
         stop_for_words(path);
     }
     char *text = read_text(path);
-    score.reader = (struct reader){.path = path, .at = text, .line = 1};
+    score.reader = (struct reader){.path = path, .at = behind_mark(text), .line = 1};
     begin_file(&score.show_file);
     begin_file(&score.lanes_file);
     advance(&score.reader);
