@@ -63,8 +63,10 @@ enum {
     SLICE_BYTES_MAX = 65535               /* of the bytes of a line, since their length is told in two bytes */
 };
 
+enum token_kind { TOKEN_WORD, TOKEN_NAME, TOKEN_OPEN, TOKEN_CLOSE, TOKEN_LINE_END, TOKEN_END };
+
 struct token {
-    enum { TOKEN_WORD, TOKEN_NAME, TOKEN_OPEN, TOKEN_CLOSE, TOKEN_LINE_END, TOKEN_END } kind;
+    enum token_kind kind;
     const char *text; /* of a name without its quotation marks */
     size_t length;
     size_t line;
@@ -360,26 +362,22 @@ static void add_value(const struct reader *reader, struct tree *tree, size_t val
     }
 }
 
-/* Takes the parenthesis that is opened next, if one is. */
-static bool take_open(struct reader *reader, unsigned depth)
+/* Takes a parenthesis, if it comes next. */
+static bool take_token(struct reader *reader, enum token_kind kind)
+{
+    bool comes = reader->next.kind == kind;
+    if (comes) {
+        advance(reader);
+    }
+    return comes;
+}
+
+/* Trees are read by functions that call themselves, so there is a bound. */
+static void need_depth(const struct reader *reader, unsigned depth)
 {
     if (depth > NESTING_MAX) {
         stop_at(reader, reader->next.line, "parts in parts lie deeper than %d", NESTING_MAX);
     }
-    bool opened = reader->next.kind == TOKEN_OPEN;
-    if (opened) {
-        advance(reader);
-    }
-    return opened;
-}
-
-static bool take_close(struct reader *reader)
-{
-    bool closed = reader->next.kind == TOKEN_CLOSE;
-    if (closed) {
-        advance(reader);
-    }
-    return closed;
 }
 
 /* Counts a lane of the input, and takes its name if it has one. A type of more lanes is refused by the library. */
@@ -405,9 +403,10 @@ static void read_type_part(struct score *score, struct tree *tree, unsigned dept
 {
     size_t line = score->reader.next.line;
     uint8_t kind;
-    if (take_open(&score->reader, depth)) {
+    need_depth(&score->reader, depth);
+    if (take_token(&score->reader, TOKEN_OPEN)) {
         read_type(score, tree, depth + 1);
-        if (!take_close(&score->reader)) {
+        if (!take_token(&score->reader, TOKEN_CLOSE)) {
             stop_for_kind(&score->reader, between_words, " or \")\"");
         }
         return;
@@ -450,9 +449,10 @@ static void read_node(struct score *score, unsigned depth)
     struct reader *reader = &score->reader;
     size_t line = reader->next.line;
     uint8_t kind;
-    if (take_open(reader, depth)) {
+    need_depth(reader, depth);
+    if (take_token(reader, TOKEN_OPEN)) {
         read_node(score, depth + 1);
-        if (!take_close(reader)) {
+        if (!take_token(reader, TOKEN_CLOSE)) {
             stop_for_due(reader, "\")\"");
         }
         return;

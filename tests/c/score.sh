@@ -103,11 +103,13 @@ tells_early_and_late() {
             '3 cross to 4' &&
         early_or_late 'the crossing to lane 3 "curtain" has to wait for lane 2 "lamp", which has not come' \
             '3 cue 1' '4 cross to 3' &&
+        early_or_late 'the crossing to lane 4 "house lamp" has to wait for lane 3 "curtain", which has not come' \
+            '3 cue 1' '4 level 2 7' '5 cross to 3' '6 cross to 4' &&
         early_or_late 'the crossing to lane 3 "curtain" has come already' '3 cue 1' '4 level 2 7' '5 cross to 3' '6 cross to 3' &&
-        wrong 1 4 'the crossing to lane 3 has to wait for the crossing to lane 2, which has not come' <<<'type (cue then empty) then cue
-patch pass frames 9
-1 cue 1
-2 cross to 3'
+        wrong 1 2 'the crossing to lane 3 has to wait for lane 1, which has not come' \
+            <<<$'type (cue then cue) then cue patch pass frames 9\n2 cross to 3' &&
+        wrong 1 3 'the crossing to lane 3 has to wait for the crossing to lane 2, which has not come' \
+            <<<$'type (cue then empty) then cue patch pass frames 9\n1 cue 1\n2 cross to 3'
 }
 
 tells_wrong_trees() {
@@ -135,20 +137,28 @@ tells_wrong_trees() {
         wrong 2 2 '"432001" where a number of frames from 1 to 432000 is due' <<<$'type cue patch pass\nframes 432001' &&
         wrong 2 2 'lanes 1 and 3 have the name "a": say the number' \
             <<<$'type cue "a" beside cue "b" beside cue "a" patch pass frames 1\n1 cue "a"' &&
-        wrong 2 1 'parts in parts lie deeper than 255' <<<"type $(printf '%0300d' 0 | tr 0 '(')" &&
-        wrong 2 1 'parts in parts lie deeper than 255' <<<"type cue patch $(printf '%0300d' 0 | sed 's/0/chain /g')"
+        wrong 2 1 'parts in parts lie deeper than 255' <<<"type $(times 300 '(')" &&
+        wrong 2 1 'parts in parts lie deeper than 255' <<<"type cue patch $(times 300 'chain ')" &&
+        wrong 2 2 'no type and no patch is so long' <<<$'type\n'"$(times 5000 'cue beside ')"
+}
+
+# A text again and again: times 3 'cue beside '
+times() {
+    printf "%0$1d" 0 | sed "s/0/$2/g"
 }
 
 # Patches that the library refuses: the number, and the line of the node or the lane.
 tells_refused_patches() {
     local many
-    many=$(printf '%0127d' 0 | sed 's/0/cue beside /g')
+    many=$(times 127 'cue beside ')
     refused_patch 4 3 'byte 256, behind lane 127: the type has 255 nodes up to here and needs another' \
         $'type\n'"$many"$'\ncue beside cue patch pass frames 1' &&
+        refused_patch 4 3 'byte 256, behind lane 126: the type has 255 nodes up to here and needs another' \
+            "type $(times 127 '(')cue$(times 125 ' beside cue)')"$'\nbeside\ncue)\nbeside cue) beside cue patch pass frames 1' &&
         refused_patch 4 2 'byte 259, node both: its parts give a type of 255 nodes and a type of 1 node' \
             "type $many cue patch"$'\nboth\npass silent empty frames 1' &&
         refused_patch 5 3 'byte 67: the patch has 63 nodes up to here and needs another' \
-            $'type cue patch\n'"$(printf '%031d' 0 | sed 's/0/both pass /g')"$'\nboth pass pass frames 1' &&
+            $'type cue patch\n'"$(times 31 'both pass ')"$'\nboth pass pass frames 1' &&
         refused_patch 6 3 'byte 6, node silent: it carries level' $'type cue patch\nboth\nsilent\nlevel pass frames 1' &&
         refused_patch 7 4 'byte 9, node left: it takes s beside t, and its input is level' \
             $'type cue then level\npatch\nthen pass\nleft frames 1'
@@ -248,12 +258,19 @@ writes_whole_or_not() {
 
 # Words and files that cannot be used.
 needs_a_score() {
-    local path
-    mkdir "$folder/folder.score" && printf 'type\0' >"$folder/zero.score" && cp examples/shows/damaged.score "$folder/.score" || return 1
-    for path in examples/shows/damaged.show "$folder/.score" "$folder/folder.score" "$folder/zero.score" "$folder/no.score"; do
+    local path message
+    mkdir "$folder/folder.score" && printf 'type\0' >"$folder/zero.score" &&
+        cp examples/shows/damaged.score "$folder/.score" || return 1
+    while read -r path message; do
         "$folder/make_show" "$path" 2>"$folder/messages"
-        [ $? -eq 2 ] && [ -s "$folder/messages" ] || return 1
-    done
+        [ $? -eq 2 ] && grep -qF "$message" "$folder/messages" || return 1
+    done <<END
+examples/shows/damaged.show the words are: make_show SCORE
+$folder/.score the words are: make_show SCORE
+$folder/folder.score cannot be read: Is a directory
+$folder/zero.score is no text: it has a byte 0
+$folder/no.score cannot be opened: No such file
+END
 }
 
 # Writes scores that are damaged at random: bytes that are changed, taken out and put in, and words and lines that
