@@ -579,7 +579,7 @@ struct slice {
     bool placed;
 };
 
-/* Is a node of the type in force the whole one of the start that it was? If not, it has come, or is no other one. */
+/* Is a node of the type in force the given one of the start, and has it not come? What has come is empty. */
 static bool is_awaited(const struct lanes *lanes, size_t node, size_t start)
 {
     return lanes->origin[node] == start && lanes->type[2 + node] == lanes->start[start].kind;
@@ -609,7 +609,7 @@ static void make_slice(struct slice *slice, const struct lanes *lanes, const str
     put_value(slice->bytes, slice->length - 2, 2);
 }
 
-/* Adds a lane, or a crossing by the lane that it leads to, given the node of the type at the start. */
+/* Adds a lane, or a crossing by the lane that it leads to; the node is one of the type at the start. */
 static void add_thing(struct text *text, const struct score *score, size_t node)
 {
     const struct start_node *start = score->in.start;
@@ -652,8 +652,7 @@ static size_t owed_within(const struct lanes *lanes, struct lane_range range)
     return lane != SIZE_MAX ? lane : crossing;
 }
 
-/* Tells why an event has no place at this time. If it has a place, it is a crossing from a part that is not complete.
- */
+/* Tells why an event cannot come now. If it has a place, it is a crossing from a part that is not complete. */
 static noreturn void refuse_event(const struct score *score, const struct event *event, bool placed)
 {
     char why[MESSAGE_BYTES];
