@@ -6,16 +6,16 @@
  * force: the line becomes a slice of what is left of the type, and the library says whether it is one. Nothing is
  * written before the whole score is read.
  */
-#define _POSIX_C_SOURCE 200809L /* for getdelim and open_memstream */
+#define _POSIX_C_SOURCE 200809L /* for open_memstream */
 #include "faults.h"
 #include "feeding.h"
 #include "kinds.h"
 #include "lanes.h"
 #include "program.h"
+#include "score_words.h"
 #include "text.h"
 
 #include <errno.h>
-#include <stdarg.h>
 #include <stdio.h>
 #include <stdlib.h>
 #include <string.h>
@@ -63,133 +63,7 @@ enum {
     SLICE_BYTES_MAX = 65535               /* of the bytes of a line, since their length is told in two bytes */
 };
 
-enum token_kind { TOKEN_WORD, TOKEN_NAME, TOKEN_OPEN, TOKEN_CLOSE, TOKEN_LINE_END, TOKEN_END };
-
-struct token {
-    enum token_kind kind;
-    const char *text; /* of a name without its quotation marks */
-    size_t length;
-    size_t line;
-};
-
-struct reader {
-    const char *path;
-    const char *at; /* behind the next token */
-    size_t line;
-    struct token next;
-    size_t kept_line; /* the line behind which no token is read; 0 if there is none */
-};
-
-/* Tells what is wrong with a line that cannot be read, and ends the program. */
-static noreturn void __attribute__((format(printf, 3, 4)))
-stop_at(const struct reader *reader, size_t line, const char *format, ...)
-{
-    char message[MESSAGE_BYTES];
-    va_list list;
-    va_start(list, format);
-    vsnprintf(message, sizeof message, format, list);
-    va_end(list);
-    stop("%s, line %zu: %s", reader->path, line, message);
-}
-
-/* Tells what is due in place of the next token. */
-static noreturn void stop_for_due(const struct reader *reader, const char *due)
-{
-    const struct token *next = &reader->next;
-    char text[LANE_NAME_BYTES] = "", clean[LANE_NAME_BYTES];
-    memcpy(text, next->text, next->length < sizeof text ? next->length : sizeof text - 1);
-    clean_text(clean, sizeof clean, text);
-    if (next->kind == TOKEN_END || next->kind == TOKEN_LINE_END) {
-        stop_at(reader, next->line, "the %s ends where %s is due", next->kind == TOKEN_END ? "score" : "line", due);
-    }
-    stop_at(reader, next->line, next->kind == TOKEN_NAME ? "the name \"%s\" where %s is due" : "\"%s\" where %s is due",
-            clean, due);
-}
-
-/* Goes over blanks and comments. */
-static void skip_blanks(struct reader *reader)
-{
-    while (*reader->at != '\0' && strchr(" \t\r\n\f\v#", *reader->at) != NULL) {
-        reader->line += *reader->at == '\n';
-        reader->at += *reader->at == '#' ? strcspn(reader->at, "\n") : 1;
-    }
-}
-
-/* The token that begins where the reader is. */
-static struct token find_token(const struct reader *reader)
-{
-    struct token token = {TOKEN_WORD, reader->at, 1, reader->line};
-    if (*reader->at == '\0') {
-        token.kind = TOKEN_END;
-        token.length = 0;
-    } else if (*reader->at == '(') {
-        token.kind = TOKEN_OPEN;
-    } else if (*reader->at == ')') {
-        token.kind = TOKEN_CLOSE;
-    } else if (*reader->at == '"') {
-        token.kind = TOKEN_NAME;
-        token.text++;
-        token.length = strcspn(token.text, "\"\n");
-    } else {
-        token.length = strcspn(token.text, " \t\r\n\f\v#()\"");
-    }
-    return token;
-}
-
-/* Goes on to the next token. */
-static void advance(struct reader *reader)
-{
-    struct reader before = *reader;
-    skip_blanks(reader);
-    struct token token = find_token(reader);
-    if (reader->kept_line != 0 && (token.line != reader->kept_line || token.kind == TOKEN_END)) {
-        *reader = before;
-        reader->next = (struct token){TOKEN_LINE_END, before.at, 0, before.kept_line};
-        return;
-    }
-    reader->at = token.text + token.length;
-    if (token.kind == TOKEN_NAME && *reader->at++ != '"') {
-        stop_at(reader, token.line, "a name has no quotation mark at its end");
-    }
-    reader->next = token;
-}
-
-/* Up to end_line no token of another line is read. */
-static void begin_line(struct reader *reader) { reader->kept_line = reader->next.line; }
-
-static void end_line(struct reader *reader)
-{
-    if (reader->next.kind != TOKEN_LINE_END && reader->next.kind != TOKEN_END) {
-        stop_for_due(reader, "the end of the line");
-    }
-    reader->kept_line = 0;
-    advance(reader);
-}
-
-static bool is_word(const struct token *token, const char *word, size_t length)
-{
-    return token->kind == TOKEN_WORD && token->length == length && strncmp(token->text, word, length) == 0;
-}
-
-/* Takes these words, with a space between two of them, if they come next. */
-static bool take_words(struct reader *reader, const char *words)
-{
-    struct reader behind = *reader;
-    while (*words != '\0') {
-        size_t length = strcspn(words, " ");
-        if (!is_word(&behind.next, words, length)) {
-            return false;
-        }
-        advance(&behind);
-        words += length + strspn(words + length, " ");
-    }
-    *reader = behind;
-    return true;
-}
-
-/* The words of a kind, from the tables of kinds; NULL if it has none here. */
-typedef const char *kind_words(uint8_t kind);
-
+/* The words of kinds, from their tables. */
 static const char *listed(const char *name) { return strcmp(name, UNLISTED_KIND) == 0 ? NULL : name; }
 
 static const char *node_words(uint8_t kind) { return listed(node_kind(kind)->name); }
@@ -227,79 +101,6 @@ static const char *coming_words(uint8_t kind)
 {
     bool comes = type_kind(kind)->parts == 0 && awaited_kind(kind) != come_kind(kind);
     return comes ? type_words(kind) : NULL;
-}
-
-/* Takes the words of a kind, the longest that come next. */
-static bool take_kind(struct reader *reader, kind_words *words_of, uint8_t *kind)
-{
-    struct reader behind = *reader;
-    size_t longest = 0;
-    for (unsigned tried = 0; tried <= UINT8_MAX; tried++) {
-        const char *words = words_of((uint8_t)tried);
-        struct reader trial = *reader;
-        if (words != NULL && strlen(words) > longest && take_words(&trial, words)) {
-            longest = strlen(words);
-            behind = trial;
-            *kind = (uint8_t)tried;
-        }
-    }
-    *reader = behind;
-    return longest > 0;
-}
-
-/* Tells which words are due in place of the next token: those of the kinds, and others that end the list. */
-static noreturn void stop_for_kind(const struct reader *reader, kind_words *words_of, const char *others)
-{
-    char due[MESSAGE_BYTES / 2];
-    struct text text = text_begin(due, sizeof due);
-    const char *before = "";
-    for (unsigned kind = 0; kind <= UINT8_MAX; kind++) {
-        if (words_of((uint8_t)kind) != NULL) {
-            text_add(&text, "%s\"%s\"", before, words_of((uint8_t)kind));
-            before = ", ";
-        }
-    }
-    text_add(&text, "%s", others);
-    stop_for_due(reader, due);
-}
-
-static size_t take_number(struct reader *reader, const char *what, size_t least, size_t most)
-{
-    char digits[24] = "", due[MESSAGE_BYTES / 2];
-    uint64_t number = 0;
-    bool read = reader->next.kind == TOKEN_WORD && reader->next.length < sizeof digits;
-    if (read) {
-        memcpy(digits, reader->next.text, reader->next.length);
-    }
-    if (!read || !read_number(digits, &number) || number < least || number > most) {
-        snprintf(due, sizeof due, "%s from %zu to %zu", what, least, most);
-        stop_for_due(reader, due);
-    }
-    advance(reader);
-    return (size_t)number;
-}
-
-static size_t take_value(struct reader *reader, unsigned value_bytes)
-{
-    return take_number(reader, "a value", 0, ((size_t)1 << 8 * value_bytes) - 1);
-}
-
-static void take_name(struct reader *reader, char name[LANE_NAME_BYTES])
-{
-    char text[LANE_NAME_BYTES] = "";
-    if (reader->next.kind != TOKEN_NAME) {
-        stop_for_due(reader, "a name in quotation marks");
-    }
-    if (reader->next.length < 1 || reader->next.length >= sizeof text) {
-        stop_at(reader, reader->next.line, "a name has 1 to %d bytes, and this one has %zu", LANE_NAME_BYTES - 1,
-                reader->next.length);
-    }
-    memcpy(text, reader->next.text, reader->next.length);
-    clean_text(name, LANE_NAME_BYTES, text);
-    if (strcmp(name, text) != 0) {
-        stop_at(reader, reader->next.line, "the name \"%s\" has a character that cannot be printed, here a ?", name);
-    }
-    advance(reader);
 }
 
 /* The bytes of a tree, and the line of the score that each is from. */
@@ -360,16 +161,6 @@ static void add_value(const struct reader *reader, struct tree *tree, size_t val
     for (unsigned byte = 0; byte < value_bytes; byte++) {
         insert_byte(reader, tree, tree->length, bytes[byte], line);
     }
-}
-
-/* Takes a parenthesis, if it comes next. */
-static bool take_token(struct reader *reader, enum token_kind kind)
-{
-    bool comes = reader->next.kind == kind;
-    if (comes) {
-        advance(reader);
-    }
-    return comes;
 }
 
 /* Trees are read by functions that call themselves, so there is a bound. */
@@ -858,11 +649,6 @@ static void read_frame_line(struct score *score)
     add_slice(score, &event);
 }
 
-static bool is_number(const struct token *token)
-{
-    return token->kind == TOKEN_WORD && token->text[0] >= '0' && token->text[0] <= '9';
-}
-
 /* Reads the frames, and records all of them, also those in which nothing comes. */
 static void read_frames(struct score *score)
 {
@@ -913,35 +699,6 @@ static void read_score(struct score *score)
         stop_for_due(reader,
                      score->cut == 0 ? "a line of a frame, \"cut\" or the end of the score" : "the end of the score");
     }
-}
-
-/* The text of a file, up to its end; the caller frees it. */
-static char *read_text(const char *path)
-{
-    char *text = NULL;
-    size_t room = 0;
-    errno = 0;
-    FILE *stream = fopen(path, "r");
-    if (stream == NULL) {
-        stop("%s cannot be opened: %s", path, strerror(errno));
-    }
-    ssize_t length = getdelim(&text, &room, '\0', stream);
-    if (text == NULL || (length < 0 && !feof(stream))) {
-        stop("%s cannot be read: %s", path, strerror(errno));
-    }
-    if (length > 0 && text[length - 1] == '\0') {
-        stop("%s is no text: it has a byte 0", path);
-    }
-    text[length < 0 ? 0 : length] = '\0';
-    fclose(stream);
-    return text;
-}
-
-/* Some editors put a mark of the encoding in front of a text, which nobody sees. */
-static const char *behind_mark(const char *text)
-{
-    static const char mark[] = "\xef\xbb\xbf";
-    return strncmp(text, mark, strlen(mark)) == 0 ? text + strlen(mark) : text;
 }
 
 /* The path of a file beside the score, or in a folder unless that is NULL, with the score's name and another ending. */
@@ -1013,17 +770,15 @@ int main(int count, char **words)
     if (!is_score_path(path)) {
         stop_for_words(path);
     }
-    char *text = read_text(path);
-    score.reader = (struct reader){.path = path, .at = behind_mark(text), .line = 1};
+    reader_begin(&score.reader, path);
     begin_file(&score.show_file);
     begin_file(&score.lanes_file);
-    advance(&score.reader);
     read_score(&score);
     struct file show = end_file(&score.show_file), lanes = end_file(&score.lanes_file);
     show.length -= score.cut;
     bool written = write_file(path, folder, ".show", show) && write_file(path, folder, ".lanes", lanes);
     free(score.show_file.bytes);
     free(score.lanes_file.bytes);
-    free(text);
+    reader_end(&score.reader);
     return program_end(written ? STATUS_DONE : STATUS_UNUSABLE);
 }
