@@ -20,7 +20,7 @@ static const char help[] =
 /* All lengths are in pixels. */
 enum { PAGE_WIDTH_MIN = 900, MARGIN = SVG_MARGIN, NAMES_WIDTH_MAX = 420, PLOT_WIDTH_MIN = 640 };
 enum { HEADER_HEIGHT = 112, TITLE_HEIGHT = 24, STRIP_HEIGHT = 30, FAULTS_HEIGHT = 26, HEADING_HEIGHT = 22 };
-enum { AXIS_HEIGHT = 58, LIST_LINE_HEIGHT = 16 };
+enum { AXIS_HEIGHT = 58, LIST_LINE_HEIGHT = 16, LEGEND_ROW_HEIGHT = 22 };
 
 /* Before the first frame there is room for the arrow of a crossing that comes in it. */
 enum { ROOM_BEFORE_FRAMES = 14 };
@@ -44,7 +44,8 @@ struct drawing {
     double left, right; /* of the lanes */
     double frames_left; /* where the first frame begins */
     double frame_width, lane_height;
-    bool faults; /* is there a row for refused slices? */
+    bool faults;      /* is there a row for refused slices? */
+    bool empty_lanes; /* is there a lane in which nothing ever comes? */
 };
 
 /* One of the two sides of a panel on the page. */
@@ -57,6 +58,7 @@ struct rows {
 /* From when to when a lane is open: from the crossing that opens it to the one that ends it. */
 struct life {
     size_t open, close; /* frames: 0 before the first, NEVER for a crossing that does not come */
+    bool empty;         /* the lane of an empty part, in which nothing comes */
 };
 
 static const size_t NEVER = SIZE_MAX;
@@ -109,23 +111,37 @@ static void find_lives(const struct side *side, struct life lives[LANES_MAX + 1]
 {
     const struct start_node *start = side->lanes.start;
     for (unsigned lane = 0; lane <= side->lanes.count; lane++) {
-        lives[lane] = (struct life){0, NEVER};
+        lives[lane] = (struct life){0, NEVER, false};
     }
     for (size_t node = 0; node < side->lanes.start_nodes; node++) {
         if (start[node].kind == WOSTHILE_TYPE_SEQUENCE) {
             struct lane_range from = start[node + 1].lanes, to = start[start[node].second].lanes;
             cross_lives(lives, from, to, crossing_frame(side, to.first));
+        } else if (start[node].kind == WOSTHILE_TYPE_EMPTY) {
+            lives[start[node].lanes.first].empty = true;
         }
     }
 }
 
-/* The line of a lane, and the band that says when it is open. */
+static bool has_empty_lanes(const struct lanes *lanes)
+{
+    for (size_t node = 0; node < lanes->start_nodes; node++) {
+        if (lanes->start[node].kind == WOSTHILE_TYPE_EMPTY) {
+            return true;
+        }
+    }
+    return false;
+}
+
+/* The line of a lane, and the band that says when it is open; an empty one has none, since nothing is awaited in it. */
 static void draw_lane(const struct drawing *drawing, struct life life, double top)
 {
     double bottom = top + drawing->lane_height;
     svg_line(drawing->left, bottom, drawing->right, bottom, LINE_COLOUR, 1);
     double open = middle_of(drawing, life.open), close = middle_of(drawing, life.close);
-    if (close > open) {
+    if (life.empty) {
+        svg_dashes(open, top + drawing->lane_height / 2, close, GREY_COLOUR);
+    } else if (close > open) {
         svg_rectangle(open, top + 1, close - open, drawing->lane_height - 2, LANE_COLOUR, 1);
     }
 }
@@ -500,6 +516,8 @@ static void draw_panel(const struct drawing *drawing, const struct panel *panel,
 /* The signs of the legend, each drawn from x to the right around a middle line. */
 static void sign_open(double x, double y) { svg_rectangle(x, y - 7, 26, 15, LANE_COLOUR, 1); }
 
+static void sign_empty(double x, double y) { svg_dashes(x, y, x + 26, GREY_COLOUR); }
+
 static void sign_cue(double x, double y)
 {
     svg_line(x + 6, y, x + 26, y, CUE_COLOUR, 1.5);
@@ -529,8 +547,8 @@ static void sign_late_crossing(double x, double y)
     svg_badge(x + 8, y, "+2");
 }
 
-/* The marks and what they mean, in two rows. */
-static void draw_legend(double y)
+/* The marks and what they mean, in two rows, and a third one if there are empty lanes. */
+static void draw_legend(double y, bool empty_lanes)
 {
     static const struct svg_sign lanes[] = {{sign_open, 26, "lane is open"},
                                             {sign_cue, 26, "cue comes, and stays"},
@@ -540,18 +558,27 @@ static void draw_legend(double y)
                                              {sign_joined, 8, "brought by slices that came as one"},
                                              {sign_late, 12, "frames later than recorded"},
                                              {sign_late_crossing, 16, "the same, of a crossing"}};
+    static const struct svg_sign empty = {sign_empty, 26, "an empty part: nothing comes"};
     svg_legend(MARGIN, y, lanes, sizeof lanes / sizeof lanes[0]);
-    svg_legend(MARGIN, y + 22, frames, sizeof frames / sizeof frames[0]);
+    svg_legend(MARGIN, y + LEGEND_ROW_HEIGHT, frames, sizeof frames / sizeof frames[0]);
+    svg_legend(MARGIN, y + 2 * LEGEND_ROW_HEIGHT, &empty, empty_lanes ? 1 : 0);
 }
 
-static void draw_header(const char *path, struct window window, double width, double height)
+static double header_height(const struct drawing *drawing)
 {
+    return HEADER_HEIGHT + (drawing->empty_lanes ? LEGEND_ROW_HEIGHT : 0);
+}
+
+static void draw_header(const char *path, const struct drawing *drawing, double height)
+{
+    double width = drawing->right + MARGIN;
     svg_begin(width, height, path, "");
-    svg_text(width - MARGIN, 30, TEXT_ENDS, TEXT_SMALL, "frame %zu to frame %zu, %d frames a second", window.first,
-             window.last, FRAMES_A_SECOND);
+    svg_text(width - MARGIN, 30, TEXT_ENDS, TEXT_SMALL, "frame %zu to frame %zu, %d frames a second",
+             drawing->window.first, drawing->window.last, FRAMES_A_SECOND);
     svg_text(MARGIN, 50, TEXT_STARTS, TEXT_PLAIN,
-             "Frames run to the right. Each lane is for one cue or one level; it comes once, while the lane is open.");
-    draw_legend(70);
+             "Frames run to the right. Each lane %sis for one cue or one level; it comes once, while the lane is open.",
+             drawing->empty_lanes ? "that is no empty part " : "");
+    draw_legend(70, drawing->empty_lanes);
 }
 
 /* What is wrong with the recording, in lines that fit on the page. */
@@ -633,17 +660,18 @@ static struct drawing lay_out(const struct opened_show *opened, const struct pan
         .frame_width = (right - left - ROOM_BEFORE_FRAMES) / (double)(window.last - window.first + 1),
         .lane_height = opened->in.count + opened->out.count <= 64 ? 17 : 14,
         .faults = recorded->refused > 0 || recorded->broken_off > 0,
+        .empty_lanes = has_empty_lanes(&opened->in) || has_empty_lanes(&opened->out),
     };
 }
 
 static void draw(const char *path, const struct drawing *drawing, struct panel *const *panels, size_t count)
 {
     struct fault_list list;
-    double panel = panel_height(drawing), list_top = HEADER_HEIGHT + panel * (double)count;
+    double header = header_height(drawing), panel = panel_height(drawing), list_top = header + panel * (double)count;
     list_faults(&list, drawing->opened, drawing->recorded, drawing->right - MARGIN);
-    draw_header(path, drawing->window, drawing->right + MARGIN, list_top + list_height(&list));
+    draw_header(path, drawing, list_top + list_height(&list));
     for (size_t index = 0; index < count; index++) {
-        draw_panel(drawing, panels[index], HEADER_HEIGHT + panel * (double)index);
+        draw_panel(drawing, panels[index], header + panel * (double)index);
     }
     if (list.count > 0) {
         draw_list(&list, list_top);

@@ -97,6 +97,11 @@ void svg_line(double x1, double y1, double x2, double y2, const char *colour, do
     printf("<path d=\"M%.1f %.1fL%.1f %.1f\" stroke=\"%s\" stroke-width=\"%.1f\"/>\n", x1, y1, x2, y2, colour, width);
 }
 
+void svg_dashes(double x1, double y, double x2, const char *colour)
+{
+    printf("<path d=\"M%.1f %.1fH%.1f\" stroke=\"%s\" stroke-dasharray=\"3 4\"/>\n", x1, y, x2, colour);
+}
+
 void svg_diamond(double x, double y)
 {
     printf("<path d=\"M%.1f %.1fl5.5 5.5l-5.5 5.5l-5.5 -5.5z\" fill=\"" CUE_COLOUR "\" stroke=\"#fff\"/>\n", x,

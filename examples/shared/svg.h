@@ -49,6 +49,9 @@ void svg_box(double x, double y, double width, double height, const char *fill, 
 
 void svg_line(double x1, double y1, double x2, double y2, const char *colour, double width);
 
+/* A thin dashed line to the right. */
+void svg_dashes(double x1, double y, double x2, const char *colour);
+
 /* The mark of a cue, a diamond around a point; its white edge sets it off from what is below it. */
 void svg_diamond(double x, double y);
 

@@ -219,6 +219,25 @@ def low_levels_are_seen():
     assert len(pale) == 6 and len(seen) == 4 and min(seen) >= 2 and max(seen) < pale[0] / 2, bars
 
 
+def empty_lanes_have_no_band():
+    """
+    A sequence of a cue and an empty part, beside an empty part: in their place is a dashed line from where each opens.
+    A band that is as wide as a sign of the legend is the legend's.
+    """
+    show = write_show("empty_parts", [BESIDE, SEQUENCE, CUE, EMPTY, EMPTY], [0], [[7, 5, 1, 0]] * 9 + [[7, 6, 2, 0, 0]])
+    picture, words = draw("timeline", show), "an empty part: nothing comes"
+    bands = [band for band in picture.iter(SVG + "rect") if band.get("fill") == "#e9eff6" and band.get("width") != "26.0"]
+    dashes = [path.get("d") for path in picture.iter(SVG + "path") if path.get("stroke-dasharray")]
+    ends = [tuple(map(float, re.fullmatch(r"M([\d.]+) [\d.]+H([\d.]+)", dash).groups())) for dash in dashes][1:]
+    crossed, left = (float(bands[0].get("x")) + float(bands[0].get("width")), float(bands[0].get("x")))
+    right = float(picture.get("width")) - 16
+    assert len(bands) == 2 and ends == [(crossed, right), (left, right)] * 2, (len(bands), ends)
+    assert words_of(picture, "small").count(words) == 1 and "that is no empty part" in words_of(picture, "plain")[0]
+    no_overlap(picture)
+    other = draw("timeline", "examples/shows/comet_to_saturn.show")
+    assert words not in words_of(other, "small") and "empty" not in words_of(other, "plain")[0]
+
+
 def lateness_is_told():
     """Seed 19 brings the comet's last cue, of frame 120, with the crossing and the rings in frame 122."""
     show, legend = "examples/shows/comet_to_saturn.show", ["+2"]
@@ -428,7 +447,7 @@ def main():
     failed = 0
     for test in [every_show_is_drawn, seconds_are_beside_frames, damage_is_marked, broken_length_is_marked,
                  many_refusals_are_marked, pictures_of_long_shows_are_small, frames_asked_for_are_drawn,
-                 low_levels_are_seen, lateness_is_told, late_crossings_are_told_from_lanes, arrows_are_seen_beside_cues,
+                 low_levels_are_seen, empty_lanes_have_no_band, lateness_is_told, late_crossings_are_told_from_lanes, arrows_are_seen_beside_cues,
                  long_names_are_whole, nodes_are_boxes, lanes_lead_to_their_names, patch_alone_is_drawn,
                  every_kind_is_drawn, largest_patches_are_drawn, documents_have_what_is_drawn, refused_patch_has_status_1, damaged_files_are_survived,
                  unusable_has_status_2]:
