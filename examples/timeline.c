@@ -12,8 +12,9 @@ static const char help[] =
     "Draws a show file as an SVG picture on standard output, frames to the right. There is a panel for each seed, on\n"
     "the same frames, so that two cuts of a show can be compared by eye; seed 0, or no seed, is the show as recorded.\n"
     "At most 16 seeds. --frames draws a part of the show larger. Refused slices have marks with their numbers; those\n"
-    "that would lie on one another have one mark, with a count. A pointer that rests on a mark shows what is wrong.\n"
-    "The first 12 refused slices are put in words below the panels; so is a show file that ends inside a slice.\n"
+    "that would lie on one another have one mark, with a count. A pointer that rests on such a mark shows what is\n"
+    "wrong; on the mark of a cue or a level it shows in which frame it came, and how late. The first 12 refused\n"
+    "slices are put in words below the panels; so is a show file that ends inside a slice.\n"
     "\n"
     "Exit status: 0 drawn, even if slices are refused; 1 the patch is refused; 2 words or files that cannot be used.\n";
 
@@ -139,7 +140,7 @@ static void draw_lane(const struct drawing *drawing, struct life life, double to
     double bottom = top + drawing->lane_height;
     svg_line(drawing->left, bottom, drawing->right, bottom, LINE_COLOUR, 1);
     double open = middle_of(drawing, life.open), close = middle_of(drawing, life.close);
-    if (life.empty) {
+    if (close > open && life.empty) {
         svg_dashes(open, top + drawing->lane_height / 2, close, GREY_COLOUR);
     } else if (close > open) {
         svg_rectangle(open, top + 1, close - open, drawing->lane_height - 2, LANE_COLOUR, 1);
@@ -191,28 +192,85 @@ static size_t lateness(const struct rows *rows, const struct mark *mark)
     return recorded == NULL || recorded->frame > mark->frame ? 0 : mark->frame - recorded->frame;
 }
 
+/* The room for words beside a mark: those behind it start at one place, those before it end at the other. */
+struct room {
+    double open, close; /* where its lane opens and ends on the page */
+    double behind, before;
+};
+
+/* Where words before a mark end: in the lane if it is long enough there, else before the arrow with which it opens. */
+static double end_before(const struct room *room, double width)
+{
+    double outside = room->open - 14;
+    return room->before - width >= room->open + 3 || room->before < outside ? room->before : outside;
+}
+
+/* The value of a level: behind its mark, or before it at the right edge of the lanes. */
+static void draw_value(const struct drawing *drawing, struct room *room, double baseline, unsigned level)
+{
+    char value[8];
+    snprintf(value, sizeof value, "%u", level);
+    double width = svg_text_width(TEXT_VALUE, value);
+    if (room->behind + width <= drawing->right) {
+        svg_text(room->behind, baseline, TEXT_STARTS, TEXT_VALUE, "%s", value);
+        room->behind += width + 4;
+    } else {
+        double end = end_before(room, width);
+        svg_text(end, baseline, TEXT_ENDS, TEXT_VALUE, "%s", value);
+        room->before = end - width - 4;
+    }
+}
+
+/*
+ * How late a cue or a level is. Behind the end of its lane it would be taken for the lateness of the crossing there, so
+ * it is before the mark if the lane is too short; if there is no room there either, the pointer alone shows it.
+ */
+static void draw_lateness(const struct drawing *drawing, const struct room *room, double baseline, size_t late)
+{
+    char words[24];
+    snprintf(words, sizeof words, "+%zu", late);
+    double width = svg_text_width(TEXT_LATE, words), end = end_before(room, width);
+    if (room->behind + width <= room->close - 3) {
+        svg_text(room->behind, baseline, TEXT_STARTS, TEXT_LATE, "%s", words);
+    } else if (end - width >= drawing->left) {
+        svg_text(end, baseline, TEXT_ENDS, TEXT_LATE, "%s", words);
+    }
+}
+
+/* What a pointer shows on the mark of a cue or a level. */
+static void mark_words(char words[WORDS_BYTES], const struct rows *rows, const struct mark *mark, size_t late)
+{
+    char value[24] = "cue", later[64] = "";
+    if (mark->event.kind == EVENT_LEVEL) {
+        snprintf(value, sizeof value, "level %u", mark->event.value);
+    }
+    if (late > 0) {
+        snprintf(later, sizeof later, ", %zu frame%s later than recorded", late, late == 1 ? "" : "s");
+    }
+    snprintf(words, WORDS_BYTES, "%s: %s in frame %zu%s", rows->names->of[mark->event.lane], value, mark->frame, later);
+}
+
 /* The moment at which something comes in a lane, with the value of a level and how late it is. */
-static void draw_mark(const struct drawing *drawing, const struct rows *rows, const struct mark *mark)
+static void draw_mark(const struct drawing *drawing, const struct rows *rows, const struct mark *mark, struct life life)
 {
     double x = middle_of(drawing, mark->frame), top = top_of(drawing, rows, mark->event.lane);
     double baseline = top + drawing->lane_height * 0.72;
-    bool level = mark->event.kind == EVENT_LEVEL, at_the_end = x > drawing->right - 60;
-    enum text_anchor anchor = at_the_end ? TEXT_ENDS : TEXT_STARTS;
-    double direction = at_the_end ? -1 : 1, next = x + direction * 7;
-    if (level) {
-        char value[8];
-        snprintf(value, sizeof value, "%u", mark->event.value);
+    struct room room = {middle_of(drawing, life.open), middle_of(drawing, life.close), x + 7, x - 7};
+    size_t late = lateness(rows, mark);
+    char words[WORDS_BYTES];
+    mark_words(words, rows, mark, late);
+    svg_group_begin("moment", words);
+    if (mark->event.kind == EVENT_LEVEL) {
         svg_line(x, top + 1.5, x, top + drawing->lane_height - 1.5, LEVEL_EDGE_COLOUR, 2.5);
-        svg_text(next, baseline, anchor, TEXT_VALUE, "%s", value);
-        next += direction * (svg_text_width(TEXT_VALUE, value) + 4);
+        draw_value(drawing, &room, baseline, mark->event.value);
     } else {
         svg_diamond(x, top + drawing->lane_height / 2);
         baseline = top + drawing->lane_height / 2 - 1.5; /* not on the line behind the cue */
     }
-    size_t late = lateness(rows, mark);
     if (late > 0) {
-        svg_text(next, baseline, anchor, TEXT_LATE, "+%zu", late);
+        draw_lateness(drawing, &room, baseline, late);
     }
+    svg_group_end();
 }
 
 /* The value of a level that came before the part of the show that is drawn, and is still there. */
@@ -267,7 +325,7 @@ static void draw_marks(const struct drawing *drawing, const struct rows *rows)
         } else if (layer == CROSSINGS && crossing && visible(drawing, mark->frame)) {
             draw_crossing(drawing, rows, mark, lives);
         } else if (layer == MOMENTS && !crossing && visible(drawing, mark->frame)) {
-            draw_mark(drawing, rows, mark);
+            draw_mark(drawing, rows, mark, lives[mark->event.lane]);
         } else if (layer == MOMENTS && mark->event.kind == EVENT_LEVEL) {
             draw_earlier_level(drawing, rows, mark, lives[mark->event.lane]);
         }

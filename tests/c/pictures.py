@@ -226,11 +226,11 @@ def empty_lanes_have_no_band():
     """
     show = write_show("empty_parts", [BESIDE, SEQUENCE, CUE, EMPTY, EMPTY], [0], [[7, 5, 1, 0]] * 9 + [[7, 6, 2, 0, 0]])
     picture, words = draw("timeline", show), "an empty part: nothing comes"
-    bands = [band for band in picture.iter(SVG + "rect") if band.get("fill") == "#e9eff6" and band.get("width") != "26.0"]
+    bands = [(float(band.get("x")), float(band.get("width"))) for band in picture.iter(SVG + "rect")
+             if band.get("fill") == "#e9eff6" and band.get("width") != "26.0"]
     dashes = [path.get("d") for path in picture.iter(SVG + "path") if path.get("stroke-dasharray")]
     ends = [tuple(map(float, re.fullmatch(r"M([\d.]+) [\d.]+H([\d.]+)", dash).groups())) for dash in dashes][1:]
-    crossed, left = (float(bands[0].get("x")) + float(bands[0].get("width")), float(bands[0].get("x")))
-    right = float(picture.get("width")) - 16
+    left, crossed, right = bands[0][0], sum(bands[0]), float(picture.get("width")) - 16
     assert len(bands) == 2 and ends == [(crossed, right), (left, right)] * 2, (len(bands), ends)
     assert words_of(picture, "small").count(words) == 1 and "that is no empty part" in words_of(picture, "plain")[0]
     no_overlap(picture)
@@ -252,6 +252,37 @@ def lines(picture, colour):
     paths = [path.get("d") for path in picture.iter(SVG + "path") if path.get("stroke") == colour]
     found = [re.fullmatch(r"M([\d.]+) ([\d.]+)L([\d.]+) ([\d.]+)", path) for path in paths]
     return [tuple(map(float, line.groups())) for line in found if line]
+
+
+def write_fade(first, step):
+    """A show with twelve levels from a frame on, so many frames apart; each comes with the crossing to it."""
+    values = [[4, *divmod(5000 * level, 256)] for level in range(1, 13)]
+    slices = [[5, 3]] * (first - 1) + [[5, *values[0]]]
+    for place, value in enumerate(values[1:], 2):
+        slices += [[5, 0]] * (step - 1) + [[6, 0, 5, *value] if place < 12 else [6, 0, *value]]
+    return write_show("fade", [SEQUENCE, LEVEL] * 11 + [LEVEL], [0], slices + [[0]] * (300 - len(slices)))
+
+
+def lateness_is_in_its_lane():
+    """It is not written behind the end of its lane, however short; at the left edge the pointer alone tells it."""
+    told = re.compile(r".+: level (\d+) in frame (\d+)(?:, (\d+) frames? later than recorded)?")
+    for first, step in (21, 20), (21, 4), (1, 1):
+        picture = draw("timeline", write_fade(first, step), 7)
+        moments = groups(picture, "moment")
+        marks = [lines(moment, "#8a5a00")[0][0] for moment in moments]
+        before = missing = 0
+        for place, (moment, words) in enumerate(zip(moments, titles(picture, "moment"))):
+            level, frame, late = (int(number or 0) for number in told.fullmatch(words).groups())
+            assert level == place % 12 * 5000 + 5000 and frame - late == first + place % 12 * step, words
+            missing += late > 0 and not texts(moment, "late")
+            for text in texts(moment, "late"):
+                left, right, _, _ = box(text)
+                ends = marks[place + 1] if level < 60000 else float(picture.get("width"))
+                arrow = 11 if place % 12 > 0 else 0
+                assert right < marks[place] - arrow or marks[place] < left < right < ends - 2, words
+                assert text.text == f"+{late}", words
+                before += right < marks[place]
+        assert before > 0 and (missing > 0) == (first == 1), (first, step, before, missing)
 
 
 def late_crossings_are_told_from_lanes():
@@ -447,9 +478,10 @@ def main():
     failed = 0
     for test in [every_show_is_drawn, seconds_are_beside_frames, damage_is_marked, broken_length_is_marked,
                  many_refusals_are_marked, pictures_of_long_shows_are_small, frames_asked_for_are_drawn,
-                 low_levels_are_seen, empty_lanes_have_no_band, lateness_is_told, late_crossings_are_told_from_lanes, arrows_are_seen_beside_cues,
-                 long_names_are_whole, nodes_are_boxes, lanes_lead_to_their_names, patch_alone_is_drawn,
-                 every_kind_is_drawn, largest_patches_are_drawn, documents_have_what_is_drawn, refused_patch_has_status_1, damaged_files_are_survived,
+                 low_levels_are_seen, empty_lanes_have_no_band, lateness_is_told, lateness_is_in_its_lane,
+                 late_crossings_are_told_from_lanes, arrows_are_seen_beside_cues, long_names_are_whole, nodes_are_boxes,
+                 lanes_lead_to_their_names, patch_alone_is_drawn, every_kind_is_drawn, largest_patches_are_drawn,
+                 documents_have_what_is_drawn, refused_patch_has_status_1, damaged_files_are_survived,
                  unusable_has_status_2]:
         try:
             test()
