@@ -32,10 +32,12 @@ enum { WORDS_BYTES = MESSAGE_BYTES + 64, COLUMN_WORDS_BYTES = WORDS_BYTES + 128,
 #define LANE_COLOUR "#e9eff6"
 #define JOINED_COLOUR "#ffd23f"
 
-/* The part of the show that is drawn. */
+/* The part of the show that is drawn. Of a show without frames it has none: from 1 to 0. */
 struct window {
     size_t first, last;
 };
+
+static size_t frames_in(struct window window) { return window.last + 1 - window.first; }
 
 /* What all panels share. */
 struct drawing {
@@ -335,7 +337,7 @@ static void draw_marks(const struct drawing *drawing, const struct rows *rows)
 /* The most slices that came as one in the frames of a column of the strip. */
 static unsigned most_slices(const struct drawing *drawing, const struct panel *panel, size_t column, size_t columns)
 {
-    size_t frames = drawing->window.last - drawing->window.first + 1;
+    size_t frames = frames_in(drawing->window);
     size_t from = drawing->window.first + column * frames / columns;
     size_t behind = drawing->window.first + (column + 1) * frames / columns;
     unsigned most = 0;
@@ -349,10 +351,13 @@ static unsigned most_slices(const struct drawing *drawing, const struct panel *p
 static void draw_strip(const struct drawing *drawing, const struct panel *panel, double bottom)
 {
     double room = drawing->right - drawing->frames_left;
-    size_t frames = drawing->window.last - drawing->window.first + 1;
+    size_t frames = frames_in(drawing->window);
     size_t columns = frames < (size_t)room ? frames : (size_t)room;
-    double width = room / (double)columns;
     svg_text(drawing->left - 8, bottom - 2, TEXT_ENDS, TEXT_SMALL, "slices in a frame");
+    if (columns == 0) {
+        return;
+    }
+    double width = room / (double)columns;
     svg_bars_begin(GREY_COLOUR, width * 0.8);
     for (size_t column = 0; column < columns; column++) {
         unsigned slices = most_slices(drawing, panel, column, columns);
@@ -508,7 +513,7 @@ static size_t axis_step(size_t frames)
 
 static void draw_axis(const struct drawing *drawing, double top, double bottom)
 {
-    size_t first = drawing->window.first, last = drawing->window.last, step = axis_step(last - first + 1);
+    size_t first = drawing->window.first, last = drawing->window.last, step = axis_step(frames_in(drawing->window));
     int decimals = step % FRAMES_A_SECOND == 0 ? 0 : step % 6 == 0 ? 1 : 2;
     svg_text(drawing->left - 8, bottom + 14, TEXT_ENDS, TEXT_SMALL, "frame");
     svg_text(drawing->left - 8, bottom + 28, TEXT_ENDS, TEXT_SMALL, "seconds");
@@ -523,12 +528,16 @@ static void draw_axis(const struct drawing *drawing, double top, double bottom)
 /* A title in words: how the show was cut, and what came of it. */
 static void draw_panel_title(const struct panel *panel, struct window window, double y)
 {
-    char cut[128] = "As recorded: no slice is late", refused[64] = "";
+    char cut[128], refused[64] = "";
     size_t frames[4] = {0};
     for (size_t frame = window.first; frame <= window.last && frame <= panel->frames; frame++) {
         frames[panel->slices[frame] & 3]++;
     }
-    if (panel->seed != 0) {
+    if (panel->frames == 0) {
+        snprintf(cut, sizeof cut, "The show has no frames: nothing comes in");
+    } else if (panel->seed == 0) {
+        snprintf(cut, sizeof cut, "As recorded: no slice is late");
+    } else {
         snprintf(cut, sizeof cut, "Cut by seed %llu: in %zu frame%s two slices come as one, in %zu frame%s three",
                  (unsigned long long)panel->seed, frames[2], frames[2] == 1 ? "" : "s", frames[3],
                  frames[3] == 1 ? "" : "s");
@@ -630,9 +639,13 @@ static double header_height(const struct drawing *drawing)
 static void draw_header(const char *path, const struct drawing *drawing, double height)
 {
     double width = drawing->right + MARGIN;
+    char frames[96] = "no frames";
+    if (frames_in(drawing->window) > 0) {
+        snprintf(frames, sizeof frames, "frame %zu to frame %zu, %d frames a second", drawing->window.first,
+                 drawing->window.last, FRAMES_A_SECOND);
+    }
     svg_begin(width, height, path, "");
-    svg_text(width - MARGIN, 30, TEXT_ENDS, TEXT_SMALL, "frame %zu to frame %zu, %d frames a second",
-             drawing->window.first, drawing->window.last, FRAMES_A_SECOND);
+    svg_text(width - MARGIN, 30, TEXT_ENDS, TEXT_SMALL, "%s", frames);
     svg_text(MARGIN, 50, TEXT_STARTS, TEXT_PLAIN,
              "Frames run to the right. Each lane %sis for one cue or one level; it comes once, while the lane is open.",
              drawing->empty_lanes ? "that is no empty part " : "");
@@ -708,6 +721,7 @@ static struct drawing lay_out(const struct opened_show *opened, const struct pan
     double out = names_width(&opened->out, &opened->names.out);
     double left = MARGIN + (in > out ? in : out), right = left + PLOT_WIDTH_MIN;
     right = right < PAGE_WIDTH_MIN - MARGIN ? PAGE_WIDTH_MIN - MARGIN : right;
+    size_t frames = frames_in(window);
     return (struct drawing){
         .opened = opened,
         .recorded = recorded,
@@ -715,7 +729,7 @@ static struct drawing lay_out(const struct opened_show *opened, const struct pan
         .left = left,
         .right = right,
         .frames_left = left + ROOM_BEFORE_FRAMES,
-        .frame_width = (right - left - ROOM_BEFORE_FRAMES) / (double)(window.last - window.first + 1),
+        .frame_width = frames == 0 ? 0 : (right - left - ROOM_BEFORE_FRAMES) / (double)frames,
         .lane_height = opened->in.count + opened->out.count <= 64 ? 17 : 14,
         .faults = recorded->refused > 0 || recorded->broken_off > 0,
         .empty_lanes = has_empty_lanes(&opened->in) || has_empty_lanes(&opened->out),
@@ -794,13 +808,13 @@ static size_t last_frame(struct panel *const *panels, size_t count)
     return last;
 }
 
-/* The frames to draw: those asked for, as far as there are any up to the last, else all. A show without any has one. */
+/* The frames to draw: those asked for, as far as there are any up to the last, else all. */
 static struct window choose_window(const struct words *words, size_t recorded, size_t last)
 {
     struct window asked = words->window;
     char late[64] = "";
     if (asked.last == 0) {
-        return (struct window){1, last > 0 ? last : 1};
+        return (struct window){1, last};
     }
     if (last > recorded) {
         snprintf(late, sizeof late, ", and late slices up to frame %zu", last);

@@ -206,6 +206,18 @@ def frames_asked_for_are_drawn():
         assert drawn == b"" and told in messages, messages
 
 
+def show_without_slices_has_no_frames():
+    """Neither the page nor a panel speaks of frames or of late slices, and the axis has no numbers."""
+    show = write_show("no_slices", [CUE], [0])
+    picture = draw("timeline", show, 0, 7)
+    assert panels(picture) == ["The show has no frames: nothing comes in"] * 2
+    small = words_of(picture, "small")
+    assert small[0] == "no frames" and not any(re.search(r"\d", words) for words in small), small
+    no_overlap(picture)
+    assert "the show has 0 frames: there is no frame 1" in run("timeline", show, "--frames", 1, 1, status=2)[1]
+    assert panels(draw("timeline", write_show("no_slices", [CUE], [0], [[1]]))) == ["As recorded: no slice is late"]
+
+
 def low_levels_are_seen():
     """Of four levels 0, 1 and 500 come: three pale bars a side, and in those of 1 and 500 a bar that can be seen."""
     types = [BESIDE, LEVEL, BESIDE, LEVEL, BESIDE, LEVEL, LEVEL]
@@ -478,7 +490,8 @@ def main():
     failed = 0
     for test in [every_show_is_drawn, seconds_are_beside_frames, damage_is_marked, broken_length_is_marked,
                  many_refusals_are_marked, pictures_of_long_shows_are_small, frames_asked_for_are_drawn,
-                 low_levels_are_seen, empty_lanes_have_no_band, lateness_is_told, lateness_is_in_its_lane,
+                 show_without_slices_has_no_frames, low_levels_are_seen, empty_lanes_have_no_band, lateness_is_told,
+                 lateness_is_in_its_lane,
                  late_crossings_are_told_from_lanes, arrows_are_seen_beside_cues, long_names_are_whole, nodes_are_boxes,
                  lanes_lead_to_their_names, patch_alone_is_drawn, every_kind_is_drawn, largest_patches_are_drawn,
                  documents_have_what_is_drawn, refused_patch_has_status_1, damaged_files_are_survived,
