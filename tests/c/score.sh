@@ -237,6 +237,20 @@ makes_help() {
         "$folder/explain" "$folder/made.show" && grep -qx 'out 3 Saturn' "$folder/made.lanes"
 }
 
+# Each node that a patch may have is in the help's list; the nodes are those that the message about another word lists.
+lists_each_node() {
+    local node nodes
+    "$folder/make_show" --help | sed -n '/^The nodes/,/^Status/p' >"$folder/listed"
+    makes 2 <<<'type cue patch middle' || return 1
+    nodes=$(sed 's/.*where//' "$folder/messages" | grep -o '"[a-z ]*"' | tr -d '"')
+    [ "$(wc -l <<<"$nodes")" -eq 15 ] || return 1
+    while read -r node; do
+        grep -qE "^  ([a-z]+, )?$node(,| )" "$folder/listed" && continue
+        echo "the help does not list $node"
+        return 1
+    done <<<"$nodes"
+}
+
 # Ends of lines, and a mark in front of the text, as editors on other systems write them.
 reads_other_editors() {
     local score=examples/shows/damaged.score
@@ -330,6 +344,7 @@ holds "each kind by its words" reads_each_kind
 holds "lines of one frame" joins_lines
 holds "the show of the page on formats" makes_page
 holds "the score of the help" makes_help
+holds "the nodes in the help" lists_each_node
 holds "scores of other editors" reads_other_editors
 holds "types, patches and names that cannot be read" tells_wrong_trees
 holds "patches that are refused" tells_refused_patches
