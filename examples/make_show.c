@@ -138,6 +138,7 @@ struct score {
     struct patch patch;
     struct lanes in, out; /* the first one moves on with the show; of the second only the start is used */
     unsigned lanes;       /* of the type, as far as it is read */
+    bool name_may_follow; /* behind the part of a type that was read last */
     struct lane_names names;
     size_t frames, frame; /* how many there are, and the one that is being made */
     struct joined coming; /* what comes in it so far */
@@ -192,6 +193,7 @@ static void read_lane(struct score *score)
     char name[LANE_NAME_BYTES];
     unsigned lane = ++score->lanes;
     bool named = score->reader.next.kind == TOKEN_NAME;
+    score->name_may_follow = !named;
     snprintf(name, sizeof name, "in %u", lane);
     if (named) {
         take_name(&score->reader, name);
@@ -200,6 +202,14 @@ static void read_lane(struct score *score)
     if (lane <= LANES_MAX) {
         memcpy(score->names.in.of[lane], name, sizeof name);
     }
+}
+
+/* Tells what is due behind a part of a type: a word between two parts, the word that ends the type, or a name. */
+static noreturn void stop_behind_part(const struct score *score, const char *end)
+{
+    char others[64];
+    snprintf(others, sizeof others, score->name_may_follow ? ", %s or a name in quotation marks" : " or %s", end);
+    stop_for_kind(&score->reader, between_words, others);
 }
 
 static void read_type(struct score *score, struct tree *tree, unsigned depth);
@@ -213,13 +223,15 @@ static void read_type_part(struct score *score, struct tree *tree, unsigned dept
     if (take_token(&score->reader, TOKEN_OPEN)) {
         read_type(score, tree, depth + 1);
         if (!take_token(&score->reader, TOKEN_CLOSE)) {
-            stop_for_kind(&score->reader, between_words, " or \")\"");
+            stop_behind_part(score, "\")\"");
         }
+        score->name_may_follow = false;
         return;
     }
     if (!take_kind(&score->reader, type_words, &kind)) {
         stop_for_kind(&score->reader, type_words, " or \"(\"");
     }
+    score->name_may_follow = false;
     add_value(&score->reader, tree, kind, 1, line);
     for (unsigned part = 0; part < type_kind(kind)->parts; part++) {
         read_type_part(score, tree, depth + 1);
@@ -699,7 +711,7 @@ static void read_score(struct score *score)
     }
     read_type(score, &score->type, 0);
     if (!take_words(reader, "patch")) {
-        stop_for_kind(reader, between_words, " or \"patch\"");
+        stop_behind_part(score, "\"patch\"");
     }
     read_node(score, 0);
     record_patch(score);

@@ -115,8 +115,12 @@ tells_early_and_late() {
 tells_wrong_trees() {
     wrong 2 1 'the score ends where "type" is due' </dev/null &&
         wrong 2 2 '"tipe" where "type" is due' <<<$'# a comment\ntipe cue' &&
-        wrong 2 2 '"with" where "then", "beside" or "patch" is due' <<<$'type cue\nwith cue' &&
-        wrong 2 2 '"with" where "then", "beside" or ")" is due' <<<$'type (cue\nwith cue)' &&
+        wrong 2 2 '"with" where "then", "beside" or "patch" is due' <<<$'type cue "a"\nwith cue' &&
+        wrong 2 2 '"with" where "then", "beside" or ")" is due' <<<$'type (cue "a"\nwith cue)' &&
+        wrong 2 1 '"comet" where "then", "beside", "patch" or a name in quotation marks is due' <<<'type cue comet then cue' &&
+        wrong 2 1 "\"'comet'\" where \"then\", \"beside\", \")\" or a name in quotation marks is due" <<<"type (cue 'comet')" &&
+        wrong 2 1 'the name "b" where "then", "beside" or "patch" is due' <<<'type cue "a" "b"' &&
+        wrong 2 1 '"a" where "then", "beside" or ")" is due' <<<'type cue patch silent (empty a)' &&
         wrong 2 1 '")" where "then", "beside" or "patch" is due' <<<'type (cue then cue))' &&
         wrong 2 1 '"lamp" where "empty", "cue", "level" or "(" is due' <<<'type cue then lamp' &&
         wrong 2 1 '"not" where "empty", "cue", "level" or "(" is due' <<<'type not listed' &&
