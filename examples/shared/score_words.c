@@ -180,6 +180,9 @@ void take_name(struct reader *reader, char name[LANE_NAME_BYTES])
     if (strcmp(name, text) != 0) {
         stop_at(reader, reader->next.line, "the name \"%s\" has a character that cannot be printed, here a ?", name);
     }
+    if (name[0] == ' ' || name[strlen(name) - 1] == ' ') {
+        stop_at(reader, reader->next.line, "the name \"%s\" begins or ends with a blank", name);
+    }
     advance(reader);
 }
 

@@ -71,7 +71,7 @@ size_t take_number(struct reader *reader, const char *what, size_t least, size_t
 /* Takes the value of a kind that has so many bytes for it. */
 size_t take_value(struct reader *reader, unsigned value_bytes);
 
-/* Takes a name, which has to come next. */
+/* Takes a name, which has to come next, and be one that a file of names gives back as it is written there. */
 void take_name(struct reader *reader, char name[LANE_NAME_BYTES]);
 
 #endif

@@ -129,6 +129,9 @@ tells_wrong_trees() {
         wrong 2 1 'a name has 1 to 63 bytes, and this one has 0' <<<'type cue ""' &&
         wrong 2 1 'a name has 1 to 63 bytes, and this one has 64' <<<"type cue \"$(printf '%064d' 7)\"" &&
         wrong 2 1 'the name "a?b" has a character that cannot be printed, here a ?' <<<$'type cue "a\tb"' &&
+        wrong 2 1 'the name " " begins or ends with a blank' <<<'type cue " "' &&
+        wrong 2 1 'the name " a" begins or ends with a blank' <<<'type cue " a" beside cue "a"' &&
+        wrong 2 2 'the name "a " begins or ends with a blank' <<<$'type cue patch pass\nout 1 "a "' &&
         wrong 2 2 'the name "a" where "then", "beside" or "patch" is due' <<<$'type (cue then cue)\n"a"' &&
         wrong 2 2 '"middle" where "pass", "silent", "cue", "level", "both", "left", "right", "first", "second", "then", "chain", "regroup right", "regroup left", "spread", "front" or "(" is due' \
             <<<$'type cue\npatch middle' &&
