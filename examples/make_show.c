@@ -372,7 +372,7 @@ static void read_out(struct score *score)
     size_t line = reader->next.line;
     begin_line(reader);
     take_words(reader, "out");
-    size_t lane = take_number(reader, "a lane", 1, score->out.count);
+    size_t lane = take_number(reader, "lane", 1, score->out.count);
     char *name = score->names.out.of[lane];
     if (name[0] != '\0') {
         stop_at(reader, line, "lane %zu of the output has a name already, \"%s\"", lane, name);
@@ -559,9 +559,11 @@ static unsigned take_lane(struct score *score)
 {
     char name[LANE_NAME_BYTES];
     size_t line = score->reader.next.line;
+    if (is_number(&score->reader.next)) {
+        return (unsigned)take_number(&score->reader, "lane", 1, score->in.count);
+    }
     if (score->reader.next.kind != TOKEN_NAME) {
-        return (unsigned)take_number(&score->reader, "the name of a lane in quotation marks or a number", 1,
-                                     score->in.count);
+        stop_for_due(&score->reader, "the name of a lane in quotation marks or its number");
     }
     take_name(&score->reader, name);
     return lane_of_name(score, name, line);
@@ -637,9 +639,9 @@ static void read_bytes(struct score *score, size_t line)
         stop_at(&score->reader, line, "frame %zu has other lines, and bytes are all of a frame", score->frame);
     }
     begin_file(&made);
-    while (score->reader.next.kind == TOKEN_WORD) {
-        fputc((int)take_number(&score->reader, "a byte", 0, UINT8_MAX), made.stream);
-    }
+    do {
+        fputc((int)take_number(&score->reader, "byte", 0, UINT8_MAX), made.stream);
+    } while (score->reader.next.kind == TOKEN_WORD);
     struct file slice = end_file(&made);
     if (slice.length > SLICE_BYTES_MAX) {
         stop_at(&score->reader, line, "a slice has at most %d bytes", SLICE_BYTES_MAX);
@@ -660,7 +662,7 @@ static void read_frame_line(struct score *score)
         stop_at(reader, event.line, "frame %zu, the last one, has its bytes, which are all of a frame", score->frames);
     }
     begin_line(reader);
-    end_frames_before(score, take_number(reader, "a frame", score->frame, score->frames));
+    end_frames_before(score, take_number(reader, "frame", score->frame, score->frames));
     if (take_words(reader, "bytes")) {
         read_bytes(score, event.line);
         return;
@@ -684,7 +686,7 @@ static void read_frames(struct score *score)
     if (!take_words(reader, "frames")) {
         stop_for_due(reader, "\"out\" or \"frames\"");
     }
-    score->frames = take_number(reader, "a number of frames", 1, FRAMES_MAX);
+    score->frames = take_number(reader, "number of frames", 1, FRAMES_MAX);
     score->frame = 1;
     end_line(reader);
     while (is_number(&reader->next)) {
@@ -698,7 +700,7 @@ static void read_cut(struct score *score)
     struct reader *reader = &score->reader;
     begin_line(reader);
     take_words(reader, "cut");
-    score->cut = take_number(reader, "a number of bytes of the last slice", 1, score->last_length - 1);
+    score->cut = take_number(reader, "number of bytes of the last slice", 1, score->last_length - 1);
     end_line(reader);
 }
 
@@ -790,12 +792,12 @@ int main(int count, char **words)
 {
     static struct score score;
     program_begin(help, count, words);
-    if (count < 2 || count > 3) {
-        stop_for_words(NULL);
+    if (count < 2 || count > 3 || words[1][0] == '-') {
+        stop_for_words(count > 3 ? words[3] : words[1]); /* NULL if there is none */
     }
     const char *path = words[1], *folder = count == 3 ? words[2] : NULL;
     if (!is_score_path(path)) {
-        stop_for_words(path);
+        stop("%s: the name of a score ends in .score, as that of evening.score", path);
     }
     reader_begin(&score.reader, path);
     begin_file(&score.show_file);

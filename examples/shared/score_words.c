@@ -144,17 +144,28 @@ void stop_for_kind(const struct reader *reader, kind_words *words_of, const char
     stop_for_due(reader, due);
 }
 
+/* Tells which number is due, or which range of them. */
+static noreturn void stop_for_number(const struct reader *reader, const char *what, size_t least, size_t most)
+{
+    char due[MESSAGE_BYTES / 2];
+    struct text text = text_begin(due, sizeof due);
+    text_add(&text, least == most ? "%s %zu" : "a %s from %zu", what, least);
+    if (least != most) {
+        text_add(&text, " to %zu", most);
+    }
+    stop_for_due(reader, due);
+}
+
 size_t take_number(struct reader *reader, const char *what, size_t least, size_t most)
 {
-    char digits[24] = "", due[MESSAGE_BYTES / 2];
+    char digits[24] = "";
     uint64_t number = 0;
     bool read = reader->next.kind == TOKEN_WORD && reader->next.length < sizeof digits;
     if (read) {
         memcpy(digits, reader->next.text, reader->next.length);
     }
     if (!read || !read_number(digits, &number) || number < least || number > most) {
-        snprintf(due, sizeof due, "%s from %zu to %zu", what, least, most);
-        stop_for_due(reader, due);
+        stop_for_number(reader, what, least, most);
     }
     advance(reader);
     return (size_t)number;
@@ -162,7 +173,7 @@ size_t take_number(struct reader *reader, const char *what, size_t least, size_t
 
 size_t take_value(struct reader *reader, unsigned value_bytes)
 {
-    return take_number(reader, "a value", 0, ((size_t)1 << 8 * value_bytes) - 1);
+    return take_number(reader, "value", 0, ((size_t)1 << 8 * value_bytes) - 1);
 }
 
 void take_name(struct reader *reader, char name[LANE_NAME_BYTES])

@@ -65,7 +65,7 @@ bool take_kind(struct reader *reader, kind_words *words_of, uint8_t *kind);
 /* Tells which words are due in place of the next token: those of the kinds, and others that end the list. */
 noreturn void stop_for_kind(const struct reader *reader, kind_words *words_of, const char *others);
 
-/* Takes a number, which has to come next. The message begins with what it is. */
+/* Takes a number, which has to come next. The message says what it is, as `a lane from 1 to 3`, or `lane 1`. */
 size_t take_number(struct reader *reader, const char *what, size_t least, size_t most);
 
 /* Takes the value of a kind that has so many bytes for it. */

@@ -66,8 +66,10 @@ tells_wrong_frames() {
         wrong_lines '"clue" where "cue", "level", "cross" or "bytes" is due' '3 clue 1' &&
         wrong_lines '"empty" where "cue", "level", "cross" or "bytes" is due' '3 empty 1' &&
         wrong_lines 'the line ends where "cue", "level", "cross" or "bytes" is due' '3' &&
-        wrong_lines '"5" where the name of a lane in quotation marks or a number from 1 to 4 is due' '3 cue 5' &&
-        wrong_lines '"lamp" where the name of a lane in quotation marks or a number from 1 to 4 is due' '3 level lamp 7' &&
+        wrong_lines '"10" where frame 9 is due' '9 cue 1' '10 level 2 7' &&
+        wrong_lines '"5" where a lane from 1 to 4 is due' '3 cue 5' &&
+        wrong_lines '"lamp" where the name of a lane in quotation marks or its number is due' '3 level lamp 7' &&
+        wrong_lines 'the line ends where the name of a lane in quotation marks or its number is due' '3 cue' &&
         wrong_lines 'no lane of the type has the name "lamps"' '3 level "lamps" 7' &&
         wrong_lines 'lane 2 "lamp" is of kind level, not cue' '3 cue "lamp"' &&
         wrong_lines 'the line ends where a value from 0 to 65535 is due' '3 level 2' &&
@@ -81,6 +83,8 @@ tells_wrong_frames() {
 
 tells_wrong_bytes() {
     wrong_lines '"256" where a byte from 0 to 255 is due' '3 bytes 0 1 256' &&
+        wrong_lines 'the line ends where a byte from 0 to 255 is due' '3 bytes' &&
+        wrong_lines 'the name "lamp" where a byte from 0 to 255 is due' '3 bytes "lamp"' &&
         wrong_lines 'the name "lamp" where the end of the line is due' '3 bytes 0 1 "lamp"' &&
         wrong_lines '"3" where a frame from 4 to 9 is due' '3 bytes 0 1 1' '3 bytes 0 1 1' &&
         wrong_lines 'frame 3 has other lines, and bytes are all of a frame' '3 cue 1' '3 bytes 0' &&
@@ -138,7 +142,7 @@ tells_wrong_trees() {
         wrong 2 1 '"frames" where ")" is due' <<<'type cue patch (pass frames 1' &&
         wrong 2 1 'the name "a" where "out" or "frames" is due' <<<'type cue patch silent empty "a" frames 1' &&
         wrong 2 2 '"65536" where a value from 0 to 65535 is due' <<<$'type cue patch\nlevel 65536 frames 1' &&
-        wrong 2 2 '"2" where a lane from 1 to 1 is due' <<<$'type cue patch pass\nout 2 "a"' &&
+        wrong 2 2 '"2" where lane 1 is due' <<<$'type cue patch pass\nout 2 "a"' &&
         wrong 2 3 'lane 1 of the output has a name already, "a"' <<<$'type cue patch pass\nout 1 "a"\nout 1 "b"' &&
         wrong 2 2 '"a" where a name in quotation marks is due' <<<$'type cue patch pass\nout 1 a' &&
         wrong 2 2 '"432001" where a number of frames from 1 to 432000 is due' <<<$'type cue patch pass\nframes 432001' &&
@@ -286,8 +290,9 @@ needs_a_score() {
         "$folder/make_show" "$path" 2>"$folder/messages"
         [ $? -eq 2 ] && grep -qF "$message" "$folder/messages" || return 1
     done <<END
-examples/shows/damaged.show the words are: make_show SCORE
-$folder/.score the words are: make_show SCORE
+examples/shows/damaged.show damaged.show: the name of a score ends in .score
+$folder/.score .score: the name of a score ends in .score
+--score "--score" is not one of its words
 $folder/folder.score cannot be read: Is a directory
 $folder/zero.score is no text: it has a byte 0
 $folder/no.score cannot be opened: No such file
