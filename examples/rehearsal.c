@@ -27,8 +27,10 @@ static const char help[] =
     "  SEED  the number that the other cuts are drawn by, 0 to 18446744073709551615; 1 without this word\n"
     "\n"
     "A slice that is refused as recorded, and a last slice in which the file ends, are told on the error stream and\n"
-    "left out of all cuts. Status: 0 no cut made a difference, 1 one did, or the patch is refused, 2 the words or the\n"
-    "file cannot be used, nothing could be compared, or the answer cannot be written.\n";
+    "left out of all cuts; the answer ends with how many were refused.\n"
+    "\n"
+    "Status: 0 no cut made a difference; 1 one did, or the patch is refused; 2 the words or the file cannot be used,\n"
+    "nothing could be compared, or the answer cannot be written.\n";
 
 /* A patch that is being fed, from its start, and all that it has sent so far. */
 struct run {
@@ -49,6 +51,7 @@ static const char *const call_names[] = {"joining the slices", "the feed", "join
 struct slices {
     struct file *list;
     size_t count;
+    size_t left_out; /* how many others the show has */
 };
 
 /* For each of the slices whether it is in one group with the next. */
@@ -111,7 +114,7 @@ static void tell_refusal(const struct opened_show *opened, size_t index, struct 
 static struct slices feed_as_recorded(struct run *run, struct opened_show *opened)
 {
     const struct show *show = &opened->show;
-    struct slices accepted = {memory(show->count + 1, sizeof(struct file)), 0};
+    struct slices accepted = {memory(show->count + 1, sizeof(struct file)), 0, 0};
     struct lane_events events;
     for (size_t index = 0; index < show->count; index++) {
         struct refusal refusal = feed_group(run, &show->slices[index], 1);
@@ -120,6 +123,7 @@ static struct slices feed_as_recorded(struct run *run, struct opened_show *opene
             accepted.list[accepted.count++] = show->slices[index];
         } else {
             tell_refusal(opened, index, refusal);
+            accepted.left_out++;
         }
     }
     return accepted;
@@ -320,6 +324,15 @@ static void report_difference(const struct run *start, const struct run *recorde
     }
 }
 
+/* The answer is about the accepted slices alone, so it says how many there were besides. */
+static void print_left_out(const struct slices *slices)
+{
+    if (slices->left_out > 0) {
+        printf("%zu of %zu recorded slices %s refused and left out.\n", slices->left_out,
+               slices->left_out + slices->count, plural(slices->left_out, "was", "were"));
+    }
+}
+
 /* Compares cuts with the recording and reports. */
 static enum status compare(const struct run *start, const struct run *recorded, const struct slices *slices,
                            size_t cuts, uint64_t seed)
@@ -338,6 +351,7 @@ static enum status compare(const struct run *start, const struct run *recorded, 
                cuts, plural(cuts, "cut", "cuts"), slices->count, plural(slices->count, "slice", "slices"), tally.feeds,
                plural(tally.feeds, "feed", "feeds"), tally.largest, seconds_now() - began);
     }
+    print_left_out(slices);
     free(cut.joins);
     return same < cuts ? STATUS_REFUSED : STATUS_DONE;
 }
@@ -347,11 +361,7 @@ static enum status rehearse(struct opened_show *opened, size_t cuts, uint64_t se
     struct run start = {.patch = opened->patch, .output_type = opened->output_type, .sent = {.count = 0}};
     struct run recorded = start;
     struct slices slices = feed_as_recorded(&recorded, opened);
-    size_t left_out = opened->show.count - slices.count;
-    if (left_out > 0) {
-        tell("%zu of %zu recorded slices %s left out", left_out, opened->show.count, plural(left_out, "is", "are"));
-    }
-    if (left_out > 1) {
+    if (slices.left_out > 1) {
         tell("%s", first_refusal_first);
     }
     enum status status = STATUS_UNUSABLE;

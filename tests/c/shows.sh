@@ -141,13 +141,21 @@ tells_counts() {
 1|frame_loop SHOW --fast|The show is over: 1 frame, 1 slice, 1 feed, 0 refused.
 2|frame_loop SHOW --fast|The show is over: 2 frames, 2 slices, 1 feed, 1 refused.
 3|frame_loop SHOW --fast|The show is over: 3 frames, 3 slices, 1 feed, 2 refused.
-2|rehearsal SHOW 1|: 1 of 2 recorded slices is left out
+2|rehearsal SHOW 1|1 of 2 recorded slices was refused and left out.
 2|rehearsal SHOW 1|: 1 cut of 1 slice, 1 feed in all, the largest of 1 joined
-4|rehearsal SHOW 2|: 3 of 4 recorded slices are left out
+4|rehearsal SHOW 2|3 of 4 recorded slices were refused and left out.
 1|explain SHOW|1 slice: 1 brings something, 0 bring nothing, 0 are refused.
 2|explain SHOW|2 slices: 1 brings something, 0 bring nothing, 1 is refused.
 3|explain SHOW|3 slices: 1 brings something, 0 bring nothing, 2 are refused.
 END
+}
+
+# The rehearsal's answer ends with the slices that it is not about; if there are none, with what it compared.
+answers_for_all_slices() {
+    "$folder/rehearsal" examples/shows/damaged.show 3 2>"$folder/messages" | tail -n 1 |
+        grep -qx '5 of 47 recorded slices were refused and left out\.' &&
+        "$folder/rehearsal" examples/shows/lamp_fade.show 3 2>"$folder/messages" | tail -n 1 |
+        grep -q '^All joined outputs and all final patches are the same'
 }
 
 # For each place at which a show file can be cut: the place, the frame loop's exit status, and what has to be told.
@@ -269,6 +277,7 @@ done
 holds "damaged.show says what is wrong with it" tells_all_six
 holds "a refused patch" tells_refused_patch_alone
 holds "counts of refused slices" tells_counts
+holds "the end of the rehearsal's answer" answers_for_all_slices
 holds "damaged.show cut at every byte" tells_cuts examples/shows/damaged.show 1
 holds "comet_to_saturn.show cut" tells_cuts examples/shows/comet_to_saturn.show 17
 holds "lines that name no lane" tells_wrong_names
