@@ -244,7 +244,7 @@ static enum status explain_show(const char *path, const struct show *show, bool 
     if (accepted) {
         status = explain_slices(playing);
     } else {
-        printf("Without a patch no slice can be fed.%s\n", patch_file_hint(show));
+        printf("Without a patch no slice can be fed.%s\n", other_file_hint(path, show));
     }
     print_unfinished(show);
     free(names);
@@ -255,10 +255,7 @@ static enum status explain_show(const char *path, const struct show *show, bool 
 static enum status explain_show_file(const char *path, bool all)
 {
     struct show show;
-    const char *fault = show_read(path, &show);
-    if (fault != NULL) {
-        stop("%s: %s", path, fault);
-    }
+    need_show(path, &show);
     enum status status = explain_show(path, &show, all);
     show_release(&show);
     return status;

@@ -782,10 +782,11 @@ static bool write_file(const char *score_path, const char *folder, const char *e
     return written;
 }
 
+/* The two files have the score's name with another ending, so there has to be more of it than its ending. */
 static bool is_score_path(const char *path)
 {
-    size_t length = strlen(path), ending = strlen(".score");
-    return length > ending && strcmp(path + length - ending, ".score") == 0 && path[length - ending - 1] != '/';
+    const char *slash = strrchr(path, '/'), *name = slash == NULL ? path : slash + 1;
+    return ends_with(name, ".score") && strcmp(name, ".score") != 0;
 }
 
 int main(int count, char **words)

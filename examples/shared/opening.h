@@ -16,11 +16,15 @@ struct opened_show {
     struct lane_names names;
 };
 
+/* Reads a show file. If it cannot be used, the program stops. */
+void need_show(const char *path, struct show *show);
+
 /*
- * The end of a message about a show whose patch is refused: if the whole file is a patch that the library accepts, a
- * line that says so, else nothing. (Such a file never ends before what is taken for the length of its patch says.)
+ * The end of a message about a file without a patch that is accepted: a line that says what the file is, else nothing.
+ * A patch file is one that the library accepts as a whole (such a file never ends before what is taken for the length
+ * of its patch says); a score and a file of names are known by the end of their names, if the file has any bytes.
  */
-const char *patch_file_hint(const struct show *show);
+const char *other_file_hint(const char *path, const struct show *show);
 
 /*
  * Opens a show. If the file cannot be used, the program stops. If the patch is refused, this is told with its place,

@@ -155,6 +155,12 @@ uint64_t number_between(const char *word, uint64_t least, uint64_t most)
     return number;
 }
 
+bool ends_with(const char *path, const char *ending)
+{
+    size_t length = strlen(path), end = strlen(ending);
+    return length >= end && strcmp(path + length - end, ending) == 0;
+}
+
 void *memory(size_t count, size_t size)
 {
     void *bytes = calloc(count, size);

@@ -54,6 +54,9 @@ bool read_number(const char *word, uint64_t *number);
 /* The number that a word is, in a range; the program stops for the word if it is none. */
 uint64_t number_between(const char *word, uint64_t least, uint64_t most);
 
+/* Does the name of a file end so? */
+bool ends_with(const char *path, const char *ending);
+
 /* Memory of zeroes; the program stops if there is none. The caller frees it. */
 void *memory(size_t count, size_t size);
 

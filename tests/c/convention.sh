@@ -20,6 +20,7 @@ make_show   examples/shows/lamp_fade.score FILE  files
 '
 
 # A show with nothing wrong; one whose patch is refused, left on a cue; one that ends before its patch does; and a patch.
+# What is no show by its name alone may hold anything.
 good=examples/shows/lamp_fade.show
 refused=$folder/refused.show
 cut=$folder/cut.show
@@ -27,6 +28,8 @@ patch=$folder/alone.patch
 printf '\0\6\0\1\1\0\1\5' >"$refused"
 printf '\0\6\0\1\1' >"$cut"
 printf '\0\1\1\0\1\0' >"$patch"
+cp "$refused" "$folder/refused.score"
+: >"$folder/empty.score"
 
 wrong() {
     head -n 20 "$folder/answer" "$folder/messages"
@@ -87,8 +90,6 @@ try_shows() {
     expect 0 some any "$program" "${@/FILE/$good}"
     expect 1 any any "$program" "${@/FILE/$refused}"
     grep -q 'refused with 7' "$folder/answer" "$folder/messages" || wrong "$program does not tell the number, 7"
-    expect 1 any any "$program" "${@/FILE/$patch}"
-    grep -q 'is a patch file and no show' "$folder/answer" "$folder/messages" || wrong "$program takes a patch for a show"
     expect 2 none some "$program" "${@/FILE/$cut}"
     expect 2 none some "$program" "${@/FILE/$folder/not_there.show}"
     expect 2 none some to_full_disk "$program" "${@/FILE/$good}"
@@ -97,6 +98,26 @@ try_shows() {
     expect 2 none none with_closed_messages "$program" "${@/FILE/$folder/not_there.show}"
     expect 2 none none with_closed_messages to_closed_output "$program" "${@/FILE/$good}"
     expect 2 none some to_closed_output "$program" "${@/FILE/$good}"
+}
+
+# Files that lie beside a show, for a program that takes shows: a status, the file, and what is told of it; of a file
+# without bytes nothing.
+try_other_files() {
+    local program=$folder/$1 status file told
+    shift
+    while IFS='|' read -r status file told; do
+        expect "$status" any any "$program" "${@/FILE/$file}"
+        [ "$(cat "$folder/answer" "$folder/messages" | grep '^    The file')" = "$told" ] ||
+            wrong "$program: '$told' is due for $file"
+    done <<END
+1|$patch|    The file is a patch file and no show; explain and diagram take it with --patch.
+1|$folder/refused.score|    The file is a score; make_show makes a show of it.
+2|examples/shows/lamp_fade.score|    The file is a score; make_show makes a show of it.
+2|examples/shows/lamp_fade.lanes|    The file has the names of lanes; the show beside it ends in .show.
+2|$folder/empty.score|
+2|$folder/not_there.score|
+1|$refused|
+END
 }
 
 # Folders, for a program that writes files.
@@ -119,7 +140,10 @@ while read -r program called; do
     try_words "$program"
     read -ra call <<<"${called% *}"
     case ${called##* } in
-    text) try_shows "$program" "${call[@]}" ;;
+    text)
+        try_shows "$program" "${call[@]}"
+        try_other_files "$program" "${call[@]}"
+        ;;
     files) try_folders "$program" "${call[@]}" ;;
     esac
     tried=$((tried + 1))
