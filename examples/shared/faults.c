@@ -207,6 +207,8 @@ static void add_reason(struct text *text, const struct lanes *in_force, size_t n
     uint8_t due_type = 0;
     if (type == WOSTHILE_TYPE_EMPTY && start != WOSTHILE_TYPE_EMPTY) {
         text_add(text, "; its %s has come already", type_kind(start)->name);
+    } else if (kind == WOSTHILE_SLICE_NOTHING && (type == WOSTHILE_TYPE_CUE || type == WOSTHILE_TYPE_LEVEL)) {
+        text_add(text, "; the slice takes it for come, and it has not come");
     } else if (common_type(due, &due_type) && slice_kind(kind)->of == due_type) {
         text_add(text, "; the first part of a crossing has to be complete");
     }

@@ -91,6 +91,7 @@ explains_each_number() {
 
 explains_each_slice_number() {
     local type='0 5 4 1 3 2 1' # a cue beside a level and then a cue
+    local not_come='the slice takes it for come, and it has not come'
     refused 11 'byte 0: the slice ends where a section is due' --slice "$type" '' &&
         refused 11 'byte 0: the count promises 4 bytes, and 2 follow' --slice "$type" '0 4 7 2' &&
         refused 11 'byte 4, lanes 2 to 3: the section ends where 5 or 6 (sequence) is due' --slice "$type" '0 2 7 2' &&
@@ -101,6 +102,10 @@ explains_each_slice_number() {
         refused 14 'byte 5, lane 2: kind 2 (cue come) where 3 or 4 (level) is due' --slice "$type" '0 4 7 1 5 2' &&
         refused 14 'byte 5, lane 2: kind 3 (level awaited) where 4 (level come) is due; the first part of a crossing has to be complete' \
             --slice "$type" '0 5 7 1 6 3 1' &&
+        refused 14 "byte 3, lane 1: kind 0 (nothing) where 1 or 2 (cue) is due; $not_come" --slice "$type" '0 4 7 0 5 3' &&
+        refused 14 "byte 5, lane 2: kind 0 (nothing) where 3 or 4 (level) is due; $not_come" --slice "$type" '0 4 7 1 5 0' &&
+        refused 14 "byte 5, lane 2: kind 0 (nothing) where 4 (level come) is due; $not_come" --slice "$type" '0 5 7 1 6 0 1' &&
+        refused 14 'byte 4, lanes 2 to 3: kind 0 (nothing) where 5 or 6 (sequence) is due' --slice "$type" '0 3 7 1 0' &&
         refused 14 'byte 2, lanes 1 to 3: kind 5 (in first part) where 7 (side by side) is due' --slice "$type" '0 2 5 1' &&
         refused 2 'byte 2: kind 9 is not listed here; 0 to 4 are' --slice '0 1 9' '0 1 0'
 }
