@@ -3,6 +3,7 @@
 
 #include <errno.h>
 #include <fcntl.h>
+#include <inttypes.h>
 #include <stdarg.h>
 #include <stdio.h>
 #include <stdlib.h>
@@ -150,7 +151,8 @@ uint64_t number_between(const char *word, uint64_t least, uint64_t most)
 {
     uint64_t number;
     if (!read_number(word, &number) || number < least || number > most) {
-        stop_for_words(word);
+        tell("\"%s\" where a number from %" PRIu64 " to %" PRIu64 " is due", word, least, most);
+        stop_for_words(NULL);
     }
     return number;
 }

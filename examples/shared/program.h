@@ -38,7 +38,7 @@ noreturn void stop(const char *format, ...) __attribute__((format(printf, 1, 2))
 
 /*
  * Tells which words the program takes and, unless it is NULL, the word that it cannot use; ends it with status 2. Where
- * a value is wrong, the word is that value; where none follows, it is the word that needs one.
+ * a word needs another that does not follow, it is the word that needs one.
  */
 noreturn void stop_for_words(const char *word);
 
@@ -51,7 +51,7 @@ int program_end(enum status status);
 /* Reads a word that is a number and nothing else. */
 bool read_number(const char *word, uint64_t *number);
 
-/* The number that a word is, in a range; the program stops for the word if it is none. */
+/* The number that a word is, in a range; if it is none, the program stops, and says which numbers are due. */
 uint64_t number_between(const char *word, uint64_t least, uint64_t most);
 
 /* Does the name of a file end so? */

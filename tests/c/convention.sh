@@ -152,14 +152,19 @@ done < <(grep . <<<"$programs")
 name_words <<'END'
 frame_loop SHOW --sed 1|"--sed" is not one of its words
 frame_loop SHOW --seed|"--seed" cannot be used like this
-frame_loop SHOW --seed 99999999999999999999|"99999999999999999999" cannot be used here
-frame_loop SHOW --frames-per-second 0|"0" cannot be used here
-frame_loop SHOW --frames-per-second 1001|"1001" cannot be used here
+frame_loop SHOW --seed 99999999999999999999|"99999999999999999999" where a number from 0 to 18446744073709551615 is due
+frame_loop SHOW --seed x|"x" where a number from 0 to 18446744073709551615 is due
+frame_loop SHOW --seed --fast|"--fast" where a number from 0 to 18446744073709551615 is due
+frame_loop SHOW --frames-per-second 0|"0" where a number from 1 to 1000 is due
+frame_loop SHOW --frames-per-second 1001|"1001" where a number from 1 to 1000 is due
 frame_loop SHOW --fast --frames-per-second 60|"--frames-per-second" cannot be used like this
 frame_loop SHOW second.show|"second.show" cannot be used here
 frame_loop --fast|the words are: frame_loop SHOW
-rehearsal SHOW 0|"0" cannot be used here
-rehearsal SHOW 5 -1|"-1" is not one of its words
+rehearsal SHOW 0|"0" where a number from 1 to 18446744073709551615 is due
+rehearsal SHOW 5 -1|"-1" where a number from 0 to 18446744073709551615 is due
+rehearsal SHOW 5 x|"x" where a number from 0 to 18446744073709551615 is due
+rehearsal SHOW 5x|the words are: rehearsal SHOW
+make_show a.score b more|"more" cannot be used here
 rehearsal SHOW 5 1 more|"more" cannot be used here
 rehearsal --cuts|"--cuts" is not one of its words
 explain --patch|"--patch" cannot be used like this
