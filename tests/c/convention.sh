@@ -20,7 +20,7 @@ make_show   examples/shows/lamp_fade.score FILE  files
 '
 
 # A show with nothing wrong; one whose patch is refused, left on a cue; one that ends before its patch does; and a patch.
-# What is no show by its name alone may hold anything.
+# Then a file with the name of a score and the bytes of the refused show, and one with no bytes.
 good=examples/shows/lamp_fade.show
 refused=$folder/refused.show
 cut=$folder/cut.show
@@ -100,8 +100,7 @@ try_shows() {
     expect 2 none some to_closed_output "$program" "${@/FILE/$good}"
 }
 
-# Files that lie beside a show, for a program that takes shows: a status, the file, and what is told of it; of a file
-# without bytes nothing.
+# Files that are no show, for a program that takes shows: a status, the file, and what it is told to be, if anything.
 try_other_files() {
     local program=$folder/$1 status file told
     shift
