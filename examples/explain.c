@@ -39,7 +39,7 @@ static void explain_type_section(const struct listed *listed, const char *what, 
     char line[TYPE_TEXT_BYTES];
     type_text(line, (struct file){listed->file.bytes + 2, end - 2});
     printf("%s%s%s\n", what, whole ? ": " : "", whole ? line : "");
-    list_type(listed, 0, end);
+    list_type(listed, end);
 }
 
 static enum status explain_type(struct file type)
@@ -53,7 +53,7 @@ static enum status explain_type(struct file type)
         return STATUS_DONE;
     }
     char place[MESSAGE_BYTES];
-    type_fault_text(place, sizeof place, type, NULL);
+    type_fault_text(place, sizeof place, type);
     print_refusal("The type is", fault.number, place);
     return STATUS_REFUSED;
 }

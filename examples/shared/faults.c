@@ -298,7 +298,7 @@ static void add_reading_fault(struct text *text, struct within within, struct fa
     }
 }
 
-void type_fault_text(char *to, size_t room, struct file type, const struct side_names *names)
+void type_fault_text(char *to, size_t room, struct file type)
 {
     struct text text = text_begin(to, room);
     struct fault fault = type_fault(type);
@@ -309,7 +309,7 @@ void type_fault_text(char *to, size_t room, struct file type, const struct side_
     if (fault.at == AT_BYTE || fault.at == AT_SECTION_END) {
         due = type_due(type, fault);
     }
-    add_reading_fault(&text, (struct within){"type", type, NULL}, fault, &due, names);
+    add_reading_fault(&text, (struct within){"type", type, NULL}, fault, &due, NULL);
 }
 
 /* Adds a type, or no more than its size where that is what is wrong. */

@@ -16,10 +16,10 @@
 #include "text.h"
 
 /*
- * Of a type file; the names are those of its lanes. MESSAGE_BYTES is room enough for every text; what there is no room
+ * Of a type file, whose lanes have numbers alone. MESSAGE_BYTES is room enough for every text; what there is no room
  * for is left out at the end.
  */
-void type_fault_text(char *to, size_t room, struct file type, const struct side_names *names);
+void type_fault_text(char *to, size_t room, struct file type);
 
 /* Of a slice of the type in force; the names are those of the lanes' side. */
 void slice_fault_text(char *to, size_t room, const struct lanes *in_force, struct file slice,

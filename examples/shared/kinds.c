@@ -80,17 +80,6 @@ size_t type_end(struct file section, size_t place)
     return within(section, place);
 }
 
-size_t node_end(struct file section, size_t place)
-{
-    for (size_t due = 1; due > 0 && place < section.length; due--) {
-        const struct node_kind *kind = node_kind(section.bytes[place]);
-        place += 1 + kind->value_bytes;
-        place = kind->carries_type ? type_end(section, place) : place;
-        due += kind->parts;
-    }
-    return within(section, place);
-}
-
 size_t type_part(struct file section, size_t place, unsigned part)
 {
     place++;

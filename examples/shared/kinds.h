@@ -59,9 +59,6 @@ const struct node_kind *node_kind(uint8_t kind);
 /* Where the type that begins at a place ends, or the length of the bytes if they end before it does. */
 size_t type_end(struct file section, size_t place);
 
-/* Where the node that begins at a place ends, with its parts; likewise. */
-size_t node_end(struct file section, size_t place);
-
 /* The place of a part of the type's node at a place; part 0 is the first one. */
 size_t type_part(struct file section, size_t place, unsigned part);
 

@@ -172,10 +172,7 @@ static void take_line(struct reading *reading, struct line line)
 /* The path of the file of names beside a show; the caller frees it. */
 static char *names_path(const char *show_path)
 {
-    size_t length = strlen(show_path);
-    if (length >= 5 && strcmp(show_path + length - 5, ".show") == 0) {
-        length -= 5;
-    }
+    size_t length = strlen(show_path) - (ends_with(show_path, ".show") ? strlen(".show") : 0);
     char *path = memory(length + sizeof ".lanes", 1);
     memcpy(path, show_path, length);
     memcpy(path + length, ".lanes", sizeof ".lanes");

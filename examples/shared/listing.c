@@ -66,9 +66,9 @@ static void list_type_part(struct walk *walk, unsigned depth)
     }
 }
 
-void list_type(const struct listed *listed, size_t section, size_t end)
+void list_type(const struct listed *listed, size_t end)
 {
-    struct walk walk = {.listed = listed, .byte = section + 2, .end = end};
+    struct walk walk = {.listed = listed, .byte = 2, .end = end};
     print_heading(listed);
     list_type_part(&walk, 0);
 }

@@ -14,8 +14,8 @@ struct listed {
     const struct side_names *names; /* NULL if there are none */
 };
 
-/* Lists the type whose section begins at a byte of the file. */
-void list_type(const struct listed *listed, size_t section, size_t end);
+/* Lists the type whose section is at the front of the file. */
+void list_type(const struct listed *listed, size_t end);
 
 /* Lists a slice of the type in force. */
 void list_slice(const struct listed *listed, const struct lanes *in_force, size_t end);

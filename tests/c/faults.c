@@ -270,7 +270,7 @@ static void try_fault_text(const struct subject *subject, struct fault fault)
     struct lanes lanes;
     struct file file = file_of(&subject->file);
     if (subject->tree == TYPE) {
-        type_fault_text(text, sizeof text, file, NULL);
+        type_fault_text(text, sizeof text, file);
     } else if (subject->tree == NODES) {
         patch_fault_text(text, sizeof text, file, NULL, NULL);
     } else if (lanes_start(&lanes, subject->type)) {
