@@ -9,7 +9,7 @@ use Rattle.stream.specs.declared.Fault.{Fault}
 use Rattle.stream.specs.declared.Fault.the-variants.{SliceCutShort, SliceUnlisted, SliceLeftOver, SliceMisplaced}
 use Rattle.stream.specs.Types.{Ty, first-part, second-part, has-kind, type-limit}
 use Rattle.stream.specs.Levels.{value-width}
-use Rattle.stream.specs.Prefixes.{Prefix, nothing, cue-awaited, cue-come, level-awaited, level-come, in-first, crossed, beside, IsPrefix}
+use Rattle.stream.specs.Prefixes.{Prefix, nothing, cue-awaited, cue-come, level-awaited, level-come, in-first, crossed, beside, none-chosen, first-chosen, second-chosen, IsPrefix}
 use Rattle.stream.specs.Reading.{Reading, fault, Result, read-on, whole, next-byte, number-bytes, read-number, section-bytes, section, Root, tree, leaf, one-part, two-parts}
 pub mod Laws
 pub mod Examples
@@ -24,6 +24,9 @@ prefix-bytes (level-come v) r = 4 ∷ number-bytes value-width v r
 prefix-bytes (in-first p) r = 5 ∷ prefix-bytes p r
 prefix-bytes (crossed b q) r = 6 ∷ prefix-bytes b (prefix-bytes q r)
 prefix-bytes (beside p q) r = 7 ∷ prefix-bytes p (prefix-bytes q r)
+prefix-bytes none-chosen r = 8 ∷ r
+prefix-bytes (first-chosen p) r = 9 ∷ prefix-bytes p r
+prefix-bytes (second-chosen p) r = 10 ∷ prefix-bytes p r
 
 -- "A slice file is one section."
 unfoldable pub slice-file-bytes : Prefix → List ℕ
@@ -48,8 +51,8 @@ abbrev pub belongs : Bool → (List ℕ → Reading (Root Owed Prefix)) → List
 belongs true root s = root s
 belongs false root s = fault SliceMisplaced
 
--- What each kind byte begins where a prefix of t is owed, by its number; c says whether it has to be complete: 1, 3 and 5
--- never are.
+-- What each kind byte begins where a prefix of t is owed, by its number; c says whether it has to be complete: 1, 3, 5
+-- and 8 never are.
 abbrev pub prefix-kinds : List (Ty → Bool → List ℕ → Reading (Root Owed Prefix))
 prefix-kinds =
     (λ t c. belongs (has-kind 0 t) (leaf nothing))
@@ -60,6 +63,9 @@ prefix-kinds =
     ∷ (λ t c. belongs (has-kind 3 t && not c) (one-part in-first (owed (first-part t) false)))
     ∷ (λ t c. belongs (has-kind 3 t) (two-parts crossed (owed (first-part t) true) (owed (second-part t) c)))
     ∷ (λ t c. belongs (has-kind 4 t) (two-parts beside (owed (first-part t) c) (owed (second-part t) c)))
+    ∷ (λ t c. belongs (has-kind 5 t && not c) (leaf none-chosen))
+    ∷ (λ t c. belongs (has-kind 5 t) (one-part first-chosen (owed (first-part t) c)))
+    ∷ (λ t c. belongs (has-kind 5 t) (one-part second-chosen (owed (second-part t) c)))
     ∷ []
 
 -- "At one byte 11, 12, 14 in that order."

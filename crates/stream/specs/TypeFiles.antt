@@ -4,7 +4,7 @@ use mathlib.Core.Path.{_≡_}
 use Prim.Native.Nat.{ℕ, _≤_}
 use lib.ListN.{getD}
 use Rattle.stream.specs.declared.Fault.the-variants.{CutShort, Unlisted, LeftOver, TypeTooLarge}
-use Rattle.stream.specs.Types.{Ty, empty, cue, level, seq, par, size, type-limit, Small}
+use Rattle.stream.specs.Types.{Ty, empty, cue, level, seq, par, either, size, type-limit, Small}
 use Rattle.stream.specs.Reading.{Reading, fault, Result, read-on, whole, next-byte, section-bytes, section, Root, tree, leaf, two-parts}
 pub mod Laws
 pub mod Examples
@@ -16,6 +16,7 @@ type-bytes cue r = 1 ∷ r
 type-bytes level r = 2 ∷ r
 type-bytes (seq s t) r = 3 ∷ type-bytes s (type-bytes t r)
 type-bytes (par s t) r = 4 ∷ type-bytes s (type-bytes t r)
+type-bytes (either s t) r = 5 ∷ type-bytes s (type-bytes t r)
 
 -- "A type file is one section."
 unfoldable pub type-file-bytes : Ty → List ℕ
@@ -29,7 +30,7 @@ pub record TypeFile (file : List ℕ) : Type 0 where
 
 -- What each kind byte begins, by its number.
 abbrev pub type-kinds : List (List ℕ → Reading (Root (Unit {0}) Ty))
-type-kinds = leaf empty ∷ leaf cue ∷ leaf level ∷ two-parts seq tt tt ∷ two-parts par tt tt ∷ []
+type-kinds = leaf empty ∷ leaf cue ∷ leaf level ∷ two-parts seq tt tt ∷ two-parts par tt tt ∷ two-parts either tt tt ∷ []
 
 unfoldable pub type-root : Unit {0} → List ℕ → Reading (Root (Unit {0}) Ty)
 type-root w s = read-on (next-byte CutShort s) (λ k r. getD type-kinds k (λ x. fault Unlisted) r)

@@ -2,7 +2,7 @@
 ghost use mathlib.Core.Path.{_≡_};
 ghost use Rattle.stream.specs.Faults.{number};
 
-// Why an operation refuses. `number` in specs/Faults.antt gives document 01's number for each.
+// Why an operation refuses. `number` in specs/Faults.antt gives the number that the documents have for each.
 pub enum Fault {
     CutShort,
     Unlisted,
@@ -16,9 +16,10 @@ pub enum Fault {
     SliceLeftOver,
     SliceMisplaced,
     NoRoom,
+    OutputsDiffer,
 }
 
-// Document 01's number of a refusal, which a caller in another language is told.
+// The number of a refusal, which a caller in another language is told.
 pub fn number_of(fault: Fault) -> u32
     ensures { λ r. ⌜ r ≡ number fault ⌝ }
 {
@@ -35,5 +36,6 @@ pub fn number_of(fault: Fault) -> u32
         Fault::SliceLeftOver => 13,
         Fault::SliceMisplaced => 14,
         Fault::NoRoom => 20,
+        Fault::OutputsDiffer => 30,
     }
 }

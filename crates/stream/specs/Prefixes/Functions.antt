@@ -1,7 +1,7 @@
 -- What the rules of prefixes say, as functions that compute. They are proved to agree with the rules, both ways (Laws:
 -- complete-sound and complete-complete, concat-only and concats), so that nobody has to believe them.
 use mathlib.Core.Bool.{Bool, true, false, _&&_}
-use Rattle.stream.specs.Prefixes.{Prefix, nothing, cue-awaited, cue-come, level-awaited, level-come, in-first, crossed, beside}
+use Rattle.stream.specs.Prefixes.{Prefix, nothing, cue-awaited, cue-come, level-awaited, level-come, in-first, crossed, beside, none-chosen, first-chosen, second-chosen}
 
 -- Complete
 unfoldable pub complete : Prefix → Bool
@@ -13,9 +13,12 @@ complete (level-come v) = true
 complete (in-first p) = false
 complete (crossed b q) = complete q
 complete (beside p q) = complete p && complete q
+complete none-chosen = false
+complete (first-chosen p) = complete p
+complete (second-chosen p) = complete p
 
--- A prefix of a sequence by its two cases, and one of a side-by-side type by its one; `other` answers for the rest,
--- which no rule uses.
+-- A prefix of a sequence by its two cases, one of a side-by-side type by its one, and one of either by its three; `other` answers
+-- for the rest, which no rule uses.
 abbrev pub on-seq : {A : Type 0} → A → (Prefix → A) → (Prefix → Prefix → A) → Prefix → A
 on-seq other f g nothing = other
 on-seq other f g cue-awaited = other
@@ -25,6 +28,9 @@ on-seq other f g (level-come v) = other
 on-seq other f g (in-first p) = f p
 on-seq other f g (crossed b q) = g b q
 on-seq other f g (beside p q) = other
+on-seq other f g none-chosen = other
+on-seq other f g (first-chosen p) = other
+on-seq other f g (second-chosen p) = other
 
 abbrev pub on-par : {A : Type 0} → A → (Prefix → Prefix → A) → Prefix → A
 on-par other f nothing = other
@@ -35,6 +41,22 @@ on-par other f (level-come v) = other
 on-par other f (in-first p) = other
 on-par other f (crossed b q) = other
 on-par other f (beside p q) = f p q
+on-par other f none-chosen = other
+on-par other f (first-chosen p) = other
+on-par other f (second-chosen p) = other
+
+abbrev pub on-either : {A : Type 0} → A → A → (Prefix → A) → (Prefix → A) → Prefix → A
+on-either other none f g nothing = other
+on-either other none f g cue-awaited = other
+on-either other none f g cue-come = other
+on-either other none f g level-awaited = other
+on-either other none f g (level-come v) = other
+on-either other none f g (in-first p) = other
+on-either other none f g (crossed b q) = other
+on-either other none f g (beside p q) = other
+on-either other none f g none-chosen = none
+on-either other none f g (first-chosen p) = f p
+on-either other none f g (second-chosen p) = g p
 
 -- Concat
 unfoldable pub concat : Prefix → Prefix → Prefix
@@ -46,3 +68,6 @@ concat (level-come v) q = level-come v
 concat (in-first p) q = on-seq nothing (λ r. in-first (concat p r)) (λ b r. crossed (concat p b) r) q
 concat (crossed b p) q = crossed b (concat p q)
 concat (beside p r) q = on-par nothing (λ x y. beside (concat p x) (concat r y)) q
+concat none-chosen q = q
+concat (first-chosen p) q = first-chosen (concat p q)
+concat (second-chosen p) q = second-chosen (concat p q)

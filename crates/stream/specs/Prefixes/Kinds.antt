@@ -6,7 +6,7 @@ use Prim.Native.Nat.{ℕ, suc, _+_}
 use native.Mathlib.Omega.{arith}
 use lib.ListN.{length, getD}
 use Rattle.stream.specs.Levels.{value-width}
-use Rattle.stream.specs.Prefixes.{Prefix, nothing, cue-awaited, cue-come, level-awaited, level-come, in-first, crossed, beside}
+use Rattle.stream.specs.Prefixes.{Prefix, nothing, cue-awaited, cue-come, level-awaited, level-come, in-first, crossed, beside, none-chosen, first-chosen, second-chosen}
 
 abbrev pub prefix-kind : Prefix → ℕ
 prefix-kind nothing = 0
@@ -17,17 +17,20 @@ prefix-kind (level-come v) = 4
 prefix-kind (in-first p) = 5
 prefix-kind (crossed b q) = 6
 prefix-kind (beside p q) = 7
+prefix-kind none-chosen = 8
+prefix-kind (first-chosen p) = 9
+prefix-kind (second-chosen p) = 10
 
 -- How many parts each kind has, by its number; of a byte that is no slice's kind nobody asks.
 abbrev pub prefix-arities : List ℕ
-prefix-arities = 0 ∷ 0 ∷ 0 ∷ 0 ∷ 0 ∷ 1 ∷ 2 ∷ 2 ∷ []
+prefix-arities = 0 ∷ 0 ∷ 0 ∷ 0 ∷ 0 ∷ 1 ∷ 2 ∷ 2 ∷ 0 ∷ 1 ∷ 1 ∷ []
 
 abbrev pub prefix-arity : ℕ → ℕ
 prefix-arity k = getD prefix-arities k 2
 
 -- How many bytes a node takes without its parts: its kind, and behind a level that has come the value.
 abbrev pub root-widths : List ℕ
-root-widths = 1 ∷ 1 ∷ 1 ∷ 1 ∷ suc value-width ∷ 1 ∷ 1 ∷ 1 ∷ []
+root-widths = 1 ∷ 1 ∷ 1 ∷ 1 ∷ suc value-width ∷ 1 ∷ 1 ∷ 1 ∷ 1 ∷ 1 ∷ 1 ∷ []
 
 abbrev pub root-width : ℕ → ℕ
 root-width k = getD root-widths k 1
@@ -42,6 +45,9 @@ prefix-parts (level-come v) = []
 prefix-parts (in-first p) = p ∷ []
 prefix-parts (crossed b q) = b ∷ q ∷ []
 prefix-parts (beside p q) = p ∷ q ∷ []
+prefix-parts none-chosen = []
+prefix-parts (first-chosen p) = p ∷ []
+prefix-parts (second-chosen p) = p ∷ []
 
 pub prefix-parts-many : (p : Prefix) → length (prefix-parts p) ≡ prefix-arity (prefix-kind p)
 prefix-parts-many nothing = refl
@@ -52,6 +58,9 @@ prefix-parts-many (level-come v) = refl
 prefix-parts-many (in-first p) = refl
 prefix-parts-many (crossed b q) = refl
 prefix-parts-many (beside p q) = refl
+prefix-parts-many none-chosen = refl
+prefix-parts-many (first-chosen p) = refl
+prefix-parts-many (second-chosen p) = refl
 
 -- The sum over the nodes of a prefix of a number for each kind; over several prefixes; and over nodes of which the kinds are
 -- listed. How many bytes a prefix has, how many nodes, and how many cues and levels have come in it are such sums.
@@ -64,6 +73,9 @@ tally weight (level-come v) = weight 4
 tally weight (in-first p) = weight 5 + tally weight p
 tally weight (crossed b q) = weight 6 + (tally weight b + tally weight q)
 tally weight (beside p q) = weight 7 + (tally weight p + tally weight q)
+tally weight none-chosen = weight 8
+tally weight (first-chosen p) = weight 9 + tally weight p
+tally weight (second-chosen p) = weight 10 + tally weight p
 
 abbrev pub tallies : (ℕ → ℕ) → List Prefix → ℕ
 tallies weight [] = 0
@@ -88,3 +100,6 @@ tally-by-parts weight (level-come v) = omega arith
 tally-by-parts weight (in-first p) = omega arith
 tally-by-parts weight (crossed b q) = omega arith
 tally-by-parts weight (beside p q) = omega arith
+tally-by-parts weight none-chosen = omega arith
+tally-by-parts weight (first-chosen p) = omega arith
+tally-by-parts weight (second-chosen p) = omega arith

@@ -3,9 +3,9 @@ use mathlib.Core.Path.{_≡_, refl, ap, ap₂}
 use mathlib.Core.Bool.{true, false≢true}
 use Prim.Native.Nat.{_≤_}
 use native.Mathlib.Omega.{arith}
-use Rattle.stream.specs.Types.{Ty, empty, cue, level, seq, par, Nullable, null-empty, null-par, size}
+use Rattle.stream.specs.Types.{Ty, empty, cue, level, seq, par, either, Nullable, null-empty, null-par, size}
 use Rattle.stream.specs.Types.Laws.{and-left, and-right, and-both}
-use Rattle.stream.specs.Prefixes.{Prefix, nothing, cue-awaited, cue-come, level-awaited, level-come, in-first, crossed, beside, Complete, whole-nothing, whole-cue, whole-level, whole-crossed, whole-beside, IsPrefix, of-empty, of-cue-awaited, of-cue-come, of-level-awaited, of-level-come, of-first, of-crossed, of-beside, empty-prefix, derivative, Concat, after-nothing, after-cue, after-level, cue-awaited-yet, level-awaited-yet, still-in-first, now-crossed, behind-crossing, each-side}
+use Rattle.stream.specs.Prefixes.{Prefix, nothing, cue-awaited, cue-come, level-awaited, level-come, in-first, crossed, beside, none-chosen, first-chosen, second-chosen, Complete, whole-nothing, whole-cue, whole-level, whole-crossed, whole-beside, whole-first-chosen, whole-second-chosen, IsPrefix, of-empty, of-cue-awaited, of-cue-come, of-level-awaited, of-level-come, of-first, of-crossed, of-beside, of-none-chosen, of-first-chosen, of-second-chosen, empty-prefix, derivative, Concat, after-nothing, after-cue, after-level, cue-awaited-yet, level-awaited-yet, still-in-first, now-crossed, behind-crossing, each-side, none-chosen-yet, inside-first, inside-second}
 use Rattle.stream.specs.Prefixes.Functions.{complete, concat}
 
 -- Complete: the test is the rule
@@ -22,6 +22,9 @@ complete-sound (crossed b q) e = whole-crossed (complete-sound q e)
 complete-sound (beside p q) e =
     whole-beside (complete-sound p (and-left (complete p) (complete q) e))
     (complete-sound q (and-right (complete p) (complete q) e))
+complete-sound none-chosen e = absurd (false≢true e)
+complete-sound (first-chosen p) e = whole-first-chosen (complete-sound p e)
+complete-sound (second-chosen p) e = whole-second-chosen (complete-sound p e)
 
 pub complete-complete : {p : Prefix} → Complete p → complete p ≡ true
 unfolding complete
@@ -30,6 +33,8 @@ complete-complete whole-cue = refl
 complete-complete whole-level = refl
 complete-complete (whole-crossed c) = complete-complete c
 complete-complete (whole-beside c d) = and-both (complete-complete c) (complete-complete d)
+complete-complete (whole-first-chosen c) = complete-complete c
+complete-complete (whole-second-chosen c) = complete-complete c
 
 -- The parts of a complete prefix
 
@@ -42,6 +47,12 @@ beside-first (whole-beside c d) = c
 pub beside-second : {p q : Prefix} → Complete (beside p q) → Complete q
 beside-second (whole-beside c d) = d
 
+pub first-chosen-inside : {p : Prefix} → Complete (first-chosen p) → Complete p
+first-chosen-inside (whole-first-chosen c) = c
+
+pub second-chosen-inside : {p : Prefix} → Complete (second-chosen p) → Complete p
+second-chosen-inside (whole-second-chosen c) = c
+
 -- The empty prefix
 
 pub empty-prefix-is-prefix : (t : Ty) → IsPrefix t (empty-prefix t)
@@ -51,6 +62,7 @@ empty-prefix-is-prefix cue = of-cue-awaited
 empty-prefix-is-prefix level = of-level-awaited
 empty-prefix-is-prefix (seq s t) = of-first (empty-prefix-is-prefix s)
 empty-prefix-is-prefix (par s t) = of-beside (empty-prefix-is-prefix s) (empty-prefix-is-prefix t)
+empty-prefix-is-prefix (either s t) = of-none-chosen
 
 pub empty-prefix-complete : {t : Ty} → Nullable t → Complete (empty-prefix t)
 unfolding empty-prefix
@@ -65,6 +77,7 @@ derivative-empty cue = refl
 derivative-empty level = refl
 derivative-empty (seq s t) = ap (λ x. seq x t) (derivative-empty s)
 derivative-empty (par s t) = ap₂ par (derivative-empty s) (derivative-empty t)
+derivative-empty (either s t) = refl
 
 -- A prefix is complete exactly if what it leaves is nullable.
 
@@ -75,6 +88,8 @@ complete→nullable of-cue-come c = null-empty
 complete→nullable (of-level-come v) c = null-empty
 complete→nullable (of-crossed h d k) (whole-crossed c) = complete→nullable k c
 complete→nullable (of-beside h k) (whole-beside c d) = null-par (complete→nullable h c) (complete→nullable k d)
+complete→nullable (of-first-chosen h) (whole-first-chosen c) = complete→nullable h c
+complete→nullable (of-second-chosen h) (whole-second-chosen c) = complete→nullable h c
 
 pub nullable→complete : {t : Ty} {p : Prefix} → IsPrefix t p → Nullable (derivative t p) → Complete p
 unfolding derivative
@@ -83,6 +98,8 @@ nullable→complete of-cue-come n = whole-cue
 nullable→complete (of-level-come v) n = whole-level
 nullable→complete (of-crossed h d k) n = whole-crossed (nullable→complete k n)
 nullable→complete (of-beside h k) (null-par n m) = whole-beside (nullable→complete h n) (nullable→complete k m)
+nullable→complete (of-first-chosen h) n = whole-first-chosen (nullable→complete h n)
+nullable→complete (of-second-chosen h) n = whole-second-chosen (nullable→complete h n)
 
 -- What is left is no larger.
 pub derivative-size : {t : Ty} {p : Prefix} → IsPrefix t p → size (derivative t p) ≤ size t
@@ -95,6 +112,9 @@ derivative-size (of-level-come v) = omega arith
 derivative-size (of-first h) = omega (arith, derivative-size h)
 derivative-size (of-crossed h c k) = omega (arith, derivative-size k)
 derivative-size (of-beside h k) = omega (arith, derivative-size h, derivative-size k)
+derivative-size of-none-chosen = omega arith
+derivative-size (of-first-chosen h) = omega (arith, derivative-size h)
+derivative-size (of-second-chosen h) = omega (arith, derivative-size h)
 
 -- Concatenation: the function is the rule. It gives what the rules give, and they give nothing else.
 
@@ -109,6 +129,9 @@ concat-only (still-in-first c) = ap in-first (concat-only c)
 concat-only (now-crossed {r = r} c) = ap (λ x. crossed x r) (concat-only c)
 concat-only (behind-crossing {b = b} c) = ap (crossed b) (concat-only c)
 concat-only (each-side c d) = ap₂ beside (concat-only c) (concat-only d)
+concat-only none-chosen-yet = refl
+concat-only (inside-first c) = ap first-chosen (concat-only c)
+concat-only (inside-second c) = ap second-chosen (concat-only c)
 
 pub concats : {t : Ty} {p : Prefix} (q : Prefix) → IsPrefix t p → IsPrefix (derivative t p) q → Concat p q (concat p q)
 unfolding derivative concat
@@ -121,6 +144,9 @@ concats q (of-first h) (of-first k) = still-in-first (concats _ h k)
 concats q (of-first h) (of-crossed i d k) = now-crossed (concats _ h i)
 concats q (of-crossed h d i) k = behind-crossing (concats q i k)
 concats q (of-beside h i) (of-beside k l) = each-side (concats _ h k) (concats _ i l)
+concats q of-none-chosen k = none-chosen-yet
+concats q (of-first-chosen h) k = inside-first (concats q h k)
+concats q (of-second-chosen h) k = inside-second (concats q h k)
 
 pub concat-complete : {t : Ty} {p : Prefix} (q : Prefix) → IsPrefix t p → IsPrefix (derivative t p) q → Complete q → Complete (concat p q)
 unfolding derivative concat
@@ -132,6 +158,9 @@ concat-complete q (of-level-come v) k c = whole-level
 concat-complete q (of-first h) (of-crossed i d k) (whole-crossed c) = whole-crossed c
 concat-complete q (of-crossed h d i) k c = whole-crossed (concat-complete q i k c)
 concat-complete q (of-beside h i) (of-beside k l) (whole-beside c d) = whole-beside (concat-complete _ h k c) (concat-complete _ i l d)
+concat-complete q of-none-chosen k c = c
+concat-complete q (of-first-chosen h) k c = whole-first-chosen (concat-complete q h k c)
+concat-complete q (of-second-chosen h) k c = whole-second-chosen (concat-complete q h k c)
 
 -- A prefix again.
 pub concat-is-prefix : {t : Ty} {p : Prefix} (q : Prefix) → IsPrefix t p → IsPrefix (derivative t p) q → IsPrefix t (concat p q)
@@ -145,6 +174,9 @@ concat-is-prefix q (of-first h) (of-first k) = of-first (concat-is-prefix _ h k)
 concat-is-prefix q (of-first h) (of-crossed i d k) = of-crossed (concat-is-prefix _ h i) (concat-complete _ h i d) k
 concat-is-prefix q (of-crossed h d i) k = of-crossed h d (concat-is-prefix q i k)
 concat-is-prefix q (of-beside h i) (of-beside k l) = of-beside (concat-is-prefix _ h k) (concat-is-prefix _ i l)
+concat-is-prefix q of-none-chosen k = k
+concat-is-prefix q (of-first-chosen h) k = of-first-chosen (concat-is-prefix q h k)
+concat-is-prefix q (of-second-chosen h) k = of-second-chosen (concat-is-prefix q h k)
 
 -- The derivative of the joined is the derivative twice.
 pub derivative-concat : {t : Ty} {p : Prefix} (q : Prefix) → IsPrefix t p → IsPrefix (derivative t p) q
@@ -159,6 +191,9 @@ derivative-concat q (of-first {t = t} h) (of-first k) = ap (λ x. seq x t) (deri
 derivative-concat q (of-first h) (of-crossed i d k) = refl
 derivative-concat q (of-crossed h d i) k = derivative-concat q i k
 derivative-concat q (of-beside h i) (of-beside k l) = ap₂ par (derivative-concat _ h k) (derivative-concat _ i l)
+derivative-concat q of-none-chosen k = refl
+derivative-concat q (of-first-chosen h) k = derivative-concat q h k
+derivative-concat q (of-second-chosen h) k = derivative-concat q h k
 
 -- The empty prefix changes nothing on either side.
 
@@ -172,6 +207,9 @@ concat-empty-left (of-level-come v) = refl
 concat-empty-left (of-first h) = ap in-first (concat-empty-left h)
 concat-empty-left (of-crossed {q = q} h c k) = ap (λ x. crossed x q) (concat-empty-left h)
 concat-empty-left (of-beside h k) = ap₂ beside (concat-empty-left h) (concat-empty-left k)
+concat-empty-left of-none-chosen = refl
+concat-empty-left (of-first-chosen h) = refl
+concat-empty-left (of-second-chosen h) = refl
 
 pub concat-empty-right : {t : Ty} {p : Prefix} → IsPrefix t p → concat p (empty-prefix (derivative t p)) ≡ p
 unfolding concat empty-prefix derivative
@@ -183,6 +221,9 @@ concat-empty-right (of-level-come v) = refl
 concat-empty-right (of-first h) = ap in-first (concat-empty-right h)
 concat-empty-right (of-crossed {b = b} h c k) = ap (crossed b) (concat-empty-right k)
 concat-empty-right (of-beside h k) = ap₂ beside (concat-empty-right h) (concat-empty-right k)
+concat-empty-right of-none-chosen = refl
+concat-empty-right (of-first-chosen h) = ap first-chosen (concat-empty-right h)
+concat-empty-right (of-second-chosen h) = ap second-chosen (concat-empty-right h)
 
 pub concat-assoc : {t : Ty} {p : Prefix} (q r : Prefix) → IsPrefix t p → IsPrefix (derivative t p) q
     → IsPrefix (derivative (derivative t p) q) r → concat (concat p q) r ≡ concat p (concat q r)
@@ -197,6 +238,9 @@ concat-assoc q r (of-first h) (of-first k) (of-crossed {q = x} l d m) = ap (λ b
 concat-assoc q r (of-first h) (of-crossed i d k) l = refl
 concat-assoc q r (of-crossed {b = b} h d i) k l = ap (crossed b) (concat-assoc q r i k l)
 concat-assoc q r (of-beside h i) (of-beside k l) (of-beside m o) = ap₂ beside (concat-assoc _ _ h k m) (concat-assoc _ _ i l o)
+concat-assoc q r of-none-chosen k l = refl
+concat-assoc q r (of-first-chosen h) k l = ap first-chosen (concat-assoc q r h k l)
+concat-assoc q r (of-second-chosen h) k l = ap second-chosen (concat-assoc q r h k l)
 
 -- Two lanes side by side: which of them comes first does not matter (the source's Theorem 3.4).
 

@@ -1,10 +1,10 @@
--- Slice files that tell the readings of document 01 apart (docs/DECISIONS.md), each with its type and its number.
+-- Slice files that tell the readings of the documents apart (docs/DECISIONS.md), each with its type and its number.
 use mathlib.Core.Path.{_≡_, refl}
 use mathlib.Core.Bool.{true, false}
 use mathlib.Core.List.{List, [], _∷_, map}
 use Prim.Native.Nat.{ℕ}
-use Rattle.stream.specs.Types.{Ty, empty, cue, level, seq, par}
-use Rattle.stream.specs.Prefixes.{nothing, cue-awaited, cue-come, level-awaited, level-come, in-first, crossed, beside, derivative}
+use Rattle.stream.specs.Types.{Ty, empty, cue, level, seq, par, either}
+use Rattle.stream.specs.Prefixes.{nothing, cue-awaited, cue-come, level-awaited, level-come, in-first, crossed, beside, none-chosen, first-chosen, second-chosen, derivative}
 use Rattle.stream.specs.Prefixes.Functions.{complete, concat}
 use Rattle.stream.specs.Reading.Examples.{verdict, section-of, numbers, verdicts}
 use Rattle.stream.specs.SliceFiles.{slice-file}
@@ -25,7 +25,7 @@ table =
     -- the length is tried before the contents
     ∷ ((cue, 0 ∷ 2 ∷ 200 ∷ []), 11)
     -- 12 is decided by the number alone, before the type is asked; 14 by the kind, before its value is read
-    ∷ ((cue, section-of (8 ∷ [])), 12)
+    ∷ ((cue, section-of (15 ∷ [])), 12)
     ∷ ((cue, section-of (200 ∷ [])), 12)
     ∷ ((seq cue cue, section-of (6 ∷ 200 ∷ [])), 12)
     ∷ ((cue, section-of (7 ∷ [])), 14)
@@ -47,6 +47,24 @@ table =
     -- empty in sequence with empty: the crossing is still owed
     ∷ ((seq (seq empty empty) cue, section-of (6 ∷ 5 ∷ 0 ∷ 1 ∷ [])), 14)
     ∷ ((seq (seq empty empty) cue, section-of (6 ∷ 6 ∷ 0 ∷ 0 ∷ 1 ∷ [])), 0)
+    -- either: none chosen, or one part chosen and its slice; a slice of the other part does not belong there
+    ∷ ((either cue level, section-of (8 ∷ [])), 0)
+    ∷ ((either cue level, section-of (9 ∷ 1 ∷ [])), 0)
+    ∷ ((either cue level, section-of (10 ∷ 4 ∷ 0 ∷ 7 ∷ [])), 0)
+    ∷ ((either cue level, section-of (9 ∷ 3 ∷ [])), 14)
+    ∷ ((either cue level, section-of (10 ∷ 2 ∷ [])), 14)
+    ∷ ((either cue level, section-of (2 ∷ [])), 14)
+    ∷ ((either cue level, section-of (9 ∷ [])), 11)
+    ∷ ((either cue level, section-of (8 ∷ 1 ∷ [])), 13)
+    ∷ ((either cue level, section-of (15 ∷ [])), 12)
+    -- .. once the choice is made, only slices of the chosen part belong there
+    ∷ ((cue, section-of (9 ∷ 2 ∷ [])), 14)
+    ∷ ((cue, section-of (8 ∷ [])), 14)
+    -- .. and 8 keeps a crossed first part from being complete, as does a choice that is not complete
+    ∷ ((seq (either cue level) cue, section-of (6 ∷ 8 ∷ 1 ∷ [])), 14)
+    ∷ ((seq (either cue level) cue, section-of (6 ∷ 9 ∷ 1 ∷ 1 ∷ [])), 14)
+    ∷ ((seq (either cue level) cue, section-of (6 ∷ 9 ∷ 2 ∷ 1 ∷ [])), 0)
+    ∷ ((seq (either cue level) cue, section-of (6 ∷ 10 ∷ 4 ∷ 0 ∷ 7 ∷ 2 ∷ [])), 0)
     -- bytes left over, in the section and after it, whatever they are
     ∷ ((cue, section-of (1 ∷ 1 ∷ [])), 13)
     ∷ ((cue, section-of (2 ∷ 200 ∷ [])), 13)
@@ -60,8 +78,10 @@ slice-file-examples = refl
 -- What prefixes are and do: whether one is complete, what it leaves, and joins.
 
 pub complete-examples :
-    map complete (level-come 0 ∷ level-awaited ∷ in-first cue-come ∷ crossed cue-come cue-awaited ∷ crossed cue-come cue-come ∷ [])
-    ≡ true ∷ false ∷ false ∷ false ∷ true ∷ []
+    map complete
+    (level-come 0 ∷ level-awaited ∷ in-first cue-come ∷ crossed cue-come cue-awaited ∷ crossed cue-come cue-come
+    ∷ none-chosen ∷ first-chosen cue-awaited ∷ second-chosen cue-come ∷ [])
+    ≡ true ∷ false ∷ false ∷ false ∷ true ∷ false ∷ false ∷ true ∷ []
 unfolding stream-definitions
 complete-examples = refl
 
@@ -70,14 +90,19 @@ pub derivative-examples :
     × (derivative (seq cue level) (crossed cue-come level-awaited) ≡ level)
     × (derivative (par cue level) (beside cue-come level-awaited) ≡ par empty level)
     × (derivative level (level-come 0) ≡ empty)
+    × (derivative (either cue level) none-chosen ≡ either cue level)
+    × (derivative (either cue level) (first-chosen cue-awaited) ≡ cue)
+    × (derivative (either cue level) (second-chosen (level-come 7)) ≡ empty)
 unfolding stream-definitions
-derivative-examples = (refl, refl, refl, refl)
+derivative-examples = (refl, refl, refl, refl, refl, refl, refl)
 
--- 5 p joined with 6 b r keeps p.
+-- 5 p joined with 6 b r keeps p, and a choice joined with q keeps its mark.
 pub concat-examples :
     (concat (in-first cue-come) (crossed nothing cue-awaited) ≡ crossed cue-come cue-awaited)
     × (concat (in-first cue-awaited) (in-first cue-come) ≡ in-first cue-come)
     × (concat (crossed cue-come cue-awaited) cue-come ≡ crossed cue-come cue-come)
     × (concat (level-come 0) nothing ≡ level-come 0)
+    × (concat none-chosen (second-chosen level-awaited) ≡ second-chosen level-awaited)
+    × (concat (first-chosen cue-awaited) cue-come ≡ first-chosen cue-come)
 unfolding stream-definitions
-concat-examples = (refl, refl, refl, refl)
+concat-examples = (refl, refl, refl, refl, refl, refl)

@@ -15,9 +15,9 @@ use Rattle.stream.specs.Levels.{level-limit, value-bytes, read-value, va
 use Rattle.stream.specs.Bounds.{slice-limit, slice-file-limit}
 use Rattle.stream.specs.Faults.{slice-numbers, Listed}
 use Rattle.stream.specs.Levels.Laws.{value-length, value-is-bytes, value-reads, value-sound, value-faults}
-use Rattle.stream.specs.Prefixes.{Prefix, nothing, cue-awaited, cue-come, level-awaited, level-come, in-first, crossed, beside, Complete, whole-nothing, whole-cue, whole-level, whole-crossed, whole-beside, IsPrefix, of-empty, of-cue-awaited, of-cue-come, of-level-awaited, of-level-come, of-first, of-crossed, of-beside}
+use Rattle.stream.specs.Prefixes.{Prefix, nothing, cue-awaited, cue-come, level-awaited, level-come, in-first, crossed, beside, none-chosen, first-chosen, second-chosen, Complete, whole-nothing, whole-cue, whole-level, whole-crossed, whole-beside, whole-first-chosen, whole-second-chosen, IsPrefix, of-empty, of-cue-awaited, of-cue-come, of-level-awaited, of-level-come, of-first, of-crossed, of-beside, of-none-chosen, of-first-chosen, of-second-chosen}
 use Rattle.stream.specs.Prefixes.Kinds.{tally}
-use Rattle.stream.specs.Prefixes.Laws.{crossed-second, beside-first, beside-second}
+use Rattle.stream.specs.Prefixes.Laws.{crossed-second, beside-first, beside-second, first-chosen-inside, second-chosen-inside}
 use Rattle.stream.specs.Reading.{Bytes, Reading, read, fault, accepted, IsAccepted, read-on, whole, section-bytes, section, Root, forest, leaf, one-part, two-parts}
 use Rattle.stream.specs.Reading.Laws.{Reads, reads-leaf, reads-one, reads-two, tree-reads, RootIs, leaf-is, carried-is, one-is, two-is, tree-sound, section-reads, section-sound, whole-sound, _&_, past, every, bytes-tail, bytes-nil, bytes-cons, section-is-bytes}
 use Rattle.stream.specs.Reading.Walking.{MakesOne, leaf-makes, one-makes, two-makes}
@@ -37,6 +37,9 @@ nodes (level-come v) = 1
 nodes (in-first p) = suc (nodes p)
 nodes (crossed b q) = suc (nodes b + nodes q)
 nodes (beside p q) = suc (nodes p + nodes q)
+nodes none-chosen = 1
+nodes (first-chosen p) = suc (nodes p)
+nodes (second-chosen p) = suc (nodes p)
 
 -- Each node counts for one.
 pub nodes-tally : (p : Prefix) → nodes p ≡ tally (λ k. 1) p
@@ -49,6 +52,9 @@ nodes-tally (level-come v) = refl
 nodes-tally (in-first p) = omega (arith, nodes-tally p)
 nodes-tally (crossed b q) = omega (arith, nodes-tally b, nodes-tally q)
 nodes-tally (beside p q) = omega (arith, nodes-tally p, nodes-tally q)
+nodes-tally none-chosen = refl
+nodes-tally (first-chosen p) = omega (arith, nodes-tally p)
+nodes-tally (second-chosen p) = omega (arith, nodes-tally p)
 
 pub nodes-within : {t : Ty} {p : Prefix} → IsPrefix t p → nodes p ≤ size t
 unfolding nodes size
@@ -60,6 +66,9 @@ nodes-within (of-level-come h) = omega arith
 nodes-within (of-first h) = omega (arith, nodes-within h)
 nodes-within (of-crossed h c k) = omega (arith, nodes-within h, nodes-within k)
 nodes-within (of-beside h k) = omega (arith, nodes-within h, nodes-within k)
+nodes-within of-none-chosen = omega arith
+nodes-within (of-first-chosen h) = omega (arith, nodes-within h)
+nodes-within (of-second-chosen h) = omega (arith, nodes-within h)
 
 -- The laws of slice files ask for at most 255 nodes of the prefix, which a prefix of a small type has.
 abbrev pub Short : Prefix → Type 0
@@ -79,6 +88,9 @@ prefix-length (level-come v) r = omega (arith, value-length v r)
 prefix-length (in-first p) r = omega (arith, prefix-length p r)
 prefix-length (crossed b q) r = omega (arith, prefix-length b (prefix-bytes q r), prefix-length q r)
 prefix-length (beside p q) r = omega (arith, prefix-length p (prefix-bytes q r), prefix-length q r)
+prefix-length none-chosen r = omega arith
+prefix-length (first-chosen p) r = omega (arith, prefix-length p r)
+prefix-length (second-chosen p) r = omega (arith, prefix-length p r)
 
 pub slice-length : (p : Prefix) → Short p → length (prefix-bytes p []) ≤ slice-limit
 unfolding type-limit
@@ -103,6 +115,9 @@ prefix-is-bytes r (of-crossed {b = x} {q = q} h c k) b =
     bytes-cons 6 (prefix-bytes x (prefix-bytes q r)) (omega arith) (prefix-is-bytes (prefix-bytes q r) h (prefix-is-bytes r k b))
 prefix-is-bytes r (of-beside {p = p} {q = q} h k) b =
     bytes-cons 7 (prefix-bytes p (prefix-bytes q r)) (omega arith) (prefix-is-bytes (prefix-bytes q r) h (prefix-is-bytes r k b))
+prefix-is-bytes r of-none-chosen b = bytes-cons 8 r (omega arith) b
+prefix-is-bytes r (of-first-chosen {p = p} h) b = bytes-cons 9 (prefix-bytes p r) (omega arith) (prefix-is-bytes r h b)
+prefix-is-bytes r (of-second-chosen {p = p} h) b = bytes-cons 10 (prefix-bytes p r) (omega arith) (prefix-is-bytes r h b)
 
 pub slice-file-is-bytes : {t : Ty} {p : Prefix} → IsPrefix t p → Short p → Bytes (slice-file-bytes p)
 unfolding slice-file-bytes
@@ -127,6 +142,10 @@ reads c (of-crossed h d k) w =
     reads-two slice-over prefix-root crossed _ (λ s. refl) (reads true h (λ e. d)) (reads c k (λ e. crossed-second (w e)))
 reads c (of-beside h k) w =
     reads-two slice-over prefix-root beside _ (λ s. refl) (reads c h (λ e. beside-first (w e))) (reads c k (λ e. beside-second (w e)))
+reads true of-none-chosen w = elim (w refl) [ ]
+reads false of-none-chosen w = reads-leaf slice-over prefix-root _ (λ s. refl)
+reads c (of-first-chosen h) w = reads-one slice-over prefix-root first-chosen _ (λ s. refl) (reads c h (λ e. first-chosen-inside (w e)))
+reads c (of-second-chosen h) w = reads-one slice-over prefix-root second-chosen _ (λ s. refl) (reads c h (λ e. second-chosen-inside (w e)))
 
 pub read-prefix-reads : {t : Ty} {p : Prefix} (r : List ℕ) → IsPrefix t p → Short p → read-prefix t (prefix-bytes p r) ≡ read p r
 unfolding read-prefix
@@ -179,6 +198,11 @@ kinds-sound t c s b =
     (λ e. two-is slice-over prefix-root Fills prefix-bytes nodes crossed 6 s b (λ p q i j. crossed-fills p q e i j) (λ p q. refl) (λ p q x. refl))
     & belongs-is (owed t c) _ s (has-kind 4 t) _
     (λ e. two-is slice-over prefix-root Fills prefix-bytes nodes beside 7 s b (λ p q i j. beside-fills p q e i j) (λ p q. refl) (λ p q x. refl))
+    & plain (has-kind 5 t && not c) none-chosen (λ e. rw (made-of 5 t (and-left (has-kind 5 t) (not c) e)) of-none-chosen) (free (has-kind 5 t) c) refl refl
+    & belongs-is (owed t c) _ s (has-kind 5 t) _
+    (λ e. one-is slice-over prefix-root Fills prefix-bytes nodes first-chosen 9 s b (λ p i. first-chosen-fills p e i) (λ p. refl) (λ p x. refl))
+    & belongs-is (owed t c) _ s (has-kind 5 t) _
+    (λ e. one-is slice-over prefix-root Fills prefix-bytes nodes second-chosen 10 s b (λ p i. second-chosen-fills p e i) (λ p. refl) (λ p x. refl))
     & past (λ k h. tt))
   where
     plain : {k : ℕ} (b : Bool) (p : Prefix) → (b ≡ true → IsPrefix t p) → (b ≡ true → c ≡ true → Complete p) → nodes p ≡ 1
@@ -200,6 +224,12 @@ kinds-sound t c s b =
         → Fills (owed t c) (beside p q)
     beside-fills p q e i j =
         record { is = rw (made-of 4 t e) (of-beside (i .is) (j .is)); whole = λ d. whole-beside (i .whole d) (j .whole d) }
+
+    first-chosen-fills : (p : Prefix) → has-kind 5 t ≡ true → Fills (owed (first-part t) c) p → Fills (owed t c) (first-chosen p)
+    first-chosen-fills p e i = record { is = rw (made-of 5 t e) (of-first-chosen (i .is)); whole = λ d. whole-first-chosen (i .whole d) }
+
+    second-chosen-fills : (p : Prefix) → has-kind 5 t ≡ true → Fills (owed (second-part t) c) p → Fills (owed t c) (second-chosen p)
+    second-chosen-fills p e i = record { is = rw (made-of 5 t e) (of-second-chosen (i .is)); whole = λ d. whole-second-chosen (i .whole d) }
 
 pub root-sound : (o : Owed) (s : List ℕ) → Bytes s → PrefixRootIs o s (prefix-root o s)
 unfolding prefix-root
@@ -252,6 +282,9 @@ kinds-lighter t c s =
     (λ e. omega (arith, parts-size 3 t (omega arith) (and-left (has-kind 3 t) (not c) e), size-positive (second-part t)))
     & belongs-lighter (owed t c) s (has-kind 3 t) _ (λ e. omega (arith, parts-size 3 t (omega arith) e))
     & belongs-lighter (owed t c) s (has-kind 4 t) _ (λ e. omega (arith, parts-size 4 t (omega arith) e))
+    & leafy (has-kind 5 t && not c) none-chosen
+    & belongs-lighter (owed t c) s (has-kind 5 t) _ (λ e. omega (arith, parts-size 5 t (omega arith) e, size-positive (second-part t)))
+    & belongs-lighter (owed t c) s (has-kind 5 t) _ (λ e. omega (arith, parts-size 5 t (omega arith) e, size-positive (first-part t)))
     & past (λ k h. tt))
   where
     leafy : (b : Bool) (p : Prefix) → Lighter owed-size (owed t c) (belongs b (leaf p) s)
@@ -296,6 +329,9 @@ module _ (P : Reading (Root Owed Prefix) → Type 0) (faults : (e : Fault) → P
       & if-belongs (has-kind 3 t && not c) _ s (ones in-first (owed (first-part t) false) s (λ p. refl))
       & if-belongs (has-kind 3 t) _ s (twos crossed (owed (first-part t) true) (owed (second-part t) c) s (λ p q. refl))
       & if-belongs (has-kind 4 t) _ s (twos beside (owed (first-part t) c) (owed (second-part t) c) s (λ p q. refl))
+      & if-belongs (has-kind 5 t && not c) (leaf none-chosen) s (leaves none-chosen s refl)
+      & if-belongs (has-kind 5 t) _ s (ones first-chosen (owed (first-part t) c) s (λ p. refl))
+      & if-belongs (has-kind 5 t) _ s (ones second-chosen (owed (second-part t) c) s (λ p. refl))
       & past (λ k h. faults SliceUnlisted))
 
   pub every-root : (o : Owed) (s : List ℕ) → P (prefix-root o s)
@@ -335,6 +371,9 @@ kinds-faults t c s =
     & belongs-faults (has-kind 3 t && not c) _ s tt
     & belongs-faults (has-kind 3 t) _ s tt
     & belongs-faults (has-kind 4 t) _ s tt
+    & belongs-faults (has-kind 5 t && not c) _ s tt
+    & belongs-faults (has-kind 5 t) _ s tt
+    & belongs-faults (has-kind 5 t) _ s tt
     & past (λ k h. refl))
 
 root-faults : (o : Owed) (s : List ℕ) → Faults SliceFault (prefix-root o s)

@@ -7,7 +7,7 @@ use native.Mathlib.Omega.{arith}
 use lib.ListN.{length}
 use Rattle.stream.specs.declared.Fault.{Fault}
 use Rattle.stream.specs.declared.Fault.the-variants.{CutShort, Unlisted, LeftOver, TypeTooLarge}
-use Rattle.stream.specs.Types.{Ty, empty, cue, level, seq, par, size, type-limit, Small}
+use Rattle.stream.specs.Types.{Ty, empty, cue, level, seq, par, either, size, type-limit, Small}
 use Rattle.stream.specs.Bounds.{type-file-limit}
 use Rattle.stream.specs.Faults.{type-numbers, Listed}
 use Rattle.stream.specs.Reading.{Bytes, read, fault, accepted, IsAccepted, section-bytes}
@@ -22,6 +22,7 @@ type-length cue r = omega arith
 type-length level r = omega arith
 type-length (seq s t) r = omega (arith, type-length s (type-bytes t r), type-length t r)
 type-length (par s t) r = omega (arith, type-length s (type-bytes t r), type-length t r)
+type-length (either s t) r = omega (arith, type-length s (type-bytes t r), type-length t r)
 
 pub type-file-length : (t : Ty) → Small t → length (type-file-bytes t) ≤ type-file-limit
 unfolding type-file-bytes section-bytes type-limit
@@ -36,6 +37,7 @@ type-is-bytes cue r b = bytes-cons 1 r (omega arith) b
 type-is-bytes level r b = bytes-cons 2 r (omega arith) b
 type-is-bytes (seq s t) r b = bytes-cons 3 (type-bytes s (type-bytes t r)) (omega arith) (type-is-bytes s (type-bytes t r) (type-is-bytes t r b))
 type-is-bytes (par s t) r b = bytes-cons 4 (type-bytes s (type-bytes t r)) (omega arith) (type-is-bytes s (type-bytes t r) (type-is-bytes t r b))
+type-is-bytes (either s t) r b = bytes-cons 5 (type-bytes s (type-bytes t r)) (omega arith) (type-is-bytes s (type-bytes t r) (type-is-bytes t r b))
 
 pub type-section-is-bytes : (t : Ty) (r : List ℕ) → Small t → Bytes r → Bytes (section-bytes (type-bytes t []) r)
 unfolding type-limit
@@ -51,6 +53,7 @@ reads cue = reads-leaf TypeTooLarge type-root _ (λ s. refl)
 reads level = reads-leaf TypeTooLarge type-root _ (λ s. refl)
 reads (seq s t) = reads-two TypeTooLarge type-root seq _ (λ r. refl) (reads s) (reads t)
 reads (par s t) = reads-two TypeTooLarge type-root par _ (λ r. refl) (reads s) (reads t)
+reads (either s t) = reads-two TypeTooLarge type-root either _ (λ r. refl) (reads s) (reads t)
 
 pub read-type-reads : (t : Ty) (r : List ℕ) → Small t → read-type (type-bytes t r) ≡ read t r
 unfolding read-type
@@ -80,6 +83,7 @@ root-sound w (k ∷ s) b =
     & leaf-is TypeTooLarge type-root IsType type-bytes size level _ s c tt refl refl
     & two-is TypeTooLarge type-root IsType type-bytes size seq 3 s c (λ t u i j. tt) (λ t u. refl) (λ t u x. refl)
     & two-is TypeTooLarge type-root IsType type-bytes size par 4 s c (λ t u i j. tt) (λ t u. refl) (λ t u x. refl)
+    & two-is TypeTooLarge type-root IsType type-bytes size either 5 s c (λ t u i j. tt) (λ t u. refl) (λ t u x. refl)
     & past (λ j h. tt)) k
   where
     c : Bytes s
@@ -124,7 +128,7 @@ root-faults : (w : Unit {0}) (s : List ℕ) → Faults TypeFault (type-root w s)
 unfolding type-root
 root-faults w [] = refl
 root-faults w (k ∷ s) =
-    every (λ j f. Faults TypeFault (f s)) (λ r. fault Unlisted) type-kinds (tt & tt & tt & tt & tt & past (λ j h. refl)) k
+    every (λ j f. Faults TypeFault (f s)) (λ r. fault Unlisted) type-kinds (tt & tt & tt & tt & tt & tt & past (λ j h. refl)) k
 
 pub read-type-faults : (s : List ℕ) → Faults (Listed type-numbers) (read-type s)
 unfolding read-type

@@ -5,11 +5,11 @@ use mathlib.Core.List.{List, [], _∷_}
 use Prim.Native.Nat.{ℕ, suc, _+_}
 use native.Mathlib.Omega.{arith}
 use lib.ListN.{length, getD}
-use Rattle.stream.specs.Types.{Ty, empty, cue, level, seq, par, size, kind}
+use Rattle.stream.specs.Types.{Ty, empty, cue, level, seq, par, either, size, kind}
 
 -- How many parts each kind has, by its number; of a byte that is no type's kind nobody asks.
 abbrev pub type-arities : List ℕ
-type-arities = 0 ∷ 0 ∷ 0 ∷ 2 ∷ 2 ∷ []
+type-arities = 0 ∷ 0 ∷ 0 ∷ 2 ∷ 2 ∷ 2 ∷ []
 
 abbrev pub type-arity : ℕ → ℕ
 type-arity k = getD type-arities k 2
@@ -21,6 +21,7 @@ type-parts cue = []
 type-parts level = []
 type-parts (seq s t) = s ∷ t ∷ []
 type-parts (par s t) = s ∷ t ∷ []
+type-parts (either s t) = s ∷ t ∷ []
 
 pub type-parts-many : (t : Ty) → length (type-parts t) ≡ type-arity (kind t)
 type-parts-many empty = refl
@@ -28,6 +29,7 @@ type-parts-many cue = refl
 type-parts-many level = refl
 type-parts-many (seq s t) = refl
 type-parts-many (par s t) = refl
+type-parts-many (either s t) = refl
 
 -- The nodes of several types, and of one by its parts.
 abbrev pub sizes : List Ty → ℕ
@@ -41,6 +43,7 @@ size-by-parts cue = refl
 size-by-parts level = refl
 size-by-parts (seq s t) = omega arith
 size-by-parts (par s t) = omega arith
+size-by-parts (either s t) = omega arith
 
 -- A type without parts is one node.
 pub leaf-alone : (t : Ty) → type-arity (kind t) ≡ 0 → size t ≡ 1

@@ -1,10 +1,11 @@
--- What is true of types: the test for nullable is the rule, and a type is made of its kind and its parts.
-use mathlib.Core.Path.{_≡_, refl, ap, _∙_}
+-- What is true of types: the test for nullable is the rule, the test for the same type is equality, and a type is made of its kind
+-- and its parts.
+use mathlib.Core.Path.{_≡_, refl, sym, ap, ap₂, _∙_}
 use mathlib.Core.Bool.{Bool, true, false, _&&_, false≢true}
 use Prim.Native.Nat.{ℕ, zero, suc, _+_, _≤_}
 use native.Mathlib.Omega.{arith}
 use borrow.Author.Tests.{eqb-true}
-use Rattle.stream.specs.Types.{Ty, empty, cue, level, seq, par, Nullable, null-empty, null-par, nullable, size, type-limit, kind, first-part, second-part, has-kind}
+use Rattle.stream.specs.Types.{Ty, empty, cue, level, seq, par, either, Nullable, null-empty, null-par, nullable, size, type-limit, kind, first-part, second-part, has-kind, same-type}
 
 -- Booleans
 
@@ -30,6 +31,7 @@ nullable-sound (seq s t) e = absurd (false≢true e)
 nullable-sound (par s t) e =
     null-par (nullable-sound s (and-left (nullable s) (nullable t) e))
     (nullable-sound t (and-right (nullable s) (nullable t) e))
+nullable-sound (either s t) e = absurd (false≢true e)
 
 pub nullable-complete : {t : Ty} → Nullable t → nullable t ≡ true
 unfolding nullable
@@ -49,6 +51,7 @@ size-positive cue = omega arith
 size-positive level = omega arith
 size-positive (seq s t) = omega arith
 size-positive (par s t) = omega arith
+size-positive (either s t) = omega arith
 
 -- kinds and parts
 
@@ -57,7 +60,8 @@ of-kind zero s t = empty
 of-kind (suc zero) s t = cue
 of-kind (suc (suc zero)) s t = level
 of-kind (suc (suc (suc zero))) s t = seq s t
-of-kind (suc (suc (suc (suc k)))) s t = par s t
+of-kind (suc (suc (suc (suc zero)))) s t = par s t
+of-kind (suc (suc (suc (suc (suc k))))) s t = either s t
 
 made : (t : Ty) → t ≡ of-kind (kind t) (first-part t) (second-part t)
 made empty = refl
@@ -65,6 +69,7 @@ made cue = refl
 made level = refl
 made (seq s t) = refl
 made (par s t) = refl
+made (either s t) = refl
 
 pub made-of : (k : ℕ) (t : Ty) → has-kind k t ≡ true → t ≡ of-kind k (first-part t) (second-part t)
 made-of k t e = made t ∙ ap (λ x. of-kind x (first-part t) (second-part t)) (eqb-true (kind t) k e)
@@ -76,3 +81,38 @@ parts-size k cue h e = absurd (omega (arith, eqb-true 1 k e))
 parts-size k level h e = absurd (omega (arith, eqb-true 2 k e))
 parts-size k (seq s t) h e = refl
 parts-size k (par s t) h e = refl
+parts-size k (either s t) h e = refl
+
+-- The same type
+
+same-parts : (u s t : Ty) (b : Bool) → (same-type s (first-part u) ≡ true → s ≡ first-part u)
+    → (same-type t (second-part u) ≡ true → t ≡ second-part u)
+    → b && (same-type s (first-part u) && same-type t (second-part u)) ≡ true
+    → (b ≡ true) × (s ≡ first-part u) × (t ≡ second-part u)
+same-parts u s t b f g e =
+    let d = and-right b (same-type s (first-part u) && same-type t (second-part u)) e in
+    (and-left b _ e, f (and-left (same-type s (first-part u)) _ d), g (and-right (same-type s (first-part u)) _ d))
+
+pub same-type-sound : (t u : Ty) → same-type t u ≡ true → t ≡ u
+unfolding same-type
+same-type-sound empty u e = sym (made-of 0 u e)
+same-type-sound cue u e = sym (made-of 1 u e)
+same-type-sound level u e = sym (made-of 2 u e)
+same-type-sound (seq s t) u e =
+    let k = same-parts u s t (has-kind 3 u) (same-type-sound s (first-part u)) (same-type-sound t (second-part u)) e in
+    ap₂ seq k.1 k.2 ∙ sym (made-of 3 u k.0)
+same-type-sound (par s t) u e =
+    let k = same-parts u s t (has-kind 4 u) (same-type-sound s (first-part u)) (same-type-sound t (second-part u)) e in
+    ap₂ par k.1 k.2 ∙ sym (made-of 4 u k.0)
+same-type-sound (either s t) u e =
+    let k = same-parts u s t (has-kind 5 u) (same-type-sound s (first-part u)) (same-type-sound t (second-part u)) e in
+    ap₂ either k.1 k.2 ∙ sym (made-of 5 u k.0)
+
+pub same-type-complete : (t : Ty) → same-type t t ≡ true
+unfolding same-type
+same-type-complete empty = refl
+same-type-complete cue = refl
+same-type-complete level = refl
+same-type-complete (seq s t) = and-both (same-type-complete s) (same-type-complete t)
+same-type-complete (par s t) = and-both (same-type-complete s) (same-type-complete t)
+same-type-complete (either s t) = and-both (same-type-complete s) (same-type-complete t)
