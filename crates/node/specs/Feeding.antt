@@ -1,9 +1,10 @@
--- One feed of a node: what it sends and the node left (document 01, Nodes; the source's step of the incremental semantics).
+-- One feed of a node: what it sends and the node left (document 01, Nodes; document 02, M-100; the source's step of the
+-- incremental semantics).
 use mathlib.Core.Path.{_≡_}
 use Prim.Native.Nat.{ℕ}
-use Rattle.stream.specs.Types.{Ty, empty, seq, par}
-use Rattle.stream.specs.Prefixes.{Prefix, nothing, cue-come, level-come, in-first, crossed, beside, empty-prefix, derivative}
-use Rattle.node.specs.Nodes.{Node, pass, silent, emit-cue, emit-level, both, left-side, right-side, first, second, then, chain, regroup-right, regroup-left, spread, front, Takes, Patch}
+use Rattle.stream.specs.Types.{Ty, empty, seq, par, either}
+use Rattle.stream.specs.Prefixes.{Prefix, nothing, cue-come, level-come, in-first, crossed, beside, none-chosen, first-chosen, second-chosen, empty-prefix, derivative}
+use Rattle.node.specs.Nodes.{Node, pass, silent, emit-cue, emit-level, both, left-side, right-side, first, second, then, chain, regroup-right, regroup-left, spread, front, choose, mark-first, mark-second, Takes, Patch}
 pub mod Functions
 pub mod Laws
 pub mod Lists
@@ -53,6 +54,14 @@ pub data Feeds : Ty → Node → Prefix → Prefix → Node → Type 0 where
   feeds-spread-crossed : {s t u : Ty} {b q r : Prefix} → Feeds (seq s (par t u)) spread (crossed b (beside q r)) (beside (crossed b q) (crossed b r)) pass
   -- 14 front: "p gives 6 0 p; pass."
   feeds-front : {s : Ty} {p : Prefix} → Feeds s front p (crossed nothing p) pass
+  -- 15 choose (M-100): "on 8 it sends that type's empty slice and stays;
+  feeds-choose-none : {s t r : Ty} {n m : Node} → Takes s n r → Feeds (either s t) (choose n m) none-chosen (empty-prefix r) (choose n m)
+  -- a choice feeds the chosen node, whose remainder stays alone."
+  feeds-choose-first : {s t : Ty} {n m n′ : Node} {p o : Prefix} → Feeds s n p o n′ → Feeds (either s t) (choose n m) (first-chosen p) o n′
+  feeds-choose-second : {s t : Ty} {n m m′ : Node} {p o : Prefix} → Feeds t m p o m′ → Feeds (either s t) (choose n m) (second-chosen p) o m′
+  -- 16, 17 (M-100): "marking the choice at first and leaving pass", at the first feed, even one that brings nothing.
+  feeds-mark-first : {s t : Ty} {p : Prefix} → Feeds s (mark-first t) p (first-chosen p) pass
+  feeds-mark-second : {s t : Ty} {p : Prefix} → Feeds s (mark-second t) p (second-chosen p) pass
 
 -- FeedsPatch a p o b: fed p, the patch a sends o and leaves the patch b. "The patch left has as its input type what the slice
 -- leaves."

@@ -1,4 +1,5 @@
--- Patch files: their bytes, and Check's two passes over them with refusals 1 to 7 (document 01, Files and Operations).
+-- Patch files: their bytes, and Check's two passes over them with refusals 1 to 7 and 30 (document 01, Files and Operations;
+-- document 02, M-100).
 use mathlib.Core.List.{List, [], _∷_}
 use mathlib.Core.Path.{_≡_}
 use Prim.Native.Nat.{ℕ}
@@ -8,7 +9,7 @@ use Rattle.stream.specs.Types.{Ty}
 use Rattle.stream.specs.Levels.{value-width}
 use Rattle.stream.specs.Reading.{Reading, read, fault, Result, accepted, read-on, go-on, whole, next-byte, number-bytes, read-number, section-bytes, section, Root, tree, leaf, two-parts}
 use Rattle.stream.specs.TypeFiles.{type-bytes, read-type, type-section}
-use Rattle.node.specs.Nodes.{Node, pass, silent, emit-cue, emit-level, both, left-side, right-side, first, second, then, chain, regroup-right, regroup-left, spread, front, node-limit, Allowed, Patch}
+use Rattle.node.specs.Nodes.{Node, pass, silent, emit-cue, emit-level, both, left-side, right-side, first, second, then, chain, regroup-right, regroup-left, spread, front, choose, mark-first, mark-second, node-limit, Allowed, Patch}
 use Rattle.node.specs.Checking.{typing}
 pub mod Laws
 pub mod Examples
@@ -30,6 +31,9 @@ node-bytes regroup-right r = 11 ∷ r
 node-bytes regroup-left r = 12 ∷ r
 node-bytes spread r = 13 ∷ r
 node-bytes front r = 14 ∷ r
+node-bytes (choose n m) r = 15 ∷ node-bytes n (node-bytes m r)
+node-bytes (mark-first t) r = 16 ∷ type-bytes t r
+node-bytes (mark-second t) r = 17 ∷ type-bytes t r
 
 -- "A patch file is two [sections], the input type and then the nodes."
 unfoldable pub patch-file-bytes : Patch → List ℕ
@@ -60,6 +64,9 @@ node-kinds =
     ∷ leaf regroup-left
     ∷ leaf spread
     ∷ leaf front
+    ∷ two-parts choose tt tt
+    ∷ (λ s. read-on (read-type s) (λ t r. leaf (mark-first t) r))
+    ∷ (λ s. read-on (read-type s) (λ t r. leaf (mark-second t) r))
     ∷ []
 
 unfoldable pub node-root : Unit {0} → List ℕ → Reading (Root (Unit {0}) Node)

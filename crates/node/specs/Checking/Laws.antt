@@ -1,22 +1,24 @@
 -- The second pass accepts exactly what the typing rules and the limit allow.
 use mathlib.Core.Path.{_≡_, refl}
 use mathlib.Core.Bool.{Bool, true, _&&_}
+use native.Mathlib.Omega.{arith}
 use lib.Dec.{leb}
 use borrow.Author.Tests.{leb-true, le-leb}
 use Rattle.stream.specs.declared.Fault.{Fault}
-use Rattle.stream.specs.declared.Fault.the-variants.{TypeTooLarge, NotNullable, WrongShape}
-use Rattle.stream.specs.Types.{Ty, empty, cue, level, seq, par, nullable, size, type-limit, first-part, second-part, has-kind, Small}
-use Rattle.stream.specs.Types.Laws.{and-left, and-right, nullable-sound, nullable-complete, made-of}
+use Rattle.stream.specs.declared.Fault.the-variants.{TypeTooLarge, NotNullable, WrongShape, OutputsDiffer}
+use Rattle.stream.specs.Types.{Ty, empty, cue, level, seq, par, either, nullable, size, type-limit, first-part, second-part, has-kind, same-type, Small}
+use Rattle.stream.specs.Types.Laws.{and-left, and-right, nullable-sound, nullable-complete, made-of, same-type-sound, same-type-complete}
 use Rattle.stream.specs.Faults.{patch-numbers, Listed}
 use Rattle.stream.specs.Reading.{Result, accepted, require, go-on}
 use Rattle.stream.specs.Reading.Refusals.{Refusals, go-on-refusals, require-refusals}
 use Rattle.stream.specs.Reading.Laws.{go-on-accepted, require-accepted}
-use Rattle.node.specs.Nodes.{Node, pass, silent, emit-cue, emit-level, both, left-side, right-side, first, second, then, chain, regroup-right, regroup-left, spread, front, Takes, takes-pass, takes-silent, takes-cue, takes-level, takes-both, takes-left, takes-right, takes-first, takes-second, takes-then, takes-chain, takes-regroup-right, takes-regroup-left, takes-spread, takes-front}
+use Rattle.node.specs.Nodes.{Node, pass, silent, emit-cue, emit-level, both, left-side, right-side, first, second, then, chain, regroup-right, regroup-left, spread, front, choose, mark-first, mark-second, Takes, takes-pass, takes-silent, takes-cue, takes-level, takes-both, takes-left, takes-right, takes-first, takes-second, takes-then, takes-chain, takes-regroup-right, takes-regroup-left, takes-spread, takes-front, takes-choose, takes-mark-first, takes-mark-second}
 use Rattle.node.specs.Nodes.Functions.{output-type, Fits, Carries}
 use Rattle.node.specs.Nodes.Laws.{output-type-is}
 use Rattle.node.specs.Checking.{gives, typing}
 
 pub types-carries : {s t : Ty} {n : Node} → Takes s n t → Fits s n → Carries n
+unfolding output-type size
 types-carries takes-pass f = tt
 types-carries (takes-silent z) f = f
 types-carries takes-cue f = tt
@@ -32,6 +34,9 @@ types-carries takes-regroup-right f = tt
 types-carries takes-regroup-left f = tt
 types-carries takes-spread f = tt
 types-carries takes-front f = tt
+types-carries (takes-choose d e) f = (types-carries d f.0, types-carries e f.1)
+types-carries takes-mark-first f = omega arith
+types-carries takes-mark-second f = omega arith
 
 -- The steps of the pass
 
@@ -57,6 +62,9 @@ given {u = u} t e k = let g = gives-accepted u t e in k (g .0) (rw (g .0) (g .1)
 
 then-types : {u v : Ty} {n m : Node} (s : Ty) → has-kind 3 s ≡ true → Takes (first-part s) n u → Takes (second-part s) m v → Takes s (then n m) (seq u v)
 then-types s e d f = rw (made-of 3 s e) (takes-then d f)
+
+choose-types : {u : Ty} {n m : Node} (s : Ty) → has-kind 5 s ≡ true → Takes (first-part s) n u → Takes (second-part s) m u → Takes s (choose n m) u
+choose-types s e d f = rw (made-of 5 s e) (takes-choose d f)
 
 pub typing-sound : (s : Ty) (n : Node) (t : Ty) → Carries n → typing s n ≡ accepted t → WellTyped s n t
 unfolding typing output-type
@@ -130,6 +138,22 @@ typing-sound s spread t v e =
       fits = k;
     }))
 typing-sound s front t v e = given t e (λ h k. rw (← h) (record { types = takes-front; fits = k }))
+typing-sound s (choose n m) t v e =
+    let r = require-accepted (has-kind 5 s) WrongShape
+    (go-on (typing (first-part s) n) (λ u. go-on (typing (second-part s) m) (λ w. require (same-type u w) OutputsDiffer (gives u)))) t e in
+    let x = go-on-accepted (typing (first-part s) n)
+    (λ u. go-on (typing (second-part s) m) (λ w. require (same-type u w) OutputsDiffer (gives u))) t (r .1) in
+    let y = go-on-accepted (typing (second-part s) m) (λ w. require (same-type (x .0) w) OutputsDiffer (gives (x .0))) t (x .2) in
+    let z = require-accepted (same-type (x .0) (y .0)) OutputsDiffer (gives (x .0)) t (y .2) in
+    let a = typing-sound (first-part s) n (x .0) (v .0) (x .1) in
+    let b = typing-sound (second-part s) m (y .0) (v .1) (y .1) in
+    given t (z .1) (λ h k. rw (← h)
+    (record {
+      types = choose-types s (r .0) a.types (rw (← same-type-sound (x .0) (y .0) (z .0)) at b.types);
+      fits = (a.fits, b.fits, rw (output-type-is a.types) k);
+    }))
+typing-sound s (mark-first u) t v e = given t e (λ h k. rw (← h) (record { types = takes-mark-first; fits = k }))
+typing-sound s (mark-second u) t v e = given t e (λ h k. rw (← h) (record { types = takes-mark-second; fits = k }))
 
 -- What is typed and fits is accepted
 
@@ -155,8 +179,12 @@ typing-complete takes-regroup-right f = gives-small f
 typing-complete takes-regroup-left f = gives-small f
 typing-complete takes-spread f = gives-small f
 typing-complete takes-front f = gives-small f
+typing-complete (takes-choose {r = r} d e) f =
+    rw (typing-complete d f.0, typing-complete e f.1, same-type-complete r) (gives-small (rw (output-type-is d) at f.2))
+typing-complete takes-mark-first f = gives-small f
+typing-complete takes-mark-second f = gives-small f
 
--- The refusals of the pass are a patch's: 4, 6 and 7.
+-- The refusals of the pass are a patch's: 4, 6, 7 and 30.
 
 abbrev TypingFault : Fault → Type 0
 TypingFault = Listed patch-numbers
@@ -192,3 +220,10 @@ typing-refusals s regroup-right = shaped (has-kind 3 s && has-kind 3 (first-part
 typing-refusals s regroup-left = shaped (has-kind 3 s && has-kind 3 (second-part s)) _ (gives-refusals _)
 typing-refusals s spread = shaped (has-kind 3 s && has-kind 4 (second-part s)) _ (gives-refusals _)
 typing-refusals s front = gives-refusals (seq empty s)
+typing-refusals s (choose n m) =
+    shaped (has-kind 5 s) _
+    (go-on-refusals TypingFault (typing (first-part s) n) _ (typing-refusals (first-part s) n)
+    (λ t. go-on-refusals TypingFault (typing (second-part s) m) _ (typing-refusals (second-part s) m)
+    (λ r. require-refusals TypingFault (same-type t r) OutputsDiffer (gives t) refl (gives-refusals t))))
+typing-refusals s (mark-first t) = gives-refusals (either s t)
+typing-refusals s (mark-second t) = gives-refusals (either t s)

@@ -1,9 +1,9 @@
--- A feed of each kind of node, in document 01's order: what is sent, and the node left.
+-- A feed of each kind of node, in the documents' order: what is sent, and the node left.
 use mathlib.Core.Path.{_≡_, refl}
 use mathlib.Core.List.{List, [], _∷_}
-use Rattle.stream.specs.Types.{Ty, empty, cue, level, seq, par}
-use Rattle.stream.specs.Prefixes.{Prefix, nothing, cue-awaited, cue-come, level-awaited, level-come, in-first, crossed, beside}
-use Rattle.node.specs.Nodes.{Node, pass, silent, emit-cue, emit-level, both, left-side, right-side, first, second, then, chain, regroup-right, regroup-left, spread, front}
+use Rattle.stream.specs.Types.{Ty, empty, cue, level, seq, par, either}
+use Rattle.stream.specs.Prefixes.{Prefix, nothing, cue-awaited, cue-come, level-awaited, level-come, in-first, crossed, beside, none-chosen, first-chosen, second-chosen}
+use Rattle.node.specs.Nodes.{Node, pass, silent, emit-cue, emit-level, both, left-side, right-side, first, second, then, chain, regroup-right, regroup-left, spread, front, choose, mark-first, mark-second}
 use Rattle.node.specs.Feeding.Functions.{sends, leaves}
 use Rattle.node.specs.Computing.{node-definitions}
 
@@ -46,6 +46,13 @@ table =
     ∷ row (seq cue (par cue level)) spread (crossed cue-come (beside cue-come level-awaited))
     (beside (crossed cue-come cue-come) (crossed cue-come level-awaited)) pass
     ∷ row cue front cue-awaited (crossed nothing cue-awaited) pass
+    ∷ row (either cue level) (choose emit-cue emit-cue) none-chosen cue-awaited (choose emit-cue emit-cue)
+    ∷ row (either cue cue) (choose pass emit-cue) (first-chosen cue-awaited) cue-awaited pass
+    ∷ row (either cue cue) (choose pass emit-cue) (second-chosen cue-awaited) cue-come (silent empty)
+    ∷ row cue (mark-first level) cue-awaited (first-chosen cue-awaited) pass
+    ∷ row cue (mark-second level) cue-come (second-chosen cue-come) pass
+    -- a sequence is crossed with a choice for its first part
+    ∷ row (seq (either cue level) cue) second (crossed (second-chosen (level-come 7)) cue-come) cue-come pass
     ∷ []
 
 abbrev sent-by : Row → Prefix

@@ -1,9 +1,9 @@
 -- What the rules of feeding say, as functions that compute: what is sent, the node left and the patch left. They are proved to
 -- agree with the rules, both ways (Laws: feeds, feeds-only), so that nobody has to believe them.
 use Rattle.stream.specs.Types.{Ty, empty, first-part, second-part}
-use Rattle.stream.specs.Prefixes.{Prefix, nothing, cue-come, level-come, in-first, crossed, beside, empty-prefix, derivative}
-use Rattle.stream.specs.Prefixes.Functions.{on-seq, on-par}
-use Rattle.node.specs.Nodes.{Node, pass, silent, emit-cue, emit-level, both, left-side, right-side, first, second, then, chain, regroup-right, regroup-left, spread, front, Patch}
+use Rattle.stream.specs.Prefixes.{Prefix, nothing, cue-come, level-come, in-first, crossed, beside, first-chosen, second-chosen, empty-prefix, derivative}
+use Rattle.stream.specs.Prefixes.Functions.{on-seq, on-par, on-either}
+use Rattle.node.specs.Nodes.{Node, pass, silent, emit-cue, emit-level, both, left-side, right-side, first, second, then, chain, regroup-right, regroup-left, spread, front, choose, mark-first, mark-second, Patch}
 use Rattle.node.specs.Nodes.Functions.{output-type}
 
 unfoldable pub sends : Ty → Node → Prefix → Prefix
@@ -32,6 +32,10 @@ sends s spread p =
     (λ x. beside (in-first x) (in-first x))
     (λ b x. on-par nothing (λ q r. beside (crossed b q) (crossed b r)) x) p
 sends s front p = crossed nothing p
+sends s (choose n m) p =
+    on-either nothing (empty-prefix (output-type (first-part s) n)) (λ x. sends (first-part s) n x) (λ x. sends (second-part s) m x) p
+sends s (mark-first t) p = first-chosen p
+sends s (mark-second t) p = second-chosen p
 
 unfoldable pub leaves : Ty → Node → Prefix → Node
 leaves s pass p = pass
@@ -49,6 +53,9 @@ leaves s regroup-right p = on-seq pass (λ x. on-seq pass (λ y. regroup-right) 
 leaves s regroup-left p = on-seq pass (λ x. regroup-left) (λ b x. pass) p
 leaves s spread p = on-seq pass (λ x. spread) (λ b x. pass) p
 leaves s front p = pass
+leaves s (choose n m) p = on-either (choose n m) (choose n m) (λ x. leaves (first-part s) n x) (λ x. leaves (second-part s) m x) p
+leaves s (mark-first t) p = pass
+leaves s (mark-second t) p = pass
 
 abbrev pub patch-left : Patch → Prefix → Patch
 patch-left a p = record { input = derivative (a .input) p; node = leaves (a .input) (a .node) p }

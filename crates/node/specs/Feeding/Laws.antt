@@ -4,13 +4,13 @@ use Prim.Native.Nat.{_≤_}
 use native.Mathlib.Omega.{arith}
 use native.Mathlib.Nat.{le-trans}
 use Rattle.stream.specs.Types.{Ty, size, null-empty}
-use Rattle.stream.specs.Prefixes.{Prefix, in-first, crossed, beside, Complete, whole-nothing, whole-cue, whole-level, whole-crossed, whole-beside, IsPrefix, of-empty, of-cue-come, of-level-come, of-first, of-crossed, of-beside, derivative}
+use Rattle.stream.specs.Prefixes.{Prefix, in-first, crossed, beside, Complete, whole-nothing, whole-cue, whole-level, whole-crossed, whole-beside, whole-first-chosen, whole-second-chosen, IsPrefix, of-empty, of-cue-come, of-level-come, of-first, of-crossed, of-beside, of-none-chosen, of-first-chosen, of-second-chosen, derivative}
 use Rattle.stream.specs.Prefixes.Functions.{concat}
-use Rattle.stream.specs.Prefixes.Laws.{crossed-second, beside-first, beside-second, empty-prefix-is-prefix, empty-prefix-complete, derivative-empty, complete→nullable, derivative-size, derivative-concat, concat-empty-left, concat-empty-right}
-use Rattle.node.specs.Nodes.{Node, silent, both, then, chain, Takes, takes-pass, takes-silent, takes-cue, takes-level, takes-both, takes-left, takes-right, takes-first, takes-second, takes-then, takes-chain, takes-regroup-right, takes-regroup-left, takes-spread, takes-front, count, Allowed}
+use Rattle.stream.specs.Prefixes.Laws.{crossed-second, beside-first, beside-second, first-chosen-inside, second-chosen-inside, empty-prefix-is-prefix, empty-prefix-complete, derivative-empty, complete→nullable, derivative-size, derivative-concat, concat-empty-left, concat-empty-right}
+use Rattle.node.specs.Nodes.{Node, silent, both, then, chain, Takes, takes-pass, takes-silent, takes-cue, takes-level, takes-both, takes-left, takes-right, takes-first, takes-second, takes-then, takes-chain, takes-regroup-right, takes-regroup-left, takes-spread, takes-front, takes-choose, takes-mark-first, takes-mark-second, count, Allowed}
 use Rattle.node.specs.Nodes.Functions.{output-type, Fits}
 use Rattle.node.specs.Nodes.Laws.{output-type-is, is-allowed, allowed-fits}
-use Rattle.node.specs.Feeding.{Feeds, feeds-pass, feeds-silent, feeds-cue, feeds-level, feeds-both, feeds-left, feeds-right, feeds-first-coming, feeds-first-crossed, feeds-second-coming, feeds-second-crossed, feeds-then-coming, feeds-then-crossed, feeds-chain, feeds-regroup-right-in-first, feeds-regroup-right-in-second, feeds-regroup-right-in-third, feeds-regroup-left-in-first, feeds-regroup-left-in-second, feeds-regroup-left-in-third, feeds-spread-coming, feeds-spread-crossed, feeds-front}
+use Rattle.node.specs.Feeding.{Feeds, feeds-pass, feeds-silent, feeds-cue, feeds-level, feeds-both, feeds-left, feeds-right, feeds-first-coming, feeds-first-crossed, feeds-second-coming, feeds-second-crossed, feeds-then-coming, feeds-then-crossed, feeds-chain, feeds-regroup-right-in-first, feeds-regroup-right-in-second, feeds-regroup-right-in-third, feeds-regroup-left-in-first, feeds-regroup-left-in-second, feeds-regroup-left-in-third, feeds-spread-coming, feeds-spread-crossed, feeds-front, feeds-choose-none, feeds-choose-first, feeds-choose-second, feeds-mark-first, feeds-mark-second}
 use Rattle.node.specs.Feeding.Functions.{sends, leaves}
 
 -- A fed node: its output is a prefix of the output type, complete where the input is, and the node left takes what is left
@@ -75,6 +75,20 @@ preserved takes-spread (of-crossed h b (of-beside k l)) =
       types = takes-pass;
     }
 preserved takes-front h = record { sent = of-crossed of-empty whole-nothing h; whole = λ c. whole-crossed c; types = takes-pass }
+preserved (takes-choose {r = r} d e) of-none-chosen =
+    record {
+      sent = rw (output-type-is d) (empty-prefix-is-prefix r);
+      whole = λ c. elim c [ ];
+      types = rw (output-type-is d, derivative-empty r) (takes-choose d e);
+    }
+preserved (takes-choose d e) (of-first-chosen h) =
+    let a = preserved d h in
+    record { sent = a.sent; whole = λ c. a.whole (first-chosen-inside c); types = a.types }
+preserved (takes-choose d e) (of-second-chosen h) =
+    let a = preserved e h in
+    record { sent = a.sent; whole = λ c. a.whole (second-chosen-inside c); types = a.types }
+preserved takes-mark-first h = record { sent = of-first-chosen h; whole = λ c. whole-first-chosen c; types = takes-pass }
+preserved takes-mark-second h = record { sent = of-second-chosen h; whole = λ c. whole-second-chosen c; types = takes-pass }
 
 -- The functions are the rules: they give an outcome of the rules, and the rules have no other.
 
@@ -103,6 +117,11 @@ feeds takes-regroup-left (of-crossed h c (of-crossed k d l)) = feeds-regroup-lef
 feeds takes-spread (of-first h) = feeds-spread-coming
 feeds takes-spread (of-crossed h c (of-beside k l)) = feeds-spread-crossed
 feeds takes-front h = feeds-front
+feeds (takes-choose d e) of-none-chosen = rw (output-type-is d) (feeds-choose-none d)
+feeds (takes-choose d e) (of-first-chosen h) = feeds-choose-first (feeds d h)
+feeds (takes-choose d e) (of-second-chosen h) = feeds-choose-second (feeds e h)
+feeds takes-mark-first h = feeds-mark-first
+feeds takes-mark-second h = feeds-mark-second
 
 -- Two outcomes of a feed that are the same.
 pub record Same (o u : Prefix) (n m : Node) : Type 0 where
@@ -148,6 +167,11 @@ feeds-only feeds-regroup-left-in-third h = same
 feeds-only feeds-spread-coming h = same
 feeds-only feeds-spread-crossed h = same
 feeds-only feeds-front h = same
+feeds-only (feeds-choose-none d) h = record { sent = rw (output-type-is d); node = refl }
+feeds-only (feeds-choose-first f) (of-first-chosen h) = feeds-only f h
+feeds-only (feeds-choose-second f) (of-second-chosen h) = feeds-only f h
+feeds-only feeds-mark-first h = same
+feeds-only feeds-mark-second h = same
 
 -- Feeding a joined prefix is feeding its two parts.
 pub feed-concat : {s t : Ty} {n : Node} {p : Prefix} (q : Prefix) → Takes s n t → IsPrefix s p → IsPrefix (derivative s p) q
@@ -200,6 +224,16 @@ feed-concat q takes-spread (of-first h) (of-first k) = same
 feed-concat q takes-spread (of-first h) (of-crossed i c (of-beside k l)) = same
 feed-concat q takes-spread (of-crossed h c (of-beside i j)) (of-beside k l) = same
 feed-concat q takes-front h k = same
+feed-concat q (takes-choose {r = r} d e) of-none-chosen of-none-chosen =
+    record { sent = rw (output-type-is d) (sym (concat-empty-left (empty-prefix-is-prefix r))); node = refl }
+feed-concat q (takes-choose d e) of-none-chosen (of-first-chosen k) =
+    record { sent = rw (output-type-is d) (sym (concat-empty-left ((preserved d k) .sent))); node = refl }
+feed-concat q (takes-choose d e) of-none-chosen (of-second-chosen k) =
+    record { sent = rw (output-type-is d) (sym (concat-empty-left ((preserved e k) .sent))); node = refl }
+feed-concat q (takes-choose d e) (of-first-chosen h) k = feed-concat q d h k
+feed-concat q (takes-choose d e) (of-second-chosen h) k = feed-concat q e h k
+feed-concat q takes-mark-first h k = same
+feed-concat q takes-mark-second h k = same
 
 -- Neither the number of nodes nor a type carried or given grows.
 
@@ -227,6 +261,11 @@ leaves-count takes-regroup-left (of-crossed h c k) = omega arith
 leaves-count takes-spread (of-first h) = omega arith
 leaves-count takes-spread (of-crossed h c k) = omega arith
 leaves-count takes-front h = omega arith
+leaves-count (takes-choose d e) of-none-chosen = omega arith
+leaves-count (takes-choose d e) (of-first-chosen h) = omega (arith, leaves-count d h)
+leaves-count (takes-choose d e) (of-second-chosen h) = omega (arith, leaves-count e h)
+leaves-count takes-mark-first h = omega arith
+leaves-count takes-mark-second h = omega arith
 
 -- The output type left is no larger.
 pub output-type-size : {s t : Ty} {n : Node} {p : Prefix} → Takes s n t → IsPrefix s p
@@ -264,6 +303,11 @@ leaves-fits takes-regroup-left (of-crossed h c k) f = omega (arith, derivative-s
 leaves-fits takes-spread (of-first h) f = omega (arith, derivative-size h)
 leaves-fits takes-spread (of-crossed h c k) f = omega (arith, derivative-size k)
 leaves-fits takes-front h f = omega (arith, derivative-size h)
+leaves-fits (takes-choose d e) of-none-chosen f = f
+leaves-fits (takes-choose d e) (of-first-chosen h) f = leaves-fits d h f.0
+leaves-fits (takes-choose d e) (of-second-chosen h) f = leaves-fits e h f.1
+leaves-fits takes-mark-first h f = omega (arith, derivative-size h)
+leaves-fits takes-mark-second h f = omega (arith, derivative-size h)
 
 -- The patch left is allowed again, from what is left of the input type to what is left of the output type.
 pub leaves-allowed : {s t : Ty} {n : Node} {p : Prefix} → Allowed s n t → IsPrefix s p

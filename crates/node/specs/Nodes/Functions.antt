@@ -1,9 +1,9 @@
 -- What the rules of typing and the limits say, as functions that compute. They are proved to agree with the rules (Laws:
 -- output-type-is, arises-small and fits-of), so that nobody has to believe them.
 use Prim.Native.Nat.{_<_}
-use Rattle.stream.specs.Types.{Ty, empty, cue, level, seq, par, first-part, second-part, Small}
+use Rattle.stream.specs.Types.{Ty, empty, cue, level, seq, par, either, first-part, second-part, Small}
 use Rattle.stream.specs.Levels.{level-limit}
-use Rattle.node.specs.Nodes.{Node, pass, silent, emit-cue, emit-level, both, left-side, right-side, first, second, then, chain, regroup-right, regroup-left, spread, front}
+use Rattle.node.specs.Nodes.{Node, pass, silent, emit-cue, emit-level, both, left-side, right-side, first, second, then, chain, regroup-right, regroup-left, spread, front, choose, mark-first, mark-second}
 
 -- The output type that the rules give.
 unfoldable pub output-type : Ty → Node → Ty
@@ -22,6 +22,9 @@ output-type s regroup-right = seq (first-part (first-part s)) (seq (second-part 
 output-type s regroup-left = seq (seq (first-part s) (first-part (second-part s))) (second-part (second-part s))
 output-type s spread = par (seq (first-part s) (first-part (second-part s))) (seq (first-part s) (second-part (second-part s)))
 output-type s front = seq empty s
+output-type s (choose n m) = output-type (first-part s) n
+output-type s (mark-first t) = either s t
+output-type s (mark-second t) = either t s
 
 -- Every type that arises is small, given that the node takes the type at all.
 abbrev pub Fits : Ty → Node → Type 0
@@ -40,6 +43,9 @@ Fits s regroup-right = Small (output-type s regroup-right)
 Fits s regroup-left = Small (output-type s regroup-left)
 Fits s spread = Small (output-type s spread)
 Fits s front = Small (output-type s front)
+Fits s (choose n m) = Fits (first-part s) n × Fits (second-part s) m × Small (output-type s (choose n m))
+Fits s (mark-first t) = Small (output-type s (mark-first t))
+Fits s (mark-second t) = Small (output-type s (mark-second t))
 
 -- What nodes carry is within its limits, as the reader of nodes sees to.
 abbrev pub Carries : Node → Type 0
@@ -58,3 +64,6 @@ Carries regroup-right = Unit
 Carries regroup-left = Unit
 Carries spread = Unit
 Carries front = Unit
+Carries (choose n m) = Carries n × Carries m
+Carries (mark-first t) = Small t
+Carries (mark-second t) = Small t

@@ -5,7 +5,7 @@ use mathlib.Core.List.{List, [], _∷_}
 use Prim.Native.Nat.{ℕ, suc, _+_, _<_}
 use native.Mathlib.Omega.{arith}
 use lib.ListN.{length, getD}
-use Rattle.node.specs.Nodes.{Node, pass, silent, emit-cue, emit-level, both, left-side, right-side, first, second, then, chain, regroup-right, regroup-left, spread, front, count}
+use Rattle.node.specs.Nodes.{Node, pass, silent, emit-cue, emit-level, both, left-side, right-side, first, second, then, chain, regroup-right, regroup-left, spread, front, choose, mark-first, mark-second, count}
 
 abbrev pub node-kind : Node → ℕ
 node-kind pass = 0
@@ -23,10 +23,13 @@ node-kind regroup-right = 11
 node-kind regroup-left = 12
 node-kind spread = 13
 node-kind front = 14
+node-kind (choose n m) = 15
+node-kind (mark-first t) = 16
+node-kind (mark-second t) = 17
 
 -- How many parts each kind has. A byte that is no node's kind has none.
 abbrev pub node-arities : List ℕ
-node-arities = 0 ∷ 0 ∷ 0 ∷ 0 ∷ 2 ∷ 0 ∷ 0 ∷ 0 ∷ 0 ∷ 2 ∷ 2 ∷ 0 ∷ 0 ∷ 0 ∷ 0 ∷ []
+node-arities = 0 ∷ 0 ∷ 0 ∷ 0 ∷ 2 ∷ 0 ∷ 0 ∷ 0 ∷ 0 ∷ 2 ∷ 2 ∷ 0 ∷ 0 ∷ 0 ∷ 0 ∷ 2 ∷ 0 ∷ 0 ∷ []
 
 abbrev pub node-arity : ℕ → ℕ
 node-arity k = getD node-arities k 0
@@ -50,6 +53,9 @@ kind-is-listed regroup-right = omega arith
 kind-is-listed regroup-left = omega arith
 kind-is-listed spread = omega arith
 kind-is-listed front = omega arith
+kind-is-listed (choose n m) = omega arith
+kind-is-listed (mark-first t) = omega arith
+kind-is-listed (mark-second t) = omega arith
 
 -- What stands behind each kind byte, before the parts: nothing, a type or a value.
 pub data Contents : Type 0 where
@@ -60,7 +66,8 @@ pub data Contents : Type 0 where
 
 abbrev pub contents-by-kind : List Contents
 contents-by-kind =
-    bare ∷ a-type ∷ bare ∷ a-value ∷ bare ∷ bare ∷ bare ∷ bare ∷ bare ∷ bare ∷ bare ∷ bare ∷ bare ∷ bare ∷ bare ∷ []
+    bare ∷ a-type ∷ bare ∷ a-value ∷ bare ∷ bare ∷ bare ∷ bare ∷ bare ∷ bare ∷ bare ∷ bare ∷ bare ∷ bare ∷ bare ∷ bare
+    ∷ a-type ∷ a-type ∷ []
 
 abbrev pub node-contents : ℕ → Contents
 node-contents k = getD contents-by-kind k no-kind
@@ -82,6 +89,9 @@ node-parts regroup-right = []
 node-parts regroup-left = []
 node-parts spread = []
 node-parts front = []
+node-parts (choose n m) = n ∷ m ∷ []
+node-parts (mark-first t) = []
+node-parts (mark-second t) = []
 
 pub node-parts-many : (n : Node) → length (node-parts n) ≡ node-arity (node-kind n)
 node-parts-many pass = refl
@@ -99,6 +109,9 @@ node-parts-many regroup-right = refl
 node-parts-many regroup-left = refl
 node-parts-many spread = refl
 node-parts-many front = refl
+node-parts-many (choose n m) = refl
+node-parts-many (mark-first t) = refl
+node-parts-many (mark-second t) = refl
 
 -- The nodes of several, and of one by its parts.
 abbrev pub counts : List Node → ℕ
@@ -122,3 +135,6 @@ count-by-parts regroup-right = refl
 count-by-parts regroup-left = refl
 count-by-parts spread = refl
 count-by-parts front = refl
+count-by-parts (choose n m) = omega arith
+count-by-parts (mark-first t) = refl
+count-by-parts (mark-second t) = refl

@@ -2,7 +2,7 @@
 use mathlib.Core.Path.{_≡_, refl, ap₂}
 use Prim.Native.Nat.{_≤_}
 use Rattle.stream.specs.Types.{Ty, seq, par, Small}
-use Rattle.node.specs.Nodes.{Node, Takes, takes-pass, takes-silent, takes-cue, takes-level, takes-both, takes-left, takes-right, takes-first, takes-second, takes-then, takes-chain, takes-regroup-right, takes-regroup-left, takes-spread, takes-front, Arises, given, in-both-first, in-both-second, in-then-first, in-then-second, in-chain-first, in-chain-second, count, node-limit, Allowed, Few}
+use Rattle.node.specs.Nodes.{Node, Takes, takes-pass, takes-silent, takes-cue, takes-level, takes-both, takes-left, takes-right, takes-first, takes-second, takes-then, takes-chain, takes-regroup-right, takes-regroup-left, takes-spread, takes-front, takes-choose, takes-mark-first, takes-mark-second, Arises, given, in-both-first, in-both-second, in-then-first, in-then-second, in-chain-first, in-chain-second, in-choose-first, in-choose-second, count, node-limit, Allowed, Few}
 use Rattle.node.specs.Nodes.Functions.{output-type, Fits}
 
 pub output-type-is : {s t : Ty} {n : Node} → Takes s n t → output-type s n ≡ t
@@ -22,6 +22,9 @@ output-type-is takes-regroup-right = refl
 output-type-is takes-regroup-left = refl
 output-type-is takes-spread = refl
 output-type-is takes-front = refl
+output-type-is (takes-choose d e) = output-type-is d
+output-type-is takes-mark-first = refl
+output-type-is takes-mark-second = refl
 
 -- The output type is within the limit, as every type given is.
 pub output-small : {s t : Ty} {n : Node} → Takes s n t → Fits s n → Small t
@@ -41,6 +44,9 @@ output-small takes-regroup-right f = f
 output-small takes-regroup-left f = f
 output-small takes-spread f = f
 output-small takes-front f = f
+output-small (takes-choose d e) f = rw (output-type-is d) at f.2
+output-small takes-mark-first f = f
+output-small takes-mark-second f = f
 
 -- The limit on every type that arises: the function is the rule
 
@@ -53,6 +59,8 @@ arises-small (in-then-first a) f = arises-small a f.0
 arises-small (in-then-second a) f = arises-small a f.1
 arises-small (in-chain-first a) f = arises-small a f.0
 arises-small (in-chain-second d a) f = arises-small a (rw (output-type-is d) at f.1)
+arises-small (in-choose-first a) f = arises-small a f.0
+arises-small (in-choose-second a) f = arises-small a f.1
 
 abbrev EachSmall : Ty → Node → Type 0
 EachSmall s n = (t : Ty) → Arises s n t → Small t
@@ -83,6 +91,10 @@ fits-of takes-regroup-right h = h _ (given takes-regroup-right)
 fits-of takes-regroup-left h = h _ (given takes-regroup-left)
 fits-of takes-spread h = h _ (given takes-spread)
 fits-of takes-front h = h _ (given takes-front)
+fits-of (takes-choose d e) h =
+    (fits-of d (λ u a. h u (in-choose-first a)), fits-of e (λ u a. h u (in-choose-second a)), output-type-small (takes-choose d e) h)
+fits-of takes-mark-first h = h _ (given takes-mark-first)
+fits-of takes-mark-second h = h _ (given takes-mark-second)
 
 -- A patch that is allowed, by the function
 module _ {s t : Ty} {n : Node} where

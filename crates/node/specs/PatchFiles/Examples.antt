@@ -1,8 +1,8 @@
--- Patch files that tell the readings of document 01 apart (docs/DECISIONS.md), with the numbers of Check's two passes.
+-- Patch files that tell the readings of documents 01 and 02 apart (docs/DECISIONS.md), with the numbers of Check's two passes.
 use mathlib.Core.Path.{_≡_, refl}
 use mathlib.Core.List.{List, [], _∷_, _++_}
 use Prim.Native.Nat.{ℕ}
-use Rattle.stream.specs.Types.{Ty, empty, cue, level, seq, par}
+use Rattle.stream.specs.Types.{Ty, empty, cue, level, seq, par, either}
 use Rattle.stream.specs.Reading.{Result, accepted, refused}
 use Rattle.stream.specs.Reading.Examples.{verdict, section-of, copies, numbers, verdicts}
 use Rattle.node.specs.PatchFiles.{Checked, patch-file}
@@ -65,6 +65,23 @@ table =
     ∷ (sections (3 ∷ 1 ∷ 3 ∷ 1 ∷ 1 ∷ []) (11 ∷ []), 7)
     ∷ (sections (3 ∷ 3 ∷ 1 ∷ 1 ∷ 1 ∷ []) (12 ∷ []), 7)
     ∷ (sections (3 ∷ 1 ∷ 3 ∷ 1 ∷ 1 ∷ []) (13 ∷ []), 7)
+    ∷ (sections (4 ∷ 1 ∷ 1 ∷ []) (15 ∷ 0 ∷ 0 ∷ []), 7)
+    -- choose: its output types are compared after its second part's own faults and before 4
+    ∷ (sections (5 ∷ 1 ∷ 1 ∷ []) (15 ∷ 0 ∷ 0 ∷ []), 0)
+    ∷ (sections (5 ∷ 1 ∷ 2 ∷ []) (15 ∷ 0 ∷ 0 ∷ []), 30)
+    ∷ (sections (5 ∷ 1 ∷ 2 ∷ []) (15 ∷ 0 ∷ 5 ∷ []), 7)
+    ∷ (sections (5 ∷ 1 ∷ 2 ∷ []) (4 ∷ 1 ∷ copies 127 (4 ∷ 0 ∷ []) (0 ∷ 15 ∷ 0 ∷ 0 ∷ [])), 30)
+    ∷ (sections (5 ∷ 1 ∷ 2 ∷ []) (4 ∷ 1 ∷ copies 127 (4 ∷ 0 ∷ []) (0 ∷ 15 ∷ 2 ∷ 2 ∷ [])), 4)
+    -- they are compared as trees, not by size
+    ∷ (sections (5 ∷ 4 ∷ 1 ∷ 2 ∷ 4 ∷ 2 ∷ 1 ∷ []) (15 ∷ 0 ∷ 0 ∷ []), 30)
+    ∷ (sections (5 ∷ 1 ∷ 2 ∷ []) (15 ∷ 16 ∷ 2 ∷ 17 ∷ 1 ∷ []), 0)
+    ∷ (sections (5 ∷ 1 ∷ 2 ∷ []) (15 ∷ 17 ∷ 2 ∷ 17 ∷ 1 ∷ []), 30)
+    -- 16 and 17 carry a type of any kind; the type that they give is larger than the one that they carry
+    ∷ (sections (1 ∷ []) (16 ∷ []), 1)
+    ∷ (sections (1 ∷ []) (17 ∷ 19 ∷ []), 2)
+    ∷ (sections (1 ∷ []) (16 ∷ copies 126 (4 ∷ 0 ∷ []) (0 ∷ [])), 0)
+    ∷ (sections (1 ∷ []) (17 ∷ copies 127 (4 ∷ 0 ∷ []) (0 ∷ [])), 4)
+    ∷ (sections (1 ∷ []) (10 ∷ 16 ∷ copies 128 (4 ∷ 0 ∷ []) (0 ∷ 99 ∷ [])), 4)
     ∷ []
 
 pub patch-file-examples : verdicts (λ file. verdict (patch-file file)) table ≡ numbers table
@@ -95,8 +112,11 @@ given =
     ∷ (sections (3 ∷ 0 ∷ 4 ∷ 1 ∷ 2 ∷ []) (13 ∷ []), par (seq empty cue) (seq empty level))
     ∷ (sections (2 ∷ []) (10 ∷ 14 ∷ 8 ∷ []), level)
     ∷ (sections (2 ∷ []) (1 ∷ 4 ∷ 0 ∷ 0 ∷ []), par empty empty)
+    ∷ (sections (5 ∷ 1 ∷ 2 ∷ []) (15 ∷ 2 ∷ 2 ∷ []), cue)
+    ∷ (sections (1 ∷ []) (16 ∷ 2 ∷ []), either cue level)
+    ∷ (sections (1 ∷ []) (17 ∷ 2 ∷ []), either level cue)
     ∷ []
 
 pub output-type-examples : Equal (outputs given)
 unfolding node-definitions
-output-type-examples = (refl, (refl, (refl, (refl, (refl, (refl, (refl, (refl, tt))))))))
+output-type-examples = (refl, (refl, (refl, (refl, (refl, (refl, (refl, (refl, (refl, (refl, (refl, tt)))))))))))

@@ -17,7 +17,7 @@ use Rattle.stream.specs.Reading.Laws.{Reads, reads-leaf, reads-two, tree-reads,
 use Rattle.stream.specs.Reading.Refusals.{Faults, Refusals, read-on-faults, go-on-refusals, section-faults, tree-faults, whole-refusals, faults-too, listed-first}
 use Rattle.stream.specs.TypeFiles.{type-bytes, read-type, type-section}
 use Rattle.stream.specs.TypeFiles.Laws.{type-length, type-is-bytes, type-section-is-bytes, read-type-reads, read-type-sound, type-section-reads, type-section-sound, read-type-faults, type-section-faults}
-use Rattle.node.specs.Nodes.{Node, pass, silent, emit-cue, emit-level, both, left-side, right-side, first, second, then, chain, regroup-right, regroup-left, spread, front, count, node-limit, Allowed, Patch, patch-of, Few}
+use Rattle.node.specs.Nodes.{Node, pass, silent, emit-cue, emit-level, both, left-side, right-side, first, second, then, chain, regroup-right, regroup-left, spread, front, choose, mark-first, mark-second, count, node-limit, Allowed, Patch, patch-of, Few}
 use Rattle.node.specs.Nodes.Laws.{is-allowed, allowed-fits}
 use Rattle.node.specs.Checking.{typing}
 use Rattle.node.specs.Checking.Laws.{types-carries, typing-sound, typing-complete, typing-refusals}
@@ -26,7 +26,7 @@ use Rattle.node.specs.PatchFiles.{node-bytes, patch-file-bytes, PatchFil
 
 -- Lengths
 
--- A silent takes at most 256 bytes and every other node at most three; of c nodes at most (c + 1) / 2 have no parts.
+-- A node that carries a type takes at most 256 bytes and every other at most three; of c nodes at most (c + 1) / 2 have no parts.
 pub node-length : (n : Node) (r : List ℕ) → Carries n → 2 * length (node-bytes n r) ≤ twice-node-bytes (count n) + 2 * length r
 unfolding node-bytes count type-limit
 node-length pass r f = omega arith
@@ -44,6 +44,9 @@ node-length regroup-right r f = omega arith
 node-length regroup-left r f = omega arith
 node-length spread r f = omega arith
 node-length front r f = omega arith
+node-length (choose n m) r f = omega (arith, node-length n (node-bytes m r) f.0, node-length m r f.1)
+node-length (mark-first t) r f = omega (arith, type-length t r)
+node-length (mark-second t) r f = omega (arith, type-length t r)
 
 pub nodes-length : (n : Node) → Carries n → Few n → length (node-bytes n []) ≤ node-bytes-limit
 unfolding node-limit
@@ -75,6 +78,9 @@ node-is-bytes regroup-right r f b = bytes-cons 11 r (omega arith) b
 node-is-bytes regroup-left r f b = bytes-cons 12 r (omega arith) b
 node-is-bytes spread r f b = bytes-cons 13 r (omega arith) b
 node-is-bytes front r f b = bytes-cons 14 r (omega arith) b
+node-is-bytes (choose n m) r f b = bytes-cons 15 (node-bytes n (node-bytes m r)) (omega arith) (node-is-bytes n (node-bytes m r) f.0 (node-is-bytes m r f.1 b))
+node-is-bytes (mark-first t) r f b = bytes-cons 16 (type-bytes t r) (omega arith) (type-is-bytes t r b)
+node-is-bytes (mark-second t) r f b = bytes-cons 17 (type-bytes t r) (omega arith) (type-is-bytes t r b)
 
 pub patch-file-is-bytes : {s t : Ty} {n : Node} → Allowed s n t → Bytes (patch-file-bytes (patch-of s n))
 unfolding patch-file-bytes
@@ -102,6 +108,9 @@ reads regroup-right f = reads-leaf TooManyNodes node-root _ (λ s. refl)
 reads regroup-left f = reads-leaf TooManyNodes node-root _ (λ s. refl)
 reads spread f = reads-leaf TooManyNodes node-root _ (λ s. refl)
 reads front f = reads-leaf TooManyNodes node-root _ (λ s. refl)
+reads (choose n m) f = reads-two TooManyNodes node-root choose _ (λ s. refl) (reads n f.0) (reads m f.1)
+reads (mark-first t) f = reads-leaf TooManyNodes node-root _ (λ s. rw (read-type-reads t s f))
+reads (mark-second t) f = reads-leaf TooManyNodes node-root _ (λ s. rw (read-type-reads t s f))
 
 pub read-node-reads : (n : Node) (r : List ℕ) → Carries n → Few n → read-node (node-bytes n r) ≡ read n r
 unfolding read-node
@@ -132,7 +141,7 @@ unfolding node-bytes count
 kinds-sound w s b =
     every (λ k f. NodeRootIs w (k ∷ s) (f s)) (λ r. fault Unlisted) node-kinds
     (plain pass tt refl refl
-    & carrying read-type type-bytes Small (λ t r e. read-type-sound s t r b e) silent 1 (λ t h. h) (λ t. refl) (λ t x. refl)
+    & carrying-type silent 1 (λ t h. h) (λ t. refl) (λ t x. refl)
     & plain emit-cue tt refl refl
     & carrying (read-value CutShort) value-bytes (λ v. v < level-limit) (λ v r e. value-sound CutShort s v r b e) emit-level 3
     (λ v h. h) (λ v. refl) (λ v x. refl)
@@ -147,6 +156,9 @@ kinds-sound w s b =
     & plain regroup-left tt refl refl
     & plain spread tt refl refl
     & plain front tt refl refl
+    & forked choose 15 (λ n m i j. (i, j)) (λ n m. refl) (λ n m x. refl)
+    & carrying-type mark-first 16 (λ t h. h) (λ t. refl) (λ t x. refl)
+    & carrying-type mark-second 17 (λ t h. h) (λ t. refl) (λ t x. refl)
     & past (λ k h. tt))
   where
     plain : {k : ℕ} (n : Node) → Carries n → count n ≡ 1 → node-bytes n s ≡ k ∷ s → NodeRootIs w (k ∷ s) (leaf n s)
@@ -158,6 +170,10 @@ kinds-sound w s b =
         → ((c : C) (x : List ℕ) → node-bytes (make c) x ≡ k ∷ put c x) → NodeRootIs w (k ∷ s) (read-on (contents s) (λ c r. leaf (make c) r))
     carrying contents put Held sound make k i c e =
         carried-is TooManyNodes node-root IsNode node-bytes count contents put Held make k s sound i c e
+
+    carrying-type : (make : Ty → Node) (k : ℕ) → ((t : Ty) → Small t → Carries (make t)) → ((t : Ty) → count (make t) ≡ 1)
+        → ((t : Ty) (x : List ℕ) → node-bytes (make t) x ≡ k ∷ type-bytes t x) → NodeRootIs w (k ∷ s) (read-on (read-type s) (λ t r. leaf (make t) r))
+    carrying-type make k i c e = carrying read-type type-bytes Small (λ t r h. read-type-sound s t r b h) make k i c e
 
     forked : (f : Node → Node → Node) (k : ℕ) → ((n m : Node) → IsNode tt n → IsNode tt m → IsNode w (f n m))
         → ((n m : Node) → count (f n m) ≡ suc (count n + count m)) → ((n m : Node) (x : List ℕ) → node-bytes (f n m) x ≡ k ∷ node-bytes n (node-bytes m x))
@@ -229,14 +245,14 @@ patch-file-accepted s b = (
   (λ f. (_, rw (f .bytes) at (patch-file-complete (f .allowed)))),
 )
 
--- The refusals of a patch file are 1 to 7.
+-- The refusals of a patch file are 1 to 7 and 30.
 
 abbrev PatchFault : Fault → Type 0
 PatchFault = Listed patch-numbers
 
 -- A type's refusals are a patch's.
 type-fault : (e : Fault) → Listed type-numbers e → PatchFault e
-type-fault e h = listed-first type-numbers (5 ∷ 6 ∷ 7 ∷ []) e h
+type-fault e h = listed-first type-numbers (5 ∷ 6 ∷ 7 ∷ 30 ∷ []) e h
 
 carried-faults : (make : Ty → Node) (s : List ℕ) → Faults PatchFault (read-on (read-type s) (λ t r. leaf {W = Unit {0}} (make t) r))
 carried-faults make s = read-on-faults PatchFault (read-type s) _ (faults-too type-fault (read-type s) (read-type-faults s)) (λ t r. tt)
@@ -248,7 +264,9 @@ kinds-faults s =
     & carried-faults silent s
     & tt
     & read-on-faults PatchFault (read-value CutShort s) _ (value-faults PatchFault CutShort refl s) (λ v r. tt)
-    & tt & tt & tt & tt & tt & tt & tt & tt & tt & tt & tt
+    & tt & tt & tt & tt & tt & tt & tt & tt & tt & tt & tt & tt
+    & carried-faults mark-first s
+    & carried-faults mark-second s
     & past (λ k h. refl))
 
 root-faults : (w : Unit {0}) (s : List ℕ) → Faults PatchFault (node-root w s)
