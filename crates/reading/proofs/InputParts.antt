@@ -4,121 +4,82 @@ use mathlib.Core.Path.{_≡_}
 use mathlib.Core.List.{List}
 use Prim.Native.Nat.{ℕ, _+_, _≤_}
 use native.Mathlib.Omega.{arith}
-use Rattle.stream.specs.Types.{Ty, seq, par, kind, first-part, second-part}
-use Rattle.stream.specs.Prefixes.{Prefix, in-first, crossed, beside, Complete, IsPrefix, of-first, of-crossed, of-beside}
+use Rattle.stream.specs.Types.{Ty, seq, kind}
+use Rattle.stream.specs.Prefixes.{Prefix, in-first, IsPrefix, of-first, of-crossed, of-beside}
 use Rattle.reading.specs.declared.types.TypePlace.{TypePlace}
 use Rattle.reading.specs.declared.prefixes.PrefixPlace.{PrefixPlace}
 use Rattle.reading.specs.declared.inputs.Input.{Input}
 use Rattle.reading.specs.TypeReads.{TypeAt, SomeTypeAt, TypeIn, TypeEnds}
-use Rattle.reading.specs.TypeReads.Laws.{first-at, second-behind, fork-size}
-use Rattle.reading.specs.SliceReads.{prefix-width, SomePrefixAt, PrefixIn, PrefixEnds, CompleteAt, CompleteEnds}
+use Rattle.reading.specs.TypeReads.Laws.{first-at, first-in, second-in}
+use Rattle.reading.specs.SliceReads.{prefix-width, PrefixAt, SomePrefixAt, PrefixIn, PrefixEnds}
 use Rattle.reading.specs.SliceReads.Laws.{in-first-at, crossed-first-at, crossed-second-at, beside-first-at, beside-second-at}
-use Rattle.reading.specs.Inputs.{InputAt, cut-at, HalvesDue, HalvesAt, ComingAt}
+use Rattle.reading.specs.Inputs.{InputAt, cut-at, Pairing, side-by-side, first-crossed, joins, meets, HalvesDue, HalvesAt, ComingAt}
 
 -- Of a type with two parts.
-module _ {types : List ℕ} {place : TypePlace} {t : Ty} (fork : 3 ≤ kind t) (type-in : TypeIn types place t) where
-  first-stands : TypeAt types (place .start + 1) (first-part t)
-  first-stands = first-at (type-in .stands) fork
+pub first-due : {types : List ℕ} {place : TypePlace} {t : Ty} → 3 ≤ kind t → TypeIn types place t → SomeTypeAt types (place .start + 1)
+first-due fork type-in = record { type = _; stands = first-at (type-in .stands) fork }
 
-  pub first-due : SomeTypeAt types (place .start + 1)
-  first-due = record { type = first-part t; stands = first-stands }
+-- Of a type and a prefix with two parts each.
 
-  module _ {end : ℕ} (ends : TypeEnds types (place .start + 1) end) where
-    pub first-in : TypeIn types (record { start = place .start + 1; end = end }) (first-part t)
-    first-in = record { stands = first-stands; ends = ends .each (first-part t) first-stands }
+each-part : (pairing : Pairing) (t r : Ty) (p q : Prefix) → IsPrefix (joins pairing t r) (meets pairing p q) → IsPrefix t p × IsPrefix r q
+each-part side-by-side t r p q (of-beside h k) = (h, k)
+each-part first-crossed t r p q (of-crossed h c k) = (h, k)
 
-    pub second-in : TypeIn types (record { start = end; end = place .end }) (second-part t)
-    second-in =
-        record {
-          stands = second-behind (type-in .stands) fork ends;
-          ends = omega (arith, type-in .ends, fork-size t fork, ends .each (first-part t) first-stands);
-        }
+module _ {types : List ℕ} {place : TypePlace} (t r : Ty) where
+  first-type-at : (pairing : Pairing) → TypeIn types place (joins pairing t r) → TypeAt types (place .start + 1) t
+  first-type-at side-by-side type-in = first-at (type-in .stands) (omega arith)
+  first-type-at first-crossed type-in = first-at (type-in .stands) (omega arith)
 
--- Of a prefix with two parts, of which the first has as many bytes as there are up to `stop`.
+  -- The second begins where the first ends.
+  second-type-in : (pairing : Pairing) {end : ℕ} → TypeIn types place (joins pairing t r) → TypeEnds types (place .start + 1) end
+      → TypeIn types (record { start = end; end = place .end }) r
+  second-type-in side-by-side type-in ends = second-in type-in (omega arith) ends
+  second-type-in first-crossed type-in ends = second-in type-in (omega arith) ends
 
-record Cut (slice : List ℕ) (place : PrefixPlace) (stop : ℕ) (p q : Prefix) : Type 0 where
-  first : PrefixIn slice (record { start = place .start + 1; end = stop }) p
-  second : PrefixIn slice (record { start = stop; end = place .end }) q
+module _ {slice : List ℕ} {place : PrefixPlace} (p q : Prefix) where
+  first-prefix-at : (pairing : Pairing) → PrefixIn slice place (meets pairing p q) → PrefixAt slice (place .start + 1) p
+  first-prefix-at side-by-side prefix-in = beside-first-at (prefix-in .stands)
+  first-prefix-at first-crossed prefix-in = crossed-first-at (prefix-in .stands)
 
-module _ {slice : List ℕ} {place : PrefixPlace} {stop : ℕ} {p q : Prefix} (stops : stop ≡ place .start + 1 + prefix-width p) where
-  crossed-cut : PrefixIn slice place (crossed p q) → Cut slice place stop p q
+  second-prefix-in : (pairing : Pairing) {stop : ℕ} → PrefixIn slice place (meets pairing p q) → stop ≡ place .start + 1 + prefix-width p
+      → PrefixIn slice (record { start = stop; end = place .end }) q
   unfolding prefix-width
-  crossed-cut prefix-in =
-      record {
-        first = record { stands = crossed-first-at (prefix-in .stands); ends = stops };
-        second = record { stands = crossed-second-at (prefix-in .stands) stops; ends = omega (arith, prefix-in .ends, stops) };
-      }
+  second-prefix-in side-by-side prefix-in stops =
+      record { stands = beside-second-at (prefix-in .stands) stops; ends = omega (arith, prefix-in .ends, stops) }
+  second-prefix-in first-crossed prefix-in stops =
+      record { stands = crossed-second-at (prefix-in .stands) stops; ends = omega (arith, prefix-in .ends, stops) }
 
-  beside-cut : PrefixIn slice place (beside p q) → Cut slice place stop p q
-  unfolding prefix-width
-  beside-cut prefix-in =
-      record {
-        first = record { stands = beside-first-at (prefix-in .stands); ends = stops };
-        second = record { stands = beside-second-at (prefix-in .stands) stops; ends = omega (arith, prefix-in .ends, stops) };
-      }
+module _ {types slice : List ℕ} {input : Input} (due : HalvesDue types slice input) where
+  type-stands : TypeAt types (input .ty .start + 1) (due .first-type)
+  type-stands = first-type-at (due .first-type) (due .second-type) (due .pairing) (due .stands .type-in)
 
--- Two sides.
+  pub first-type-due : SomeTypeAt types (input .ty .start + 1)
+  first-type-due = record { type = due .first-type; stands = type-stands }
 
-both-sides : {t r : Ty} {p q : Prefix} → IsPrefix (par t r) (beside p q) → IsPrefix t p × IsPrefix r q
-both-sides (of-beside h k) = (h, k)
+  prefix-stands : PrefixAt slice (input .prefix .start + 1) (due .first-prefix)
+  prefix-stands = first-prefix-at (due .first-prefix) (due .second-prefix) (due .pairing) (due .stands .prefix-in)
 
-module _ {types slice : List ℕ} {input : Input} (due : HalvesDue par beside types slice input) where
-  pub side-type : SomeTypeAt types (input .ty .start + 1)
-  side-type = first-due (omega arith) (due .stands .type-in)
+  pub first-prefix-due : SomePrefixAt slice (input .prefix .start + 1)
+  first-prefix-due = record { prefix = due .first-prefix; stands = prefix-stands }
 
-  pub side-prefix : SomePrefixAt slice (input .prefix .start + 1)
-  side-prefix = record { prefix = due .first-prefix; stands = beside-first-at (due .stands .prefix-in .stands) }
-
-  pub sides-found : {end stop : ℕ} → TypeEnds types (input .ty .start + 1) end → PrefixEnds slice (input .prefix .start + 1) stop
-      → HalvesAt types slice (cut-at input end stop) (due .first-type) (due .second-type) (due .first-prefix) (due .second-prefix)
-  unfolding side-prefix
-  sides-found ends stops =
-      let cut = beside-cut (stops .each (due .first-prefix) (side-prefix .stands)) (due .stands .prefix-in) in
-      let each = both-sides (due .stands .is-prefix) in
-      record {
-        first = record { type-in = first-in (omega arith) (due .stands .type-in) ends; prefix-in = cut .first; is-prefix = each .0 };
-        second = record { type-in = second-in (omega arith) (due .stands .type-in) ends; prefix-in = cut .second; is-prefix = each .1 };
-      }
-
--- A sequence of which the first part was crossed: that part is complete.
-
-record Crosses (t r : Ty) (p q : Prefix) : Type 0 where
-  is-first : IsPrefix t p
-  is-complete : Complete p
-  is-second : IsPrefix r q
-
-crosses : {t r : Ty} {p q : Prefix} → IsPrefix (seq t r) (crossed p q) → Crosses t r p q
-crosses (of-crossed h c k) = record { is-first = h; is-complete = c; is-second = k }
-
-module _ {types slice : List ℕ} {input : Input} (due : HalvesDue seq crossed types slice input) where
-  pub crossed-type : SomeTypeAt types (input .ty .start + 1)
-  crossed-type = first-due (omega arith) (due .stands .type-in)
-
-  how : Crosses (due .first-type) (due .second-type) (due .first-prefix) (due .second-prefix)
-  how = crosses (due .stands .is-prefix)
-
-  module _ {end : ℕ} (ends : TypeEnds types (input .ty .start + 1) end) where
-    part-in : TypeIn types (record { start = input .ty .start + 1; end = end }) (due .first-type)
-    part-in = first-in (omega arith) (due .stands .type-in) ends
-
-    pub crossed-due : CompleteAt types (input .ty .start + 1) end slice (input .prefix .start + 1)
-    crossed-due =
+  module _ {end stop : ℕ} (ends : TypeEnds types (input .ty .start + 1) end) (stops : PrefixEnds slice (input .prefix .start + 1) stop) where
+    pub halves-found : HalvesAt types slice (cut-at input end stop) (due .first-type) (due .second-type) (due .first-prefix) (due .second-prefix)
+    halves-found =
+        let each = each-part (due .pairing) (due .first-type) (due .second-type) (due .first-prefix) (due .second-prefix) (due .stands .is-prefix) in
+        let first-stops = stops .each (due .first-prefix) prefix-stands in
         record {
-          span = record { type = due .first-type; stands = part-in .stands; ends = part-in .ends };
-          prefix = due .first-prefix;
-          is-prefix = how .is-first;
-          is-complete = how .is-complete;
-          stands = crossed-first-at (due .stands .prefix-in .stands);
-        }
-
-    pub crossed-found : {stop : ℕ} → CompleteEnds types (input .ty .start + 1) end slice (input .prefix .start + 1) stop
-        → HalvesAt types slice (cut-at input end stop) (due .first-type) (due .second-type) (due .first-prefix) (due .second-prefix)
-    unfolding crossed-due
-    crossed-found stops =
-        let cut = crossed-cut (stops .each crossed-due) (due .stands .prefix-in) in
-        record {
-          first = record { type-in = part-in; prefix-in = cut .first; is-prefix = how .is-first };
-          second = record { type-in = second-in (omega arith) (due .stands .type-in) ends; prefix-in = cut .second; is-prefix = how .is-second };
+          first =
+              record {
+                type-in = record { stands = type-stands; ends = ends .each (due .first-type) type-stands };
+                prefix-in = record { stands = prefix-stands; ends = first-stops };
+                is-prefix = each .0;
+              };
+          second =
+              record {
+                type-in = second-type-in (due .first-type) (due .second-type) (due .pairing) (due .stands .type-in) ends;
+                prefix-in = second-prefix-in (due .first-prefix) (due .second-prefix) (due .pairing) (due .stands .prefix-in) first-stops;
+                is-prefix = each .1;
+              };
         }
 
 -- A sequence of which the first part is still coming.
@@ -135,9 +96,9 @@ coming-found ends at =
     record {
       first =
           record {
-            type-in = first-in (omega arith) (at .type-in) ends;
+            type-in = first-in (at .type-in) (omega arith) ends;
             prefix-in = record { stands = in-first-at (at .prefix-in .stands); ends = omega (arith, at .prefix-in .ends) };
             is-prefix = comes (at .is-prefix);
           };
-      second = second-in (omega arith) (at .type-in) ends;
+      second = second-in (at .type-in) (omega arith) ends;
     }

@@ -3,8 +3,8 @@ use mathlib.Core.List.{List}
 use Prim.Native.Nat.{ℕ, _+_}
 use mir.Val.{Fits}
 use mir.Syntax.{w64}
-use Rattle.stream.specs.Types.{Ty, seq}
-use Rattle.stream.specs.Prefixes.{Prefix, in-first, IsPrefix}
+use Rattle.stream.specs.Types.{Ty, seq, par}
+use Rattle.stream.specs.Prefixes.{Prefix, in-first, crossed, beside, IsPrefix}
 use Rattle.reading.specs.declared.inputs.Input.{Input}
 use Rattle.reading.specs.declared.inputs.Halves.{Halves}
 use Rattle.reading.specs.TypeReads.{TypeIn}
@@ -28,20 +28,33 @@ cut-at input end stop =
       second = record { ty = record { start = end; end = input .ty .end }; prefix = record { start = stop; end = input .prefix .end } };
     }
 
--- Two parts each: of a type by `joins`, of a prefix of it by `meets`.
-pub record HalvesDue (joins : Ty → Ty → Ty) (meets : Prefix → Prefix → Prefix) (types slice : List ℕ) (input : Input) : Type 0 where
+-- How two parts of a type, and of a prefix of it, make the whole: side by side, or in sequence with the first part crossed.
+pub data Pairing : Type 0 where
+  side-by-side : Pairing
+  first-crossed : Pairing
+
+abbrev pub joins : Pairing → Ty → Ty → Ty
+joins side-by-side = par
+joins first-crossed = seq
+
+abbrev pub meets : Pairing → Prefix → Prefix → Prefix
+meets side-by-side = beside
+meets first-crossed = crossed
+
+pub record HalvesDue (types slice : List ℕ) (input : Input) : Type 0 where
+  pub pairing : Pairing
   pub first-type : Ty
   pub second-type : Ty
   pub first-prefix : Prefix
   pub second-prefix : Prefix
-  pub stands : InputAt types slice input (joins first-type second-type) (meets first-prefix second-prefix)
+  pub stands : InputAt types slice input (joins pairing first-type second-type) (meets pairing first-prefix second-prefix)
 
 pub record HalvesAt (types slice : List ℕ) (halves : Halves) (t r : Ty) (p q : Prefix) : Type 0 where
   pub first : InputAt types slice (halves .first) t p
   pub second : InputAt types slice (halves .second) r q
 
-pub record HalvesFound (joins : Ty → Ty → Ty) (meets : Prefix → Prefix → Prefix) (types slice : List ℕ) (input : Input) (halves : Halves) : Type 0 where
-  pub each : (due : HalvesDue joins meets types slice input)
+pub record HalvesFound (types slice : List ℕ) (input : Input) (halves : Halves) : Type 0 where
+  pub each : (due : HalvesDue types slice input)
       → HalvesAt types slice halves (due .first-type) (due .second-type) (due .first-prefix) (due .second-prefix)
 
 -- A sequence whose first part is still coming: its prefix has one part.

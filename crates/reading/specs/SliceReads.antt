@@ -14,7 +14,7 @@ use Rattle.reading.specs.declared.prefixes.SliceRead.{SliceRead}
 use Rattle.reading.specs.declared.prefixes.SliceRead.the-variants.{Whole, Refused}
 use Rattle.stream.specs.Types.{Ty, size, type-limit}
 use Rattle.stream.specs.Levels.{value-width}
-use Rattle.stream.specs.Prefixes.{Prefix, nothing, cue-awaited, cue-come, level-awaited, level-come, in-first, crossed, beside, Complete, IsPrefix, derivative}
+use Rattle.stream.specs.Prefixes.{Prefix, nothing, cue-awaited, cue-come, level-awaited, level-come, in-first, crossed, beside, IsPrefix, derivative}
 use Rattle.stream.specs.Prefixes.Functions.{complete}
 use Rattle.stream.specs.Prefixes.Kinds.{root-width}
 use Rattle.stream.specs.Reading.{Reading, read, fault, Result, accepted, refused, tree}
@@ -75,26 +75,6 @@ pub record PrefixIn (bytes : List ℕ) (place : PrefixPlace) (p : Prefix) : Type
 -- `end` is where the prefix at `place` ends, whichever it is.
 pub record PrefixEnds (bytes : List ℕ) (place end : ℕ) : Type 0 where
   pub each : (p : Prefix) → PrefixAt bytes place p → end ≡ place + prefix-width p
-
--- A type stands from `at` to `end`; `wide` is how many bytes each of its complete prefixes has. A complete prefix of it stands
--- at `place`; `behind` is where that ends.
-pub record TypeSpans (types : List ℕ) (at end : ℕ) : Type 0 where
-  pub type : Ty
-  pub stands : TypeAt types at type
-  pub ends : end ≡ at + size type
-
-pub record CompleteWide (types : List ℕ) (at end wide : ℕ) : Type 0 where
-  pub each : (span : TypeSpans types at end) (p : Prefix) → IsPrefix (span .type) p → Complete p → wide ≡ prefix-width p
-
-pub record CompleteAt (types : List ℕ) (at end : ℕ) (slice : List ℕ) (place : ℕ) : Type 0 where
-  pub span : TypeSpans types at end
-  pub prefix : Prefix
-  pub is-prefix : IsPrefix (span .type) prefix
-  pub is-complete : Complete prefix
-  pub stands : PrefixAt slice place prefix
-
-pub record CompleteEnds (types : List ℕ) (at end : ℕ) (slice : List ℕ) (place behind : ℕ) : Type 0 where
-  pub each : (due : CompleteAt types at end slice place) → behind ≡ place + prefix-width (due .prefix)
 
 -- The kind of type that each kind of slice belongs to, by its number; the kinds that keep a slice from being complete.
 abbrev pub types-by-kind : List ℕ

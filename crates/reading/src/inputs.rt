@@ -1,13 +1,10 @@
 // A type and a prefix of it, each with where it ends: what a node is fed. Whoever has the whole knows where its last part ends, so that
 // only the ends between parts are looked for.
 use crate::prefixes::PrefixPlace;
-use crate::prefixes::skip_complete;
 use crate::prefixes::skip_prefix;
 use crate::types::TypePlace;
 use crate::types::skip_type;
 ghost use mathlib.Core.Path.{_≡_};
-ghost use Rattle.stream.specs.Types.{seq, par};
-ghost use Rattle.stream.specs.Prefixes.{crossed, beside};
 ghost use Rattle.reading.specs.Inputs.{CutDue, cut-at, HalvesDue, HalvesFound, ComingDue, ComingFound};
 
 pub struct Input {
@@ -47,24 +44,14 @@ fn cut(input: Input, end: usize, stop: usize) -> Halves
     }
 }
 
-// The two sides, of a type of the kind 4.
-pub fn sides(types: &[u8], slice: &[u8], input: Input) -> Halves
-    requires { ⌜ HalvesDue par beside (now types) (now slice) input ⌝ }
-    ensures { λ r. ⌜ HalvesFound par beside (now (types .entry)) (now (slice .entry)) input r ⌝ }
+// The two parts: of a type of the kind 4, or of a sequence of which the first part was crossed. Where the first part of the slice ends is
+// found by the slice: how long a complete one is does not follow from its type.
+pub fn halve(types: &[u8], slice: &[u8], input: Input) -> Halves
+    requires { ⌜ HalvesDue (now types) (now slice) input ⌝ }
+    ensures { λ r. ⌜ HalvesFound (now (types .entry)) (now (slice .entry)) input r ⌝ }
 {
     let end = skip_type(types, input.ty.start + 1);
     let stop = skip_prefix(slice, input.prefix.start + 1);
-    cut(input, end, stop)
-}
-
-// The two parts of a sequence of which the first was crossed.
-pub fn crossed_parts(types: &[u8], slice: &[u8], input: Input) -> Halves
-    requires { ⌜ HalvesDue seq crossed (now types) (now slice) input ⌝ }
-    ensures { λ r. ⌜ HalvesFound seq crossed (now (types .entry)) (now (slice .entry)) input r ⌝ }
-{
-    let first = input.ty.start + 1;
-    let end = skip_type(types, first);
-    let stop = skip_complete(types, first, end, slice, input.prefix.start + 1);
     cut(input, end, stop)
 }
 

@@ -4,7 +4,7 @@ ghost use mathlib.Core.Path.{_≡_};
 ghost use Prim.Native.Nat.{_+_, _<_};
 ghost use Rattle.stream.specs.Types.{type-limit};
 ghost use Rattle.stream.specs.Prefixes.Kinds.{prefix-arity, root-width};
-ghost use Rattle.reading.specs.SliceReads.{type-kind-of, is-unfinished, belongs-at, first-complete, SomePrefixAt, PrefixEnds, TypeSpans, CompleteWide, CompleteAt, CompleteEnds, first-known, crossed-known, both-known, combined, SumsFit};
+ghost use Rattle.reading.specs.SliceReads.{type-kind-of, is-unfinished, belongs-at, first-complete, SomePrefixAt, PrefixEnds, first-known, crossed-known, both-known, combined, SumsFit};
 
 // No slice file is longer: the count, a byte for each of 255 nodes, and two for each of at most 128 levels.
 pub const MAX_SLICE_FILE: usize = 513;
@@ -147,30 +147,6 @@ pub fn skip_prefix(slice: &[u8], place: usize) -> usize
         }
     }
     end
-}
-
-// How many bytes every complete prefix has of the type from `at` to `end`: one for each of its nodes, and the value of each
-// level. The levels are counted in a byte, of which a processor counts many in one turn.
-fn complete_width(types: &[u8], at: usize, end: usize) -> usize
-    requires { ⌜ TypeSpans (now types) at end ⌝ }
-    ensures { λ r. ⌜ CompleteWide (now (types .entry)) at end r ⌝ }
-{
-    let mut levels: u8 = 0;
-    let mut next = at;
-    while next < end {
-        levels += (types[next] == 2) as u8;
-        next += 1;
-    }
-    end - at + VALUE_WIDTH * levels as usize
-}
-
-// Where the complete prefix at `place` ends, of the type from `at` to `end`; so what stands behind a crossed first part is found
-// here alone. Its width is found by the type, which takes fewer turns than going through the slice.
-pub fn skip_complete(types: &[u8], at: usize, end: usize, slice: &[u8], place: usize) -> usize
-    requires { ⌜ CompleteAt (now types) at end (now slice) place ⌝ }
-    ensures { λ r. ⌜ CompleteEnds (now (types .entry)) at end (now (slice .entry)) place r ⌝ }
-{
-    place + complete_width(types, at, end)
 }
 
 // Of a sequence whose first part is still coming, from that part and from the size `second` of the second part's type.
