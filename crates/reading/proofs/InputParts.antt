@@ -4,16 +4,18 @@ use mathlib.Core.Path.{_≡_}
 use mathlib.Core.List.{List}
 use Prim.Native.Nat.{ℕ, _+_, _≤_}
 use native.Mathlib.Omega.{arith}
-use Rattle.stream.specs.Types.{Ty, seq, kind}
-use Rattle.stream.specs.Prefixes.{Prefix, in-first, IsPrefix, of-first, of-crossed, of-beside}
+use lib.ListN.{getD}
+use Rattle.stream.specs.Types.{Ty, seq, either, kind}
+use Rattle.stream.specs.Prefixes.{Prefix, in-first, first-chosen, second-chosen, IsPrefix, of-first, of-crossed, of-beside, of-first-chosen, of-second-chosen}
 use Rattle.reading.specs.declared.types.TypePlace.{TypePlace}
 use Rattle.reading.specs.declared.prefixes.PrefixPlace.{PrefixPlace}
 use Rattle.reading.specs.declared.inputs.Input.{Input}
+use Rattle.reading.specs.declared.inputs.Choice.{Choice}
 use Rattle.reading.specs.TypeReads.{TypeAt, SomeTypeAt, TypeIn, TypeEnds}
 use Rattle.reading.specs.TypeReads.Laws.{first-at, first-in, second-in}
 use Rattle.reading.specs.SliceReads.{prefix-width, PrefixAt, SomePrefixAt, PrefixIn, PrefixEnds}
-use Rattle.reading.specs.SliceReads.Laws.{in-first-at, crossed-first-at, crossed-second-at, beside-first-at, beside-second-at}
-use Rattle.reading.specs.Inputs.{InputAt, cut-at, Pairing, side-by-side, first-crossed, joins, meets, HalvesDue, HalvesAt, ComingAt}
+use Rattle.reading.specs.SliceReads.Laws.{kind-at, in-first-at, first-chosen-at, second-chosen-at, crossed-first-at, crossed-second-at, beside-first-at, beside-second-at}
+use Rattle.reading.specs.Inputs.{InputAt, cut-at, Pairing, side-by-side, first-crossed, joins, meets, HalvesDue, HalvesAt, ComingAt, ChosenAt, ChoiceFound}
 
 -- Of a type with two parts.
 pub first-due : {types : List ℕ} {place : TypePlace} {t : Ty} → 3 ≤ kind t → TypeIn types place t → SomeTypeAt types (place .start + 1)
@@ -102,3 +104,67 @@ coming-found ends at =
           };
       second = second-in (at .type-in) (omega arith) ends;
     }
+
+-- Either, of which one part was chosen.
+
+first-inside : {t r : Ty} {p : Prefix} → IsPrefix (either t r) (first-chosen p) → IsPrefix t p
+first-inside (of-first-chosen h) = h
+
+second-inside : {t r : Ty} {p : Prefix} → IsPrefix (either t r) (second-chosen p) → IsPrefix r p
+second-inside (of-second-chosen h) = h
+
+-- The parts of the type meet at `end`; the prefix of the chosen one stands behind the mark.
+
+abbrev choice-of : Input → (part other : TypePlace) → Choice
+choice-of input part other =
+    record { part = record { ty = part; prefix = record { start = input .prefix .start + 1; end = input .prefix .end } }; other = other }
+
+abbrev first-choice : Input → (end : ℕ) → Choice
+first-choice input end = choice-of input (record { start = input .ty .start + 1; end = end }) (record { start = end; end = input .ty .end })
+
+abbrev second-choice : Input → (end : ℕ) → Choice
+second-choice input end = choice-of input (record { start = end; end = input .ty .end }) (record { start = input .ty .start + 1; end = end })
+
+module _ {types slice : List ℕ} {input : Input} {end : ℕ} (ends : TypeEnds types (input .ty .start + 1) end) where
+  -- The mark tells which; the other mark does not stand there.
+  pub first-found : getD slice (input .prefix .start) 0 ≡ 9 → ChoiceFound types slice input (first-choice input end)
+  unfolding prefix-width
+  first-found nine =
+      record {
+        first = λ t r p at. found at;
+        second = λ t r p at. absurd (omega (arith, nine, kind-at (at .prefix-in .stands)));
+      }
+    where
+      found : {t r : Ty} {p : Prefix} → InputAt types slice input (either t r) (first-chosen p)
+          → ChosenAt types slice (first-choice input end) t r p
+      found at =
+          record {
+            part =
+                record {
+                  type-in = first-in (at .type-in) (omega arith) ends;
+                  prefix-in = record { stands = first-chosen-at (at .prefix-in .stands); ends = omega (arith, at .prefix-in .ends) };
+                  is-prefix = first-inside (at .is-prefix);
+                };
+            other = second-in (at .type-in) (omega arith) ends;
+          }
+
+  pub second-found : (getD slice (input .prefix .start) 0 ≡ 9 → ⊥) → ChoiceFound types slice input (second-choice input end)
+  unfolding prefix-width
+  second-found other =
+      record {
+        first = λ t r p at. absurd (other (kind-at (at .prefix-in .stands)));
+        second = λ t r p at. found at;
+      }
+    where
+      found : {t r : Ty} {p : Prefix} → InputAt types slice input (either t r) (second-chosen p)
+          → ChosenAt types slice (second-choice input end) r t p
+      found at =
+          record {
+            part =
+                record {
+                  type-in = second-in (at .type-in) (omega arith) ends;
+                  prefix-in = record { stands = second-chosen-at (at .prefix-in .stands); ends = omega (arith, at .prefix-in .ends) };
+                  is-prefix = second-inside (at .is-prefix);
+                };
+            other = first-in (at .type-in) (omega arith) ends;
+          }

@@ -8,7 +8,7 @@ use native.Mathlib.Omega.{arith}
 use lib.ListN.{length, getD, drop, length-append}
 use lib.Seq.{drop-drop}
 use Rattle.stream.specs.Levels.{value-width}
-use Rattle.stream.specs.Prefixes.{Prefix, nothing, cue-awaited, cue-come, level-awaited, level-come, in-first, crossed, beside}
+use Rattle.stream.specs.Prefixes.{Prefix, nothing, cue-awaited, cue-come, level-awaited, level-come, in-first, crossed, beside, none-chosen, first-chosen, second-chosen}
 use Rattle.stream.specs.Reading.Laws.{_&_, past, every}
 use Rattle.stream.specs.Prefixes.Kinds.{prefix-kind, prefix-arity, root-widths, root-width, prefix-parts, prefix-parts-many, tally, tallies, totals, tallies-append, tally-by-parts}
 use Rattle.stream.specs.SliceFiles.{prefix-bytes}
@@ -40,6 +40,9 @@ behind-root (level-come v) r = behind-prefix (level-come v) r
 behind-root (in-first p) r = refl
 behind-root (crossed b q) r = refl
 behind-root (beside p q) r = refl
+behind-root none-chosen r = refl
+behind-root (first-chosen p) r = refl
+behind-root (second-chosen p) r = refl
 
 -- On the way through the prefix p at `place`: the nodes of the kinds `passed` have been passed, and `owed` prefixes are ahead, the
 -- first of them at `end`.
@@ -109,7 +112,18 @@ level-wide k e = rw e
 pub other-wide : (k : ℕ) → (k ≡ 4 → ⊥) → root-width k ≡ 1
 other-wide =
     every (λ k w. (k ≡ 4 → ⊥) → w ≡ 1) 1 root-widths
-    ((λ h. refl) & (λ h. refl) & (λ h. refl) & (λ h. refl) & (λ h. absurd (h refl)) & (λ h. refl) & (λ h. refl) & (λ h. refl) & past (λ k l h. refl))
+    ((λ h. refl)
+    & (λ h. refl)
+    & (λ h. refl)
+    & (λ h. refl)
+    & (λ h. absurd (h refl))
+    & (λ h. refl)
+    & (λ h. refl)
+    & (λ h. refl)
+    & (λ h. refl)
+    & (λ h. refl)
+    & (λ h. refl)
+    & past (λ k l h. refl))
 
 pub parts-wide : (k : ℕ) → (prefix-arity k ≡ 0 → ⊥) → root-width k ≡ 1
 parts-wide k h = other-wide k (λ e. h (ap prefix-arity e))

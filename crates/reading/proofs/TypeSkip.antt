@@ -8,7 +8,7 @@ use Prim.Native.Nat.{ℕ, _+_, _*_, _/_, _-_, _≤_, _<_}
 use native.Mathlib.Omega.{arith}
 use lib.ListN.{length, getD, drop, length-drop, length-append}
 use lib.Seq.{drop-cons, drop-drop}
-use Rattle.stream.specs.Types.{Ty, empty, cue, level, seq, par, nullable, size, type-limit, kind}
+use Rattle.stream.specs.Types.{Ty, empty, cue, level, seq, par, either, nullable, size, type-limit, kind}
 use Rattle.stream.specs.Types.Laws.{size-positive}
 use Rattle.stream.specs.TypeFiles.{type-bytes}
 use Rattle.stream.specs.TypeFiles.Laws.{type-length}
@@ -46,6 +46,7 @@ apart cue r = refl
 apart level r = refl
 apart (seq s t) r = refl
 apart (par s t) r = refl
+apart (either s t) r = refl
 
 -- At `end`, `owed` types are still to be passed, and behind them the type at `at` ends.
 pub record Passing (bytes : List ℕ) (at owed end : ℕ) : Type 0 where
@@ -160,6 +161,7 @@ by-parts cue h = absurd (⊎-elim (λ e. omega arith) (λ e. omega arith) h)
 by-parts level h = absurd (⊎-elim (λ e. omega arith) (λ e. omega arith) h)
 by-parts (seq s t) h = absurd (⊎-elim (λ e. omega arith) (λ e. omega arith) h)
 by-parts (par s t) h = ap (λ b. nullable s && b) (sym (and-true (nullable t)))
+by-parts (either s t) h = absurd (⊎-elim (λ e. omega arith) (λ e. omega arith) h)
 
 not-nullable : (t : Ty) → (kind t ≡ 0 → ⊥) → (kind t ≡ 4 → ⊥) → nullable t ≡ false
 unfolding nullable
@@ -168,6 +170,7 @@ not-nullable cue h k = refl
 not-nullable level h k = refl
 not-nullable (seq s t) h k = refl
 not-nullable (par s t) h k = absurd (k refl)
+not-nullable (either s t) h k = refl
 
 -- While only kinds 0 and 4 are passed, the type at `at` is nullable if the types still to be passed are.
 pub record Nullables (bytes : List ℕ) (at owed end : ℕ) : Type 0 where

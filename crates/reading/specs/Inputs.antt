@@ -1,12 +1,14 @@
 -- A type and a prefix of it in their bytes, and the parts of both: contracts inside the library, which no demand rests on.
 use mathlib.Core.List.{List}
+use mathlib.Core.Path.{_≡_}
 use Prim.Native.Nat.{ℕ, _+_}
 use mir.Val.{Fits}
 use mir.Syntax.{w64}
-use Rattle.stream.specs.Types.{Ty, seq, par}
-use Rattle.stream.specs.Prefixes.{Prefix, in-first, crossed, beside, IsPrefix}
+use Rattle.stream.specs.Types.{Ty, seq, par, either, kind}
+use Rattle.stream.specs.Prefixes.{Prefix, in-first, crossed, beside, first-chosen, second-chosen, IsPrefix}
 use Rattle.reading.specs.declared.inputs.Input.{Input}
 use Rattle.reading.specs.declared.inputs.Halves.{Halves}
+use Rattle.reading.specs.declared.inputs.Choice.{Choice}
 use Rattle.reading.specs.TypeReads.{TypeIn}
 use Rattle.reading.specs.SliceReads.{PrefixIn}
 pub mod Laws
@@ -70,3 +72,19 @@ pub record ComingAt (types slice : List ℕ) (input part : Input) (t r : Ty) (p 
 
 pub record ComingFound (types : List ℕ) (input part : Input) : Type 0 where
   pub each : (slice : List ℕ) (t r : Ty) (p : Prefix) → InputAt types slice input (seq t r) (in-first p) → ComingAt types slice input part t r p
+
+-- Either, of which one part may be chosen: its prefix has one part, behind the mark.
+pub record ChoiceDue (types slice : List ℕ) (input : Input) : Type 0 where
+  pub type : Ty
+  pub prefix : Prefix
+  pub stands : InputAt types slice input type prefix
+  pub is-either : kind type ≡ 5
+
+-- t was chosen, of which p has come; r is the other part.
+pub record ChosenAt (types slice : List ℕ) (choice : Choice) (t r : Ty) (p : Prefix) : Type 0 where
+  pub part : InputAt types slice (choice .part) t p
+  pub other : TypeIn types (choice .other) r
+
+pub record ChoiceFound (types slice : List ℕ) (input : Input) (choice : Choice) : Type 0 where
+  pub first : (t r : Ty) (p : Prefix) → InputAt types slice input (either t r) (first-chosen p) → ChosenAt types slice choice t r p
+  pub second : (t r : Ty) (p : Prefix) → InputAt types slice input (either t r) (second-chosen p) → ChosenAt types slice choice r t p

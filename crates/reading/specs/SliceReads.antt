@@ -14,7 +14,7 @@ use Rattle.reading.specs.declared.prefixes.SliceRead.{SliceRead}
 use Rattle.reading.specs.declared.prefixes.SliceRead.the-variants.{Whole, Refused}
 use Rattle.stream.specs.Types.{Ty, size, type-limit}
 use Rattle.stream.specs.Levels.{value-width}
-use Rattle.stream.specs.Prefixes.{Prefix, nothing, cue-awaited, cue-come, level-awaited, level-come, in-first, crossed, beside, IsPrefix, derivative}
+use Rattle.stream.specs.Prefixes.{Prefix, nothing, cue-awaited, cue-come, level-awaited, level-come, in-first, crossed, beside, none-chosen, first-chosen, second-chosen, IsPrefix, derivative}
 use Rattle.stream.specs.Prefixes.Functions.{complete}
 use Rattle.stream.specs.Prefixes.Kinds.{root-width}
 use Rattle.stream.specs.Reading.{Reading, read, fault, Result, accepted, refused, tree}
@@ -33,9 +33,12 @@ prefix-width (level-come v) = suc value-width
 prefix-width (in-first p) = suc (prefix-width p)
 prefix-width (crossed b q) = suc (prefix-width b + prefix-width q)
 prefix-width (beside p q) = suc (prefix-width p + prefix-width q)
+prefix-width none-chosen = 1
+prefix-width (first-chosen p) = suc (prefix-width p)
+prefix-width (second-chosen p) = suc (prefix-width p)
 
 -- How many bytes a join with a later prefix is shorter than the two: each node that is not in a crossed first part, and is
--- not itself a crossing, meets one of the later prefix, and one of the two is written.
+-- not itself a crossing or the mark of a choice, meets one of the later prefix, and one of the two is written.
 unfoldable pub overlap : Prefix → ℕ
 overlap nothing = 1
 overlap cue-awaited = 1
@@ -45,6 +48,9 @@ overlap (level-come v) = 1
 overlap (in-first p) = suc (overlap p)
 overlap (crossed b q) = overlap q
 overlap (beside p q) = suc (overlap p + overlap q)
+overlap none-chosen = 1
+overlap (first-chosen p) = overlap p
+overlap (second-chosen p) = overlap p
 
 -- What is known of a prefix of t.
 unfoldable pub known : Ty → Prefix → Known
@@ -78,13 +84,13 @@ pub record PrefixEnds (bytes : List ℕ) (place end : ℕ) : Type 0 where
 
 -- The kind of type that each kind of slice belongs to, by its number; the kinds that keep a slice from being complete.
 abbrev pub types-by-kind : List ℕ
-types-by-kind = 0 ∷ 1 ∷ 1 ∷ 2 ∷ 2 ∷ 3 ∷ 3 ∷ 4 ∷ []
+types-by-kind = 0 ∷ 1 ∷ 1 ∷ 2 ∷ 2 ∷ 3 ∷ 3 ∷ 4 ∷ 5 ∷ 5 ∷ 5 ∷ []
 
 abbrev pub type-kind-of : ℕ → ℕ
 type-kind-of k = getD types-by-kind k 4
 
 abbrev pub unfinished-by-kind : List Bool
-unfinished-by-kind = false ∷ true ∷ false ∷ true ∷ false ∷ true ∷ false ∷ false ∷ []
+unfinished-by-kind = false ∷ true ∷ false ∷ true ∷ false ∷ true ∷ false ∷ false ∷ true ∷ false ∷ false ∷ []
 
 abbrev pub is-unfinished : ℕ → Bool
 is-unfinished k = getD unfinished-by-kind k false
@@ -92,9 +98,9 @@ is-unfinished k = getD unfinished-by-kind k false
 abbrev pub belongs-at : ℕ → ℕ → Bool → Bool
 belongs-at type-kind k must-complete = eqb type-kind (type-kind-of k) && not (must-complete && is-unfinished k)
 
--- Whether the first part under a kind has to be complete; the kinds 0 to 4 have no parts.
+-- Whether the first part under a kind has to be complete; the kinds 0 to 4 and 8 have no parts.
 abbrev pub first-complete-by-kind : Bool → List Bool
-first-complete-by-kind c = c ∷ c ∷ c ∷ c ∷ c ∷ false ∷ true ∷ c ∷ []
+first-complete-by-kind c = c ∷ c ∷ c ∷ c ∷ c ∷ false ∷ true ∷ c ∷ c ∷ c ∷ c ∷ []
 
 abbrev pub first-complete : ℕ → Bool → Bool
 first-complete k c = getD (first-complete-by-kind c) k c
@@ -134,6 +140,11 @@ both-known first second =
 abbrev pub combined : (Known → Known → Known) → Known → Walk → Walk
 combined both first (Past type-end prefix-end second) = Past type-end prefix-end (both first second)
 combined both first (Failed e) = Failed e
+
+-- A choice is known as its part is. The walk through it ends where both parts of the type do, from how it ends through the part.
+abbrev pub behind-both : (type-end : ℕ) → Walk → Walk
+behind-both type-end (Past part-end prefix-end part) = Past type-end prefix-end part
+behind-both type-end (Failed e) = Failed e
 
 abbrev pub SumsFit : Known → Walk → Type 0
 SumsFit first (Past type-end prefix-end second) = (first .remains + second .remains < type-limit) × (first .overlap + second .overlap < type-limit)

@@ -5,7 +5,7 @@ use crate::prefixes::skip_prefix;
 use crate::types::TypePlace;
 use crate::types::skip_type;
 ghost use mathlib.Core.Path.{_≡_};
-ghost use Rattle.reading.specs.Inputs.{CutDue, cut-at, HalvesDue, HalvesFound, ComingDue, ComingFound};
+ghost use Rattle.reading.specs.Inputs.{CutDue, cut-at, HalvesDue, HalvesFound, ComingDue, ComingFound, ChoiceDue, ChoiceFound};
 
 pub struct Input {
     pub ty: TypePlace,
@@ -66,4 +66,33 @@ pub fn coming_part(types: &[u8], input: Input) -> Input
         TypePlace::new(first, end),
         PrefixPlace::new(input.prefix.start + 1, input.prefix.end),
     )
+}
+
+// What was chosen of a type of the kind 5, with the prefix of it, and the part that was not.
+pub struct Choice {
+    pub part: Input,
+    pub other: TypePlace,
+}
+
+// The chosen part, behind the mark 9 or 10. While none is chosen the answer means nothing.
+pub fn chosen_part(types: &[u8], slice: &[u8], input: Input) -> Choice
+    requires { ⌜ ChoiceDue (now types) (now slice) input ⌝ }
+    ensures { λ r. ⌜ ChoiceFound (now (types .entry)) (now (slice .entry)) input r ⌝ }
+{
+    let start = input.ty.start + 1;
+    let end = skip_type(types, start);
+    let first = TypePlace::new(start, end);
+    let second = TypePlace::new(end, input.ty.end);
+    let mark = input.prefix.start;
+    let prefix = PrefixPlace::new(mark + 1, input.prefix.end);
+    if slice[mark] == 9 {
+        return Choice {
+            part: Input::new(first, prefix),
+            other: second,
+        };
+    }
+    Choice {
+        part: Input::new(second, prefix),
+        other: first,
+    }
 }

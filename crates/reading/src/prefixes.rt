@@ -62,8 +62,11 @@ pub fn type_kind_of(kind: u8) -> u8
         5 => 3,
         6 => 3,
         7 => 4,
+        8 => 5,
+        9 => 5,
+        10 => 5,
         // No slice's kind.
-        8..=255 => 4,
+        11..=255 => 4,
     }
 }
 
@@ -79,8 +82,10 @@ pub fn is_unfinished(kind: u8) -> bool
         4 => false,
         5 => true,
         6..=7 => false,
+        8 => true,
+        9..=10 => false,
         // No slice's kind.
-        8..=255 => false,
+        11..=255 => false,
     }
 }
 
@@ -92,8 +97,10 @@ pub fn prefix_arity(kind: u8) -> usize
         0..=4 => 0,
         5 => 1,
         6..=7 => 2,
+        8 => 0,
+        9..=10 => 1,
         // No slice's kind.
-        8..=255 => 2,
+        11..=255 => 2,
     }
 }
 
@@ -104,9 +111,9 @@ pub fn root_width(kind: u8) -> usize
     match kind {
         0..=3 => 1,
         4 => 1 + VALUE_WIDTH,
-        5..=7 => 1,
+        5..=10 => 1,
         // No slice's kind.
-        8..=255 => 1,
+        11..=255 => 1,
     }
 }
 
@@ -210,7 +217,10 @@ pub fn first_complete(kind: u8, complete: bool) -> bool
         5 => false,
         6 => true,
         7 => complete,
+        // A kind without parts.
+        8 => complete,
+        9..=10 => complete,
         // No slice's kind.
-        8..=255 => complete,
+        11..=255 => complete,
     }
 }

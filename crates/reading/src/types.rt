@@ -37,9 +37,9 @@ fn type_arity(kind: u8) -> usize
 {
     match kind {
         0..=2 => 0,
-        3..=4 => 2,
+        3..=5 => 2,
         // No type's kind.
-        5..=255 => 2,
+        6..=255 => 2,
     }
 }
 
@@ -58,7 +58,7 @@ pub fn type_end(bytes: &[u8]) -> TreeEnd
             return TreeEnd::Failed(Fault::CutShort);
         }
         let kind = bytes[at];
-        if 4 < kind {
+        if 5 < kind {
             return TreeEnd::Failed(Fault::Unlisted);
         }
         owed = owed - 1 + type_arity(kind);

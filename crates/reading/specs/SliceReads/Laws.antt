@@ -8,7 +8,7 @@ use lib.ListN.{length, getD, take, drop, length-drop}
 use lib.Seq.{drop-drop, getD-drop, take-at}
 use Rattle.stream.specs.Types.{Ty}
 use Rattle.stream.specs.Levels.Laws.{value-length, value-append, value-behind}
-use Rattle.stream.specs.Prefixes.{Prefix, nothing, cue-awaited, cue-come, level-awaited, level-come, in-first, crossed, beside, IsPrefix, of-empty, of-cue-awaited, of-cue-come, of-level-awaited, of-level-come, of-first, of-crossed, of-beside, derivative}
+use Rattle.stream.specs.Prefixes.{Prefix, nothing, cue-awaited, cue-come, level-awaited, level-come, in-first, crossed, beside, none-chosen, first-chosen, second-chosen, IsPrefix, of-empty, of-cue-awaited, of-cue-come, of-level-awaited, of-level-come, of-first, of-crossed, of-beside, of-none-chosen, of-first-chosen, of-second-chosen, derivative}
 use Rattle.stream.specs.Prefixes.Functions.{concat}
 use Rattle.stream.specs.Reading.Laws.{_&_, past, every}
 use Rattle.stream.specs.SliceFiles.{prefix-bytes}
@@ -27,6 +27,9 @@ prefix-bytes-length (level-come v) r = omega (arith, value-length v r)
 prefix-bytes-length (in-first p) r = omega (arith, prefix-bytes-length p r)
 prefix-bytes-length (crossed b q) r = omega (arith, prefix-bytes-length b (prefix-bytes q r), prefix-bytes-length q r)
 prefix-bytes-length (beside p q) r = omega (arith, prefix-bytes-length p (prefix-bytes q r), prefix-bytes-length q r)
+prefix-bytes-length none-chosen r = omega arith
+prefix-bytes-length (first-chosen p) r = omega (arith, prefix-bytes-length p r)
+prefix-bytes-length (second-chosen p) r = omega (arith, prefix-bytes-length p r)
 
 pub width-positive : (p : Prefix) → 1 ≤ prefix-width p
 unfolding prefix-width
@@ -38,6 +41,9 @@ width-positive (level-come v) = omega arith
 width-positive (in-first p) = omega arith
 width-positive (crossed b q) = omega arith
 width-positive (beside p q) = omega arith
+width-positive none-chosen = omega arith
+width-positive (first-chosen p) = omega arith
+width-positive (second-chosen p) = omega arith
 
 -- The width of a prefix is the tally of the widths of its roots.
 pub width-tally : (p : Prefix) → prefix-width p ≡ tally root-width p
@@ -50,6 +56,9 @@ width-tally (level-come v) = refl
 width-tally (in-first p) = omega (arith, width-tally p)
 width-tally (crossed b q) = omega (arith, width-tally b, width-tally q)
 width-tally (beside p q) = omega (arith, width-tally p, width-tally q)
+width-tally none-chosen = refl
+width-tally (first-chosen p) = omega (arith, width-tally p)
+width-tally (second-chosen p) = omega (arith, width-tally p)
 
 pub overlap-within : (p : Prefix) → overlap p ≤ prefix-width p
 unfolding prefix-width overlap
@@ -61,11 +70,25 @@ overlap-within (level-come v) = omega arith
 overlap-within (in-first p) = omega (arith, overlap-within p)
 overlap-within (crossed b q) = omega (arith, overlap-within q)
 overlap-within (beside p q) = omega (arith, overlap-within p, overlap-within q)
+overlap-within none-chosen = omega arith
+overlap-within (first-chosen p) = omega (arith, overlap-within p)
+overlap-within (second-chosen p) = omega (arith, overlap-within p)
 
 pub root-positive : (k : ℕ) → 1 ≤ root-width k
 root-positive =
     every (λ k w. 1 ≤ w) 1 _
-    (omega arith & omega arith & omega arith & omega arith & omega arith & omega arith & omega arith & omega arith & past (λ k h. omega arith))
+    (omega arith
+    & omega arith
+    & omega arith
+    & omega arith
+    & omega arith
+    & omega arith
+    & omega arith
+    & omega arith
+    & omega arith
+    & omega arith
+    & omega arith
+    & past (λ k h. omega arith))
 
 -- A join is shorter than the two by the overlap of the first.
 pub concat-width : {t : Ty} {p : Prefix} (q : Prefix) → IsPrefix t p → IsPrefix (derivative t p) q
@@ -80,6 +103,9 @@ concat-width q (of-first h) (of-first k) = omega (arith, concat-width _ h k)
 concat-width q (of-first h) (of-crossed i d k) = omega (arith, concat-width _ h i)
 concat-width q (of-crossed h d i) k = omega (arith, concat-width q i k)
 concat-width q (of-beside h i) (of-beside k l) = omega (arith, concat-width _ h k, concat-width _ i l)
+concat-width q of-none-chosen k = omega arith
+concat-width q (of-first-chosen h) k = omega (arith, concat-width q h k)
+concat-width q (of-second-chosen h) k = omega (arith, concat-width q h k)
 
 -- What stands behind a prefix
 
@@ -93,6 +119,9 @@ behind-prefix (level-come v) r = value-behind v r
 behind-prefix (in-first p) r = behind-prefix p r
 behind-prefix (crossed b q) r = rw (← drop-drop, behind-prefix b (prefix-bytes q r)) (behind-prefix q r)
 behind-prefix (beside p q) r = rw (← drop-drop, behind-prefix p (prefix-bytes q r)) (behind-prefix q r)
+behind-prefix none-chosen r = refl
+behind-prefix (first-chosen p) r = behind-prefix p r
+behind-prefix (second-chosen p) r = behind-prefix p r
 
 prefix-append : (p : Prefix) (r s : List ℕ) → prefix-bytes p (r ++ s) ≡ prefix-bytes p r ++ s
 unfolding prefix-bytes
@@ -106,6 +135,9 @@ prefix-append (crossed b q) r s =
     ap (λ l. 6 ∷ l) (ap (prefix-bytes b) (prefix-append q r s) ∙ prefix-append b (prefix-bytes q r) s)
 prefix-append (beside p q) r s =
     ap (λ l. 7 ∷ l) (ap (prefix-bytes p) (prefix-append q r s) ∙ prefix-append p (prefix-bytes q r) s)
+prefix-append none-chosen r s = refl
+prefix-append (first-chosen p) r s = ap (λ l. 9 ∷ l) (prefix-append p r s)
+prefix-append (second-chosen p) r s = ap (λ l. 10 ∷ l) (prefix-append p r s)
 
 pub prefix-before : (p : Prefix) (r : List ℕ) → prefix-bytes p r ≡ prefix-bytes p [] ++ r
 prefix-before p r = prefix-append p [] r
@@ -122,6 +154,9 @@ kind-first (level-come v) r = refl
 kind-first (in-first p) r = refl
 kind-first (crossed b q) r = refl
 kind-first (beside p q) r = refl
+kind-first none-chosen r = refl
+kind-first (first-chosen p) r = refl
+kind-first (second-chosen p) r = refl
 
 -- Some bytes further on.
 hop : (bytes : List ℕ) (place n : ℕ) {x r : List ℕ} {end : ℕ} → drop place bytes ≡ x → drop n x ≡ r → end ≡ place + n → drop end bytes ≡ r
@@ -149,6 +184,14 @@ module _ {bytes : List ℕ} {place : ℕ} where
   pub in-first-at : {p : Prefix} → PrefixAt bytes place (in-first p) → PrefixAt bytes (place + 1) p
   unfolding prefix-bytes
   in-first-at s = record { rest = s .rest; here = behind-kind bytes place (s .here) }
+
+  pub first-chosen-at : {p : Prefix} → PrefixAt bytes place (first-chosen p) → PrefixAt bytes (place + 1) p
+  unfolding prefix-bytes
+  first-chosen-at s = record { rest = s .rest; here = behind-kind bytes place (s .here) }
+
+  pub second-chosen-at : {p : Prefix} → PrefixAt bytes place (second-chosen p) → PrefixAt bytes (place + 1) p
+  unfolding prefix-bytes
+  second-chosen-at s = record { rest = s .rest; here = behind-kind bytes place (s .here) }
 
   pub crossed-first-at : {b q : Prefix} → PrefixAt bytes place (crossed b q) → PrefixAt bytes (place + 1) b
   unfolding prefix-bytes

@@ -9,7 +9,7 @@ use lib.ListN.{length, getD, take, drop, length-drop}
 use lib.Seq.{getD-drop, drop-drop, take-at, length-take-le}
 use Rattle.stream.specs.declared.Fault.the-variants.{Unlisted, TypeTooLarge}
 use Rattle.reading.specs.declared.sections.TreeEnd.the-variants.{At}
-use Rattle.stream.specs.Types.{Ty, empty, cue, level, seq, par, nullable, size, kind, first-part, second-part, type-limit}
+use Rattle.stream.specs.Types.{Ty, empty, cue, level, seq, par, either, nullable, size, kind, first-part, second-part, type-limit}
 use Rattle.stream.specs.Types.Laws.{size-positive}
 use Rattle.stream.specs.Reading.{Bytes, read, fault}
 use Rattle.stream.specs.Reading.Laws.{bytes-drop, bytes-take, _&_, past, every}
@@ -25,16 +25,16 @@ use Rattle.reading.specs.TypeReads.{TypeAt, TypeIn, TypeEnds, nullable-e
 
 -- No kind has more than two parts, and parts come in pairs.
 pub arity-small : (k : ℕ) → type-arity k ≤ 2
-arity-small = every (λ k n. n ≤ 2) 2 _ (omega arith & omega arith & omega arith & omega arith & omega arith & past (λ k h. omega arith))
+arity-small = every (λ k n. n ≤ 2) 2 _ (omega arith & omega arith & omega arith & omega arith & omega arith & omega arith & past (λ k h. omega arith))
 
 pub arity-paired : (k : ℕ) → type-arity k ≡ 2 * (type-arity k / 2)
-arity-paired = every (λ k n. n ≡ 2 * (n / 2)) 2 _ (omega arith & omega arith & omega arith & omega arith & omega arith & past (λ k h. omega arith))
+arity-paired = every (λ k n. n ≡ 2 * (n / 2)) 2 _ (omega arith & omega arith & omega arith & omega arith & omega arith & omega arith & past (λ k h. omega arith))
 
--- The kinds with two parts are 3 and 4.
+-- The kinds with two parts are 3, 4 and 5.
 pub parts-fork : (k : ℕ) → type-arity k ≡ 2 → 3 ≤ k
 parts-fork =
     every (λ k n. n ≡ 2 → 3 ≤ k) 2 type-arities
-    ((λ h. absurd (omega arith)) & (λ h. absurd (omega arith)) & (λ h. absurd (omega arith)) & (λ h. omega arith) & (λ h. omega arith) & past (λ k l h. omega arith))
+    ((λ h. absurd (omega arith)) & (λ h. absurd (omega arith)) & (λ h. absurd (omega arith)) & (λ h. omega arith) & (λ h. omega arith) & (λ h. omega arith) & past (λ k l h. omega arith))
 
 -- Behind a type stands what was put there.
 pub type-drop : (t : Ty) (r : List ℕ) → drop (size t) (type-bytes t r) ≡ r
@@ -46,6 +46,8 @@ type-drop (seq s t) r =
     rw (← drop-drop (size t) (size s) (type-bytes s (type-bytes t r)), type-drop s (type-bytes t r)) (type-drop t r)
 type-drop (par s t) r =
     rw (← drop-drop (size t) (size s) (type-bytes s (type-bytes t r)), type-drop s (type-bytes t r)) (type-drop t r)
+type-drop (either s t) r =
+    rw (← drop-drop (size t) (size s) (type-bytes s (type-bytes t r)), type-drop s (type-bytes t r)) (type-drop t r)
 
 type-append : (t : Ty) (r s : List ℕ) → type-bytes t (r ++ s) ≡ type-bytes t r ++ s
 unfolding type-bytes
@@ -54,6 +56,7 @@ type-append cue r s = refl
 type-append level r s = refl
 type-append (seq t u) r s = ap (λ l. 3 ∷ l) (ap (type-bytes t) (type-append u r s) ∙ type-append t (type-bytes u r) s)
 type-append (par t u) r s = ap (λ l. 4 ∷ l) (ap (type-bytes t) (type-append u r s) ∙ type-append t (type-bytes u r) s)
+type-append (either t u) r s = ap (λ l. 5 ∷ l) (ap (type-bytes t) (type-append u r s) ∙ type-append t (type-bytes u r) s)
 
 pub type-before : (t : Ty) (r : List ℕ) → type-bytes t r ≡ type-bytes t [] ++ r
 type-before t r = type-append t [] r
@@ -68,8 +71,9 @@ type-head cue r = refl
 type-head level r = refl
 type-head (seq s t) r = refl
 type-head (par s t) r = refl
+type-head (either s t) r = refl
 
--- A type of kind 3 or 4 is its kind byte and its parts.
+-- A type of kind 3, 4 or 5 is its kind byte and its parts.
 forked : (t : Ty) (r : List ℕ) → 3 ≤ kind t
     → (type-bytes t r ≡ kind t ∷ type-bytes (first-part t) (type-bytes (second-part t) r))
     × (size t ≡ suc (size (first-part t) + size (second-part t)))
@@ -79,6 +83,7 @@ forked cue r h = absurd (omega arith)
 forked level r h = absurd (omega arith)
 forked (seq s t) r h = (refl, refl)
 forked (par s t) r h = (refl, refl)
+forked (either s t) r h = (refl, refl)
 
 pub fork-size : (t : Ty) → 3 ≤ kind t → size t ≡ suc (size (first-part t) + size (second-part t))
 fork-size t h = forked t [] h .1
@@ -176,7 +181,7 @@ unfolding type-root
 root-within w [] = tt
 root-within w (k ∷ s) =
     every (λ j f. Within (j ∷ s) (f s)) (λ r. fault Unlisted) type-kinds
-    (omega arith & omega arith & omega arith & omega arith & omega arith & past (λ j h. tt)) k
+    (omega arith & omega arith & omega arith & omega arith & omega arith & omega arith & past (λ j h. tt)) k
 
 pub read-type-within : (s : List ℕ) → Within s (read-type s)
 unfolding read-type

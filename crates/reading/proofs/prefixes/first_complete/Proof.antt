@@ -17,10 +17,20 @@ returns-3 : tie.Need-returns-3
 returns-3 c = search needs
 
 returns-4 : tie.Need-returns-4
-returns-4 c = let asked = c .before .before .args in shared (first-complete-by-kind (asked .complete)) (asked .complete) 0 5 refl (asked .kind) (omega arith) (omega arith)
+returns-4 c = search needs
 
 returns-5 : tie.Need-returns-5
-returns-5 c = let asked = c .before .before .args in beyond (first-complete-by-kind (asked .complete)) (asked .complete) (asked .kind) (omega arith)
+returns-5 c = let asked = c .before .before .args in shared (first-complete-by-kind (asked .complete)) (asked .complete) 0 5 refl (asked .kind) (omega arith) (omega arith)
+
+returns-6 : tie.Need-returns-6
+returns-6 c =
+    let asked = c .before .before .before .args in
+    shared (first-complete-by-kind (asked .complete)) (asked .complete) 9 2 refl (asked .kind) (omega arith) (omega arith)
+
+returns-7 : tie.Need-returns-7
+returns-7 c =
+    let asked = c .before .before .before .args in
+    beyond (first-complete-by-kind (asked .complete)) (asked .complete) (asked .kind) (c .if2 .left)
 
 pub first-complete-spec : {M : Type 1} → statement M
-first-complete-spec = tie.close (tie.spec returns returns-2 returns-3 returns-4 returns-5)
+first-complete-spec = tie.close (tie.spec returns returns-2 returns-3 returns-4 returns-5 returns-6 returns-7)

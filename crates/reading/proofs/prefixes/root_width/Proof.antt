@@ -17,7 +17,7 @@ returns-2 : tie.Need-returns-2
 returns-2 c = shared root-widths 1 0 4 refl (c .before .before .args .kind) (omega arith) (omega arith)
 
 returns-3 : tie.Need-returns-3
-returns-3 c = shared root-widths 1 5 3 refl (c .before .before .before .args .kind) (omega arith) (omega arith)
+returns-3 c = shared root-widths 1 5 6 refl (c .before .before .before .args .kind) (omega arith) (omega arith)
 
 returns-4 : tie.Need-returns-4
 returns-4 c = beyond root-widths 1 (c .before .before .before .args .kind) (omega arith)

@@ -31,17 +31,40 @@ returns-7 c = search needs
 returns-8 : tie.Need-returns-8
 returns-8 c = search needs
 
--- None of the kinds 0 to 7.
-unlisted : (c : tie.At-match-rest) → 8 ≤ c .before .args .kind
+returns-9 : tie.Need-returns-9
+returns-9 c = search needs
+
+returns-10 : tie.Need-returns-10
+returns-10 c = search needs
+
+returns-11 : tie.Need-returns-11
+returns-11 c = search needs
+
+-- None of the kinds 0 to 10.
+unlisted : (c : tie.At-match-rest) → 11 ≤ c .before .args .kind
 unlisted c =
     let others = c .match .rest in
     let none : 0 ≤ c .before .args .kind = omega arith in
-    let low = above (above (above (above none (others .0 .0 .0 .0 .0 .0 .0 .1)) (others .0 .0 .0 .0 .0 .0 .1)) (others .0 .0 .0 .0 .0 .1)) (others .0 .0 .0 .0 .1) in
-    above (above (above (above low (others .0 .0 .0 .1)) (others .0 .0 .1)) (others .0 .1)) (others .1)
+    let four = above (above (above (above none (others .0 .0 .0 .0 .0 .0 .0 .0 .0 .0 .1)) (others .0 .0 .0 .0 .0 .0 .0 .0 .0 .1)) (others .0 .0 .0 .0 .0 .0 .0 .0 .1)) (others .0 .0 .0 .0 .0 .0 .0 .1) in
+    let eight = above (above (above (above four (others .0 .0 .0 .0 .0 .0 .1)) (others .0 .0 .0 .0 .0 .1)) (others .0 .0 .0 .0 .1)) (others .0 .0 .0 .1) in
+    above (above (above eight (others .0 .0 .1)) (others .0 .1)) (others .1)
 
-returns-9 : tie.Need-returns-9
-returns-9 c = beyond types-by-kind 4 (c .before .args .kind) (unlisted c)
+returns-12 : tie.Need-returns-12
+returns-12 c = beyond types-by-kind 4 (c .before .args .kind) (unlisted c)
 
 pub type-kind-of-spec : {M : Type 1} → statement M
 type-kind-of-spec =
-    tie.close (tie.spec returns returns-2 returns-3 returns-4 returns-5 returns-6 returns-7 returns-8 returns-9)
+    tie.close
+    (tie.spec
+    returns
+    returns-2
+    returns-3
+    returns-4
+    returns-5
+    returns-6
+    returns-7
+    returns-8
+    returns-9
+    returns-10
+    returns-11
+    returns-12)

@@ -10,7 +10,7 @@ returns : tie.Need-returns
 returns c = shared type-arities 2 0 3 refl (c .before .args .kind) (omega arith) (omega arith)
 
 returns-2 : tie.Need-returns-2
-returns-2 c = shared type-arities 2 3 2 refl (c .before .before .args .kind) (omega arith) (omega arith)
+returns-2 c = shared type-arities 2 3 3 refl (c .before .before .args .kind) (omega arith) (omega arith)
 
 returns-3 : tie.Need-returns-3
 returns-3 c = beyond type-arities 2 (c .before .before .args .kind) (omega arith)
