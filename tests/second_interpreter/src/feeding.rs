@@ -48,6 +48,10 @@ pub fn feed_node(node: &Node, input: &Type, slice: &Slice) -> Option<Fed> {
         Node::Spread => feed_spread(slice),
         // "p gives 6 0 p; pass."
         Node::Front => Fed::some(Slice::crossed(Slice::Empty, slice.clone()), Node::Pass),
+        Node::Choose(first, second) => feed_choose(first, second, input, slice),
+        // "marking the choice at first and leaving pass"
+        Node::MarkFirst(_) => Fed::some(Slice::first_chosen(slice.clone()), Node::Pass),
+        Node::MarkSecond(_) => Fed::some(Slice::second_chosen(slice.clone()), Node::Pass),
     }
 }
 
@@ -115,6 +119,22 @@ fn feed_chain(first: &Node, second: &Node, input: &Type, slice: &Slice) -> Optio
     let first = feed_node(first, input, slice)?;
     let second = feed_node(second, &between, &first.sent)?;
     Fed::some(second.sent, Node::chain(first.left, second.left))
+}
+
+/// "on 8 it sends that type's empty slice and stays; a choice feeds the chosen
+/// node, whose remainder stays alone"
+fn feed_choose(first: &Node, second: &Node, input: &Type, slice: &Slice) -> Option<Fed> {
+    let (s, t) = input.either_parts()?;
+    match slice {
+        Slice::NoneChosen => {
+            let given = output_type(first, s).ok()?;
+            let left = Node::choose(first.clone(), second.clone());
+            Fed::some(empty_slice(&given), left)
+        }
+        Slice::FirstChosen(p) => feed_node(first, s, p),
+        Slice::SecondChosen(q) => feed_node(second, t, q),
+        _ => None,
+    }
 }
 
 /// "5 5 p gives 5 p, itself. 5 6 b q gives 6 b 5 q, pass. 6 6 b c q gives

@@ -28,8 +28,8 @@ const TYPE_AND_PATCH_FAULTS: Faults = Faults {
     left_over: LEFT_OVER,
 };
 
-/// Slice files: "11 cut short, 12 a kind above 7, ... 13 bytes left over. Same
-/// manner of reading".
+/// Slice files: "11 cut short, 12 ..., 13 bytes left over. Same manner of
+/// reading"; "12 is now an unlisted kind".
 const SLICE_FAULTS: Faults = Faults {
     cut_short: SLICE_CUT_SHORT,
     unlisted_kind: SLICE_UNLISTED_KIND,
@@ -138,23 +138,27 @@ fn read_type(section: &mut Reader, nodes: &mut usize) -> Result<Type, Number> {
         0 => Ok(Type::Empty),
         1 => Ok(Type::Cue),
         2 => Ok(Type::Level),
-        3 => {
-            let first = read_type(section, nodes)?;
-            let second = read_type(section, nodes)?;
-            Ok(Type::sequence(first, second))
-        }
-        4 => {
-            let left = read_type(section, nodes)?;
-            let right = read_type(section, nodes)?;
-            Ok(Type::beside(left, right))
-        }
+        3 => read_two_types(section, nodes, Type::sequence),
+        4 => read_two_types(section, nodes, Type::beside),
+        5 => read_two_types(section, nodes, Type::either),
         _ => Err(section.faults.unlisted_kind),
     }
 }
 
+/// The parts of a two-part type, left to right.
+fn read_two_types(
+    section: &mut Reader,
+    nodes: &mut usize,
+    kind: fn(Type, Type) -> Type,
+) -> Result<Type, Number> {
+    let first = read_type(section, nodes)?;
+    let second = read_type(section, nodes)?;
+    Ok(kind(first, second))
+}
+
 /// A node in preorder; `nodes` counts those of the patch that are already read.
-/// "5: a 64th node is needed", before 1 and 2 like 4. A type that silent
-/// carries has a count of its own.
+/// "5: a 64th node is needed", before 1 and 2 like 4. A type that a node carries
+/// has a count of its own.
 fn read_node(section: &mut Reader, nodes: &mut usize) -> Result<Node, Number> {
     if *nodes == Node::LIMIT {
         return Err(TOO_MANY_NODES);
@@ -176,6 +180,9 @@ fn read_node(section: &mut Reader, nodes: &mut usize) -> Result<Node, Number> {
         12 => Ok(Node::RegroupLeft),
         13 => Ok(Node::Spread),
         14 => Ok(Node::Front),
+        15 => read_two_nodes(section, nodes, Node::choose),
+        16 => Ok(Node::MarkFirst(read_type(section, &mut 0)?)),
+        17 => Ok(Node::MarkSecond(read_type(section, &mut 0)?)),
         _ => Err(section.faults.unlisted_kind),
     }
 }
@@ -200,12 +207,16 @@ enum Owed {
     Complete,
 }
 
-/// A slice of a type. "11 cut short, 12 a kind above 7, 14 a kind that does not
-/// belong there, which includes a kind that keeps a crossed first part from
-/// being complete, as 1, 3 or 5; ... at one byte 11, 12, 14 in that order."
+/// The highest slice kind listed, that of M-100's "second chosen".
+const HIGHEST_SLICE_KIND: u8 = 10;
+
+/// A slice of a type. "11 cut short, 12 [an unlisted kind], 14 a kind that does
+/// not belong there, which includes a kind that keeps a crossed first part from
+/// being complete, as 1, 3 or 5; ... at one byte 11, 12, 14 in that order." An 8
+/// keeps it from that too, and a choice "is complete when [its slice] is".
 fn read_slice(section: &mut Reader, stream: &Type, owed: Owed) -> Result<Slice, Number> {
     let kind = section.byte()?;
-    if kind > 7 {
+    if kind > HIGHEST_SLICE_KIND {
         return Err(section.faults.unlisted_kind);
     }
     match (stream, kind) {
@@ -227,6 +238,9 @@ fn read_slice(section: &mut Reader, stream: &Type, owed: Owed) -> Result<Slice, 
             let right = read_slice(section, t, owed)?;
             Ok(Slice::beside(left, right))
         }
+        (Type::Either(..), 8) if owed == Owed::Any => Ok(Slice::NoneChosen),
+        (Type::Either(s, _), 9) => Ok(Slice::first_chosen(read_slice(section, s, owed)?)),
+        (Type::Either(_, t), 10) => Ok(Slice::second_chosen(read_slice(section, t, owed)?)),
         _ => Err(SLICE_MISPLACED_KIND),
     }
 }
@@ -271,6 +285,7 @@ fn write_type(stream: &Type, out: &mut Vec<u8>) {
         Type::Level => (2, None),
         Type::Sequence(first, second) => (3, Some((first, second))),
         Type::Beside(left, right) => (4, Some((left, right))),
+        Type::Either(first, second) => (5, Some((first, second))),
     };
     out.push(kind);
     if let Some((one, other)) = parts {
@@ -304,6 +319,15 @@ fn write_slice(slice: &Slice, out: &mut Vec<u8>) {
             write_slice(left, out);
             write_slice(right, out);
         }
+        Slice::NoneChosen => out.push(8),
+        Slice::FirstChosen(first) => {
+            out.push(9);
+            write_slice(first, out);
+        }
+        Slice::SecondChosen(second) => {
+            out.push(10);
+            write_slice(second, out);
+        }
     }
 }
 
@@ -311,9 +335,14 @@ fn write_slice(slice: &Slice, out: &mut Vec<u8>) {
 fn write_node(node: &Node, out: &mut Vec<u8>) {
     out.push(node_kind(node));
     match node {
-        Node::Silent(kept) => write_type(kept, out),
+        Node::Silent(carried) | Node::MarkFirst(carried) | Node::MarkSecond(carried) => {
+            write_type(carried, out);
+        }
         Node::Level(value) => out.extend(value.to_be_bytes()),
-        Node::Both(one, other) | Node::Then(one, other) | Node::Chain(one, other) => {
+        Node::Both(one, other)
+        | Node::Then(one, other)
+        | Node::Chain(one, other)
+        | Node::Choose(one, other) => {
             write_node(one, out);
             write_node(other, out);
         }
@@ -321,7 +350,7 @@ fn write_node(node: &Node, out: &mut Vec<u8>) {
     }
 }
 
-/// The kind byte of a node, by the list under "Nodes".
+/// The kind byte of a node, by the list under "Nodes" and M-100.
 fn node_kind(node: &Node) -> u8 {
     match node {
         Node::Pass => 0,
@@ -339,5 +368,8 @@ fn node_kind(node: &Node) -> u8 {
         Node::RegroupLeft => 12,
         Node::Spread => 13,
         Node::Front => 14,
+        Node::Choose(..) => 15,
+        Node::MarkFirst(_) => 16,
+        Node::MarkSecond(_) => 17,
     }
 }

@@ -1,8 +1,9 @@
-//! A plain interpreter of patches, slices and feeds, written from document 01
-//! alone, to be compared with another implementation.
+//! A plain interpreter of patches, slices and feeds, written from document 01 and
+//! request M-100 of document 02 alone, to be compared with another
+//! implementation.
 //!
 //! Trees live on the heap. Files are read into trees ([`Type`], [`Slice`],
-//! [`Node`]), the rules of document 01 work on the trees, and the answers are
+//! [`Node`]), the rules of the documents work on the trees, and the answers are
 //! written back as files. The five operations and the program are at the crate
 //! root; the tree functions are public for those who generate tests.
 

@@ -36,6 +36,12 @@ pub enum Node {
     Spread,
     /// Kind 14: s to empty, s.
     Front,
+    /// Kind 15: a node for each part of an either, to one output type.
+    Choose(Box<Node>, Box<Node>),
+    /// Kind 16, then any type t: s to either s or t.
+    MarkFirst(Type),
+    /// Kind 17, then any type t: s to either t or s.
+    MarkSecond(Type),
 }
 
 impl Node {
@@ -62,13 +68,19 @@ impl Node {
         Node::Chain(Box::new(first), Box::new(second))
     }
 
-    /// The number of nodes; those of a type that silent carries are not nodes
+    /// Kind 15 with its nodes.
+    pub fn choose(first: Node, second: Node) -> Self {
+        Node::Choose(Box::new(first), Box::new(second))
+    }
+
+    /// The number of nodes; those of a type that a node carries are not nodes
     /// of the patch.
     pub fn count(&self) -> usize {
         match self {
-            Node::Both(one, other) | Node::Then(one, other) | Node::Chain(one, other) => {
-                1 + one.count() + other.count()
-            }
+            Node::Both(one, other)
+            | Node::Then(one, other)
+            | Node::Chain(one, other)
+            | Node::Choose(one, other) => 1 + one.count() + other.count(),
             _ => 1,
         }
     }

@@ -1,6 +1,6 @@
-//! The numbers with which document 01 refuses.
+//! The numbers with which document 01 and request M-100 refuse.
 
-/// Refusal number as document 01 gives it.
+/// Refusal number as the documents give it.
 pub type Number = u32;
 
 /// 1: a section is longer than the bytes remain, or a tree needs a byte past
@@ -20,7 +20,7 @@ pub(crate) const NOT_NULLABLE: Number = 6;
 pub(crate) const WRONG_SHAPE: Number = 7;
 /// 11: a slice is cut short.
 pub(crate) const SLICE_CUT_SHORT: Number = 11;
-/// 12: a slice kind above 7.
+/// 12: "now an unlisted kind", so one above 10 (M-100).
 pub(crate) const SLICE_UNLISTED_KIND: Number = 12;
 /// 13: bytes left over in a slice file.
 pub(crate) const SLICE_LEFT_OVER: Number = 13;
@@ -28,3 +28,5 @@ pub(crate) const SLICE_LEFT_OVER: Number = 13;
 pub(crate) const SLICE_MISPLACED_KIND: Number = 14;
 /// 20: the buffer is too short for this answer.
 pub(crate) const BUFFER_TOO_SHORT: Number = 20;
+/// 30: choose's output types differ (M-100).
+pub(crate) const OUTPUTS_DIFFER: Number = 30;

@@ -23,6 +23,12 @@ pub enum Slice {
     Crossed(Box<Slice>, Box<Slice>),
     /// Kind 7: both sides of a side by side.
     Beside(Box<Slice>, Box<Slice>),
+    /// Kind 8: an either with none chosen.
+    NoneChosen,
+    /// Kind 9: an either with its first part chosen, and a slice of that.
+    FirstChosen(Box<Slice>),
+    /// Kind 10: an either with its second part chosen, and a slice of that.
+    SecondChosen(Box<Slice>),
 }
 
 impl Slice {
@@ -41,18 +47,30 @@ impl Slice {
         Slice::Beside(Box::new(left), Box::new(right))
     }
 
+    /// Kind 9 with a slice of the first part.
+    pub fn first_chosen(first: Slice) -> Self {
+        Slice::FirstChosen(Box::new(first))
+    }
+
+    /// Kind 10 with a slice of the second part.
+    pub fn second_chosen(second: Slice) -> Self {
+        Slice::SecondChosen(Box::new(second))
+    }
+
     /// "*Complete* means: 0, 2, 4, a 6 whose second is complete, a 7 with both
-    /// complete."
+    /// complete." A choice "is complete when that is"; 8 "is never complete".
     pub fn is_complete(&self) -> bool {
         match self {
             Slice::Empty | Slice::CueCome | Slice::LevelCome(_) => true,
             Slice::CueNotYet | Slice::LevelNotYet | Slice::Uncrossed(_) => false,
+            Slice::NoneChosen => false,
             Slice::Crossed(_, second) => second.is_complete(),
             Slice::Beside(left, right) => left.is_complete() && right.is_complete(),
+            Slice::FirstChosen(chosen) | Slice::SecondChosen(chosen) => chosen.is_complete(),
         }
     }
 
-    /// Whether this is a slice of the type, by the list under "Slices".
+    /// Whether this is a slice of the type, by the list under "Slices" and M-100.
     pub fn is_slice_of(&self, stream: &Type) -> bool {
         match (stream, self) {
             (Type::Empty, Slice::Empty) => true,
@@ -63,13 +81,17 @@ impl Slice {
                 b.is_slice_of(s) && b.is_complete() && q.is_slice_of(t)
             }
             (Type::Beside(s, t), Slice::Beside(p, q)) => p.is_slice_of(s) && q.is_slice_of(t),
+            (Type::Either(..), Slice::NoneChosen) => true,
+            (Type::Either(s, _), Slice::FirstChosen(p)) => p.is_slice_of(s),
+            (Type::Either(_, t), Slice::SecondChosen(q)) => q.is_slice_of(t),
             _ => false,
         }
     }
 }
 
 /// "The *empty* slice of a type is 0, 1 or 3 at its leaves, 5 with the empty
-/// slice of the first part, 7 with both empty."
+/// slice of the first part, 7 with both empty." From M-100: "8 none chosen (also
+/// its empty slice)".
 pub fn empty_slice(stream: &Type) -> Slice {
     match stream {
         Type::Empty => Slice::Empty,
@@ -77,6 +99,7 @@ pub fn empty_slice(stream: &Type) -> Slice {
         Type::Level => Slice::LevelNotYet,
         Type::Sequence(first, _) => Slice::uncrossed(empty_slice(first)),
         Type::Beside(left, right) => Slice::beside(empty_slice(left), empty_slice(right)),
+        Type::Either(..) => Slice::NoneChosen,
     }
 }
 
@@ -102,6 +125,11 @@ pub fn what_slice_leaves(stream: &Type, slice: &Slice) -> Option<Type> {
             what_slice_leaves(s, p)?,
             what_slice_leaves(t, q)?,
         )),
+        // "8 leaves the type"
+        (Type::Either(..), Slice::NoneChosen) => Some(stream.clone()),
+        // "A choice leaves what its slice leaves"
+        (Type::Either(s, _), Slice::FirstChosen(p)) => what_slice_leaves(s, p),
+        (Type::Either(_, t), Slice::SecondChosen(q)) => what_slice_leaves(t, q),
         _ => None,
     }
 }
@@ -128,6 +156,13 @@ pub fn join_slices(first: &Slice, second: &Slice) -> Option<Slice> {
             join_slices(p, q)?,
             join_slices(p_right, q_right)?,
         )),
+        // "8 ... joined with q gives q"
+        (Slice::NoneChosen, Slice::NoneChosen | Slice::FirstChosen(_) | Slice::SecondChosen(_)) => {
+            Some(second.clone())
+        }
+        // "joined with q keeps its mark and joins inside"
+        (Slice::FirstChosen(p), q) => Some(Slice::first_chosen(join_slices(p, q)?)),
+        (Slice::SecondChosen(p), q) => Some(Slice::second_chosen(join_slices(p, q)?)),
         _ => None,
     }
 }

@@ -1,7 +1,7 @@
 //! The second pass of Check: the type that a node gives for an input type.
 
 use crate::nodes::Node;
-use crate::numbers::{Number, NOT_NULLABLE, TYPE_TOO_LARGE, WRONG_SHAPE};
+use crate::numbers::{Number, NOT_NULLABLE, OUTPUTS_DIFFER, TYPE_TOO_LARGE, WRONG_SHAPE};
 use crate::types::Type;
 
 /// The type a node gives for an input type, or the number of its first fault:
@@ -44,6 +44,9 @@ fn given_type(node: &Node, input: &Type) -> Result<Type, Number> {
         Node::RegroupLeft => regrouped_left(input),
         Node::Spread => spread(input),
         Node::Front => Ok(Type::sequence(Type::Empty, input.clone())),
+        Node::Choose(first, second) => chosen(first, second, input),
+        Node::MarkFirst(other) => Ok(Type::either(input.clone(), other.clone())),
+        Node::MarkSecond(other) => Ok(Type::either(other.clone(), input.clone())),
     }
 }
 
@@ -55,6 +58,18 @@ fn sequence(input: &Type) -> Result<(&Type, &Type), Number> {
 /// The parts of a side by side; 7 if the input is none.
 fn beside(input: &Type) -> Result<(&Type, &Type), Number> {
     input.beside_parts().ok_or(WRONG_SHAPE)
+}
+
+/// "two nodes from the two parts to one output type"; "30, choose's output types
+/// differ, after its second part and before 4".
+fn chosen(first: &Node, second: &Node, input: &Type) -> Result<Type, Number> {
+    let (s, t) = input.either_parts().ok_or(WRONG_SHAPE)?;
+    let first = output_type(first, s)?;
+    let second = output_type(second, t)?;
+    if first != second {
+        return Err(OUTPUTS_DIFFER);
+    }
+    Ok(first)
 }
 
 /// "(s, t), r to s, (t, r)".

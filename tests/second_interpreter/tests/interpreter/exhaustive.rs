@@ -8,7 +8,7 @@ use second_interpreter::{admit, slice_file, type_file, Slice, Type};
 use crate::common::section;
 
 /// All types of exactly so many nodes.
-fn types_of(nodes: usize) -> Vec<Type> {
+pub fn types_of(nodes: usize) -> Vec<Type> {
     if nodes == 1 {
         return vec![Type::Empty, Type::Cue, Type::Level];
     }
@@ -17,7 +17,8 @@ fn types_of(nodes: usize) -> Vec<Type> {
         for one in types_of(first) {
             for other in types_of(nodes - 1 - first) {
                 types.push(Type::sequence(one.clone(), other.clone()));
-                types.push(Type::beside(one.clone(), other));
+                types.push(Type::beside(one.clone(), other.clone()));
+                types.push(Type::either(one.clone(), other));
             }
         }
     }
@@ -25,7 +26,7 @@ fn types_of(nodes: usize) -> Vec<Type> {
 }
 
 /// All slices of a type whose level values have bytes of 0 to 1.
-fn slices_of(stream: &Type) -> Vec<Slice> {
+pub fn slices_of(stream: &Type) -> Vec<Slice> {
     match stream {
         Type::Empty => vec![Slice::Empty],
         Type::Cue => vec![Slice::CueNotYet, Slice::CueCome],
@@ -52,11 +53,17 @@ fn slices_of(stream: &Type) -> Vec<Slice> {
             }
             slices
         }
+        Type::Either(s, t) => {
+            let mut slices = vec![Slice::NoneChosen];
+            slices.extend(slices_of(s).into_iter().map(Slice::first_chosen));
+            slices.extend(slices_of(t).into_iter().map(Slice::second_chosen));
+            slices
+        }
     }
 }
 
 /// Calls with every string of so many bytes below the bound.
-fn every_string(length: usize, bound: u8, mut call: impl FnMut(&[u8])) {
+pub fn every_string(length: usize, bound: u8, mut call: impl FnMut(&[u8])) {
     let mut bytes = vec![0; length];
     loop {
         call(&bytes);
@@ -73,7 +80,7 @@ fn exactly_the_types_are_read() {
     for length in 1..=6 {
         let files: Vec<Vec<u8>> = types_of(length).iter().map(type_file).collect();
         let mut read = 0;
-        every_string(length, 6, |bytes| {
+        every_string(length, 7, |bytes| {
             let file = section(bytes);
             // A type that was read leaves an empty slice file cut short.
             let number = admit(&file, &[]).expect_err("no slice");
@@ -93,7 +100,7 @@ fn exactly_the_slices_are_admitted() {
             .map(|slice| (slice_file(slice), slice.is_complete()))
             .collect();
         for length in 0..=4 {
-            every_string(length, 9, |bytes| {
+            every_string(length, 12, |bytes| {
                 let file = section(bytes);
                 let known = slices.get(&file).copied();
                 let admitted = admit(&stream_file, &file).ok();
@@ -125,7 +132,28 @@ fn number_by_trying(slices: &[Vec<u8>], section: &[u8]) -> Option<u32> {
         slices.iter().any(|slice| slice.starts_with(start))
     };
     let fault = (0..section.len()).rev().find(goes_on)?;
-    Some(if section[fault] > 7 { 12 } else { 14 })
+    Some(if section[fault] > 10 { 12 } else { 14 })
+}
+
+/// Calls with every string of bytes below 12 that goes on at most so many bytes
+/// past where some slice would.
+fn every_string_near(
+    slices: &[Vec<u8>],
+    bytes: &mut Vec<u8>,
+    past: usize,
+    call: &mut impl FnMut(&[u8]),
+) {
+    call(bytes);
+    let goes_on = slices.iter().any(|slice| slice.starts_with(bytes));
+    let past = if goes_on { past } else { past - 1 };
+    if past == 0 {
+        return;
+    }
+    for byte in 0..12 {
+        bytes.push(byte);
+        every_string_near(slices, bytes, past, call);
+        bytes.pop();
+    }
 }
 
 #[test]
@@ -139,17 +167,12 @@ fn the_first_fault_of_a_slice_by_trying() {
             .iter()
             .map(|slice| slice_file(slice)[2..].to_vec())
             .collect();
-        for length in 0..=5 {
-            every_string(length, 9, |bytes| {
-                let number = admit(&stream_file, &section(bytes)).err();
-                assert_eq!(
-                    number,
-                    number_by_trying(&slices, bytes),
-                    "{stream:?} {bytes:?}"
-                );
-                *seen.entry(number).or_insert(0) += 1;
-            });
-        }
+        every_string_near(&slices, &mut Vec::new(), 2, &mut |bytes| {
+            let number = admit(&stream_file, &section(bytes)).err();
+            let expected = number_by_trying(&slices, bytes);
+            assert_eq!(number, expected, "{stream:?} {bytes:?}");
+            *seen.entry(number).or_insert(0) += 1;
+        });
     }
     for number in [None, Some(11), Some(12), Some(13), Some(14)] {
         assert!(seen.contains_key(&number), "{number:?} never came");

@@ -64,10 +64,12 @@ pub fn random_type(random: &mut Random, nodes: usize) -> Type {
     let (one, other) = split(random, nodes);
     let one = random_type(random, one);
     let other = random_type(random, other);
-    if random.below(5) < 3 {
-        Type::sequence(one, other)
-    } else {
-        Type::beside(one, other)
+    match random.below(10) {
+        0..=4 => Type::sequence(one, other),
+        5..=7 => Type::beside(one, other),
+        // Equal parts, of which choose can make one output type with ease.
+        8 if 2 * one.size() < nodes => Type::either(one.clone(), one),
+        _ => Type::either(one, other),
     }
 }
 
@@ -99,6 +101,14 @@ pub fn random_slice(random: &mut Random, stream: &Type, progress: usize) -> Slic
             let left = random_slice(random, left, progress);
             Slice::beside(left, random_slice(random, right, progress))
         }
+        Type::Either(..) if !comes => Slice::NoneChosen,
+        Type::Either(first, second) => {
+            if random.once_in(2) {
+                Slice::first_chosen(random_slice(random, first, progress))
+            } else {
+                Slice::second_chosen(random_slice(random, second, progress))
+            }
+        }
     }
 }
 
@@ -119,15 +129,17 @@ fn try_node(random: &mut Random, input: &Type, nodes: usize) -> Option<Node> {
     if nodes >= 3 && !random.once_in(6) {
         return try_two_parts(random, input, nodes);
     }
-    if !random.once_in(3) {
+    if !random.once_in(4) {
         return Some(suited(random, input));
     }
-    Some(match random.below(5) {
+    Some(match random.below(7) {
         0 => Node::Pass,
         1 => Node::silent(random_nullable(random, 9)),
         2 => Node::Cue,
         3 => Node::Level(random.value()),
-        _ => Node::Front,
+        4 => Node::Front,
+        5 => Node::MarkFirst(random_type(random, 9)),
+        _ => Node::MarkSecond(random_type(random, 9)),
     })
 }
 
@@ -157,6 +169,9 @@ fn suited(random: &mut Random, input: &Type) -> Node {
 /// A two-part kind with parts that take their inputs.
 fn try_two_parts(random: &mut Random, input: &Type, nodes: usize) -> Option<Node> {
     let (one, other) = split(random, nodes);
+    if input.either_parts().is_some() && !random.once_in(3) {
+        return try_choose(random, input, nodes);
+    }
     match random.below(5) {
         0 => {
             let first = random_node(random, input, one);
@@ -175,6 +190,54 @@ fn try_two_parts(random: &mut Random, input: &Type, nodes: usize) -> Option<Node
     }
 }
 
+/// A choose: a random node for one part, and one to the same type for the other.
+fn try_choose(random: &mut Random, input: &Type, nodes: usize) -> Option<Node> {
+    let (s, t) = input.either_parts()?;
+    let free = 1 + random.below(nodes - 2);
+    let node = if random.once_in(2) {
+        let first = random_node(random, s, free);
+        let wanted = output_type(&first, s).ok()?;
+        Node::choose(first, node_giving(random, t, &wanted))
+    } else {
+        let second = random_node(random, t, free);
+        let wanted = output_type(&second, t).ok()?;
+        Node::choose(node_giving(random, s, &wanted), second)
+    };
+    (node.count() <= nodes).then_some(node)
+}
+
+/// A node from the input type to the wanted one, of any number of nodes.
+fn node_giving(random: &mut Random, input: &Type, wanted: &Type) -> Node {
+    let suited = suited(random, input);
+    if output_type(&suited, input).as_ref() == Ok(wanted) {
+        return suited;
+    }
+    match wanted {
+        _ if input == wanted => Node::Pass,
+        _ if wanted.is_nullable() => Node::silent(wanted.clone()),
+        Type::Empty => Node::silent(Type::Empty),
+        Type::Cue => Node::Cue,
+        Type::Level => Node::Level(random.value()),
+        Type::Sequence(s, t) => {
+            let first = node_giving(random, &Type::Empty, s);
+            let second = node_giving(random, input, t);
+            Node::chain(Node::Front, Node::then(first, second))
+        }
+        Type::Beside(s, t) => {
+            let left = node_giving(random, input, s);
+            Node::both(left, node_giving(random, input, t))
+        }
+        Type::Either(s, t) if random.once_in(2) => Node::chain(
+            node_giving(random, input, s),
+            Node::MarkFirst((**t).clone()),
+        ),
+        Type::Either(s, t) => Node::chain(
+            node_giving(random, input, t),
+            Node::MarkSecond((**s).clone()),
+        ),
+    }
+}
+
 /// A file with some bytes changed, taken away or put in.
 pub fn damaged(random: &mut Random, file: &[u8]) -> Vec<u8> {
     let mut bytes = file.to_vec();
@@ -183,7 +246,7 @@ pub fn damaged(random: &mut Random, file: &[u8]) -> Vec<u8> {
         let byte = if random.once_in(4) {
             random.byte()
         } else {
-            random.below(16) as u8
+            random.below(19) as u8
         };
         match random.below(5) {
             0 => bytes.truncate(place),

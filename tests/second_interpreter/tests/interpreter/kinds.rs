@@ -5,13 +5,13 @@ use second_interpreter::{join, left};
 use crate::common::{answered, fed, patch, section};
 
 /// A feed: type, nodes, slice; sent, type left, nodes left.
-type Feed<'a> = (&'a [u8], &'a [u8], &'a [u8], &'a [u8], &'a [u8], &'a [u8]);
+pub type Feed<'a> = (&'a [u8], &'a [u8], &'a [u8], &'a [u8], &'a [u8], &'a [u8]);
 
 /// A type, a first slice, what it leaves, a second slice, and the join.
-type Join<'a> = (&'a [u8], &'a [u8], &'a [u8], &'a [u8], &'a [u8]);
+pub type Join<'a> = (&'a [u8], &'a [u8], &'a [u8], &'a [u8], &'a [u8]);
 
 /// Expects each feed of a table.
-fn expect_feeds(table: &[Feed]) {
+pub fn expect_feeds(table: &[Feed]) {
     for (stream, nodes, slice, sent, stream_left, nodes_left) in table {
         assert_eq!(
             fed(&patch(stream, nodes), &section(slice)),
@@ -188,7 +188,12 @@ const JOINS: [Join; 12] = [
 
 #[test]
 fn what_slices_leave_and_how_they_join() {
-    for (stream, first, remainder, second, whole) in JOINS {
+    expect_joins(&JOINS);
+}
+
+/// Expects each remainder and join of a table.
+pub fn expect_joins(table: &[Join]) {
+    for (stream, first, remainder, second, whole) in table {
         let (stream, first, second) = (section(stream), section(first), section(second));
         assert_eq!(
             answered(|buffer| left(&stream, &first, buffer)),

@@ -1,7 +1,9 @@
 //! Tests of the second interpreter through its public functions.
 
 mod cases;
+mod choices;
 mod common;
+mod cuts;
 mod exhaustive;
 mod generator;
 mod kinds;

@@ -24,7 +24,7 @@ fn refused_slices_leave_the_patch() {
         section(&[3]),
         section(&[1]),
         vec![],
-        section(&[8]),
+        section(&[11]),
         section(&[2, 2]),
         section(&[2]),
         section(&[2]),
@@ -46,6 +46,7 @@ fn refused_patch_stops() {
         (patch(&[1], &[10; 63]), "5\n"),
         (patch(&[1], &[1, 1]), "6\n"),
         (patch(&[1], &[5]), "7\n"),
+        (patch(&[5, 1, 2], &[15, 0, 0]), "30\n"),
     ];
     for (file, line) in bad {
         assert_eq!(lines(&stream(&[file, section(&[1])])), line);

@@ -133,9 +133,9 @@ fn one_feed_keeps_the_types() {
 #[test]
 fn generated_patches_use_every_kind() {
     let mut random = Random::new(0x5EED_0005);
-    let mut seen = [0; 15];
+    let mut seen = [0; 18];
     let mut large_outputs = 0;
-    for _ in 0..4_000 {
+    for _ in 0..6_000 {
         let (input, node) = some_patch(&mut random);
         count_kinds(&node, &mut seen);
         let output = output_type(&node, &input).expect("well-typed");
@@ -146,18 +146,44 @@ fn generated_patches_use_every_kind() {
 }
 
 /// Adds each node of the tree under its kind.
-fn count_kinds(node: &Node, seen: &mut [usize; 15]) {
+fn count_kinds(node: &Node, seen: &mut [usize; 18]) {
     let kind = patch_file(&Type::Empty, node)[5];
     seen[usize::from(kind)] += 1;
-    if let Node::Both(one, other) | Node::Then(one, other) | Node::Chain(one, other) = node {
+    if let Node::Both(one, other)
+    | Node::Then(one, other)
+    | Node::Chain(one, other)
+    | Node::Choose(one, other) = node
+    {
         count_kinds(one, seen);
         count_kinds(other, seen);
     }
 }
 
+#[test]
+fn choose_asks_for_one_output_type() {
+    let mut random = Random::new(0x5EED_000B);
+    let (mut same, mut different) = (0, 0);
+    for _ in 0..10_000 {
+        let (s, t) = (random_type(&mut random, 5), random_type(&mut random, 5));
+        let first = random_node(&mut random, &s, 5);
+        let second = random_node(&mut random, &t, 5);
+        let outputs = (output_type(&first, &s), output_type(&second, &t));
+        let file = patch_file(&Type::either(s, t), &Node::choose(first, second));
+        let answer = answered(|buffer| check(&file, buffer));
+        if outputs.0 == outputs.1 {
+            assert_eq!(answer, outputs.0.map(|given| type_file(&given)));
+            same += 1;
+        } else {
+            assert_eq!(answer, Err(30));
+            different += 1;
+        }
+    }
+    assert!(same > 500 && different > 500, "{same} {different}");
+}
+
 /// A run of demand 3: the files so far and the accepted slices and outputs,
 /// joined through the operation.
-struct Run {
+pub struct Run {
     start: Vec<u8>,
     input: Vec<u8>,
     output: Vec<u8>,
@@ -166,7 +192,8 @@ struct Run {
 }
 
 impl Run {
-    fn new(input: &Type, node: &Node) -> Run {
+    /// A run before its first feed.
+    pub fn new(input: &Type, node: &Node) -> Run {
         let start = patch_file(input, node);
         let output = answered(|buffer| check(&start, buffer)).expect("well-typed");
         Run {
@@ -179,7 +206,7 @@ impl Run {
     }
 
     /// A feed with buffers of these lengths; its number, 0 if accepted.
-    fn feed(&mut self, slice: &[u8], output_length: usize, left_length: usize) -> Number {
+    pub fn feed(&mut self, slice: &[u8], output_length: usize, left_length: usize) -> Number {
         let mut sent = vec![0x55; output_length];
         let mut left = vec![0xAA; left_length];
         match feed(&self.patch, slice, &mut sent, &mut left) {
@@ -209,7 +236,7 @@ impl Run {
     }
 
     /// What demand 3 says of the run so far.
-    fn holds(&self) {
+    pub fn holds(&self) {
         let output_left = answered(|buffer| check(&self.patch, buffer)).expect("accepted");
         let Some((slices, outputs)) = &self.taken else {
             assert_eq!(self.patch, self.start);
@@ -305,7 +332,7 @@ fn damaged_files_are_judged() {
         let [stream, first, second, patch] = &files;
         let of_slices = [1, 2, 3, 4, 11, 12, 13, 14];
         let results = [
-            keeps_its_word(&[1, 2, 3, 4, 5, 6, 7], |buffer| check(patch, buffer)),
+            keeps_its_word(&[1, 2, 3, 4, 5, 6, 7, 30], |buffer| check(patch, buffer)),
             keeps_its_word(&of_slices, |buffer| left(stream, first, buffer)),
             keeps_its_word(&of_slices, |buffer| join(stream, first, second, buffer)),
             fed(patch, first).is_ok(),
@@ -321,16 +348,16 @@ fn damaged_files_are_judged() {
 #[test]
 fn bytes_from_nowhere_are_judged() {
     let mut random = Random::new(0x5EED_0008);
-    let mut seen = [false; 21];
+    let mut seen = [false; 31];
     for _ in 0..200_000 {
-        let stream = small_bytes(&mut random, 5);
-        let nodes = small_bytes(&mut random, 16);
-        let slice = small_bytes(&mut random, 9);
+        let stream = small_bytes(&mut random, 7);
+        let nodes = small_bytes(&mut random, 19);
+        let slice = small_bytes(&mut random, 12);
         let patch = [stream.clone(), nodes].concat();
         let number = fed(&patch, &slice).err().unwrap_or(0);
         seen[number as usize] = true;
         let checked = answered(|buffer| check(&patch, buffer)).err().unwrap_or(0);
-        assert!(if number < 11 {
+        assert!(if number < 11 || number == 30 {
             checked == number
         } else {
             checked == 0

@@ -4,7 +4,7 @@ use crate::common::{answered, fed, patch, section};
 use second_interpreter::{admit, check, feed, join, left, Number};
 
 /// The number with which Check and Feed refuse a patch file.
-fn patch_number(file: &[u8]) -> Number {
+pub fn patch_number(file: &[u8]) -> Number {
     let number = answered(|buffer| check(file, buffer)).expect_err("refused");
     assert_eq!(fed(file, &[]), Err(number), "{file:?}");
     assert_eq!(check(file, &mut []), Err(number), "{file:?}");
@@ -12,12 +12,12 @@ fn patch_number(file: &[u8]) -> Number {
 }
 
 /// The number of a patch of these sections.
-fn nodes_number(stream: &[u8], nodes: &[u8]) -> Number {
+pub fn nodes_number(stream: &[u8], nodes: &[u8]) -> Number {
     patch_number(&patch(stream, nodes))
 }
 
 /// The number of a type file, the same in Admit, Left and Join.
-fn type_number(file: &[u8]) -> Number {
+pub fn type_number(file: &[u8]) -> Number {
     let number = admit(file, &[]).expect_err("refused");
     assert_eq!(left(file, &[], &mut []), Err(number), "{file:?}");
     assert_eq!(join(file, &[], &[], &mut []), Err(number), "{file:?}");
@@ -25,7 +25,7 @@ fn type_number(file: &[u8]) -> Number {
 }
 
 /// The number of a slice file, the same in Admit, Left, Join and Feed.
-fn slice_number(stream: &[u8], file: &[u8]) -> Number {
+pub fn slice_number(stream: &[u8], file: &[u8]) -> Number {
     let type_file = section(stream);
     let number = admit(&type_file, file).expect_err("refused");
     assert_eq!(left(&type_file, file, &mut []), Err(number), "{file:?}");
@@ -44,7 +44,7 @@ fn slice_number(stream: &[u8], file: &[u8]) -> Number {
 }
 
 /// These bytes, then those.
-fn with(mut bytes: Vec<u8>, more: &[u8]) -> Vec<u8> {
+pub fn with(mut bytes: Vec<u8>, more: &[u8]) -> Vec<u8> {
     bytes.extend_from_slice(more);
     bytes
 }
@@ -59,9 +59,9 @@ fn sections_of_a_type_file() {
     // The length is tried before the contents, which would give 2.
     assert_eq!(type_number(&[0, 2, 9]), 1);
     assert_eq!(type_number(&[255, 255, 9]), 1);
-    assert_eq!(type_number(&[0, 1, 5]), 2);
-    assert_eq!(type_number(&[0, 1, 5, 0]), 2);
-    assert_eq!(type_number(&[0, 2, 3, 5]), 2);
+    assert_eq!(type_number(&[0, 1, 6]), 2);
+    assert_eq!(type_number(&[0, 1, 6, 0]), 2);
+    assert_eq!(type_number(&[0, 2, 3, 6]), 2);
     assert_eq!(type_number(&[0, 2, 3, 0]), 1);
     assert_eq!(type_number(&[0, 2, 3, 0, 0]), 1);
     assert_eq!(type_number(&[0, 2, 0, 9]), 3);
@@ -74,13 +74,13 @@ fn sections_of_a_patch_file() {
     assert_eq!(patch_number(&[0, 1, 0]), 1);
     assert_eq!(patch_number(&[0, 1, 0, 0]), 1);
     assert_eq!(patch_number(&[0, 1, 0, 0, 0]), 1);
-    assert_eq!(patch_number(&[0, 1, 0, 0, 2, 15]), 1);
-    assert_eq!(patch_number(&[0, 1, 0, 0, 1, 15]), 2);
-    assert_eq!(patch_number(&[0, 1, 0, 0, 2, 0, 15]), 3);
-    assert_eq!(patch_number(&[0, 1, 0, 0, 1, 0, 15]), 3);
+    assert_eq!(patch_number(&[0, 1, 0, 0, 2, 18]), 1);
+    assert_eq!(patch_number(&[0, 1, 0, 0, 1, 18]), 2);
+    assert_eq!(patch_number(&[0, 1, 0, 0, 2, 0, 18]), 3);
+    assert_eq!(patch_number(&[0, 1, 0, 0, 1, 0, 18]), 3);
     // The type section ends before the next begins.
     assert_eq!(patch_number(&[0, 2, 0, 0]), 3);
-    assert_eq!(patch_number(&[0, 1, 5]), 2);
+    assert_eq!(patch_number(&[0, 1, 6]), 2);
     // A type section does not reach into the nodes.
     assert_eq!(patch_number(&[0, 2, 3, 0, 0, 1, 0]), 1);
 }
@@ -120,7 +120,7 @@ fn limit_of_nodes_while_reading() {
 #[test]
 fn carried_types_and_values() {
     assert_eq!(nodes_number(&[1], &[1]), 1);
-    assert_eq!(nodes_number(&[1], &[1, 5]), 2);
+    assert_eq!(nodes_number(&[1], &[1, 6]), 2);
     assert_eq!(nodes_number(&[1], &[1, 4, 0]), 1);
     assert_eq!(nodes_number(&[1], &[1, 0, 0]), 3);
     assert_eq!(nodes_number(&[1], &with(vec![1], &[4; 255])), 4);
@@ -155,7 +155,7 @@ fn first_pass_before_second() {
 
 #[test]
 fn shapes() {
-    let streams: [&[u8]; 9] = [
+    let streams: [&[u8]; 10] = [
         &[0],
         &[1],
         &[2],
@@ -165,6 +165,7 @@ fn shapes() {
         &[3, 1, 3, 2, 0],
         &[3, 1, 4, 2, 0],
         &[4, 3, 1, 1, 3, 1, 1],
+        &[5, 3, 1, 1, 4, 1, 1],
     ];
     let given = |stream: &[u8], node: u8| answered(|b| check(&patch(stream, &[node]), b));
     let sequences: [usize; 4] = [4, 5, 6, 7];
@@ -242,7 +243,7 @@ fn sections_of_a_slice_file() {
     assert_eq!(slice_number(&[1], &[0, 0, 1]), 11);
     assert_eq!(slice_number(&[1], &[0, 2, 99]), 11);
     assert_eq!(slice_number(&[1], &[0, 2, 0]), 11);
-    assert_eq!(slice_number(&[1], &[0, 1, 8]), 12);
+    assert_eq!(slice_number(&[1], &[0, 1, 11]), 12);
     assert_eq!(slice_number(&[1], &[0, 1, 255, 0]), 12);
     assert_eq!(slice_number(&[1], &[0, 1, 0]), 14);
     assert_eq!(slice_number(&[1], &[0, 2, 0, 0]), 14);
@@ -253,18 +254,19 @@ fn sections_of_a_slice_file() {
 
 #[test]
 fn kinds_of_a_slice() {
-    let belong: [(&[u8], &[u8]); 5] = [
+    let belong: [(&[u8], &[u8]); 6] = [
         (&[0], &[0]),
         (&[1], &[1, 2]),
         (&[2], &[3, 4]),
         (&[3, 0, 0], &[5, 6]),
         (&[4, 0, 0], &[7]),
+        (&[5, 0, 0], &[8, 9, 10]),
     ];
     for (stream, kinds) in belong {
         for kind in 0..=255 {
             let file = section(&[kind, 0, 0]);
             let number = admit(&section(stream), &file).err();
-            if kind > 7 {
+            if kind > 10 {
                 assert_eq!(number, Some(12));
             } else if kinds.contains(&kind) {
                 assert!([None, Some(13)].contains(&number));
@@ -291,15 +293,15 @@ fn level_values_of_a_slice() {
 fn crossed_first_parts() {
     // 14 falls at the kind byte itself, before what should follow it.
     assert_eq!(slice_number(&[3, 1, 1], &section(&[6])), 11);
-    assert_eq!(slice_number(&[3, 1, 1], &section(&[6, 8])), 12);
+    assert_eq!(slice_number(&[3, 1, 1], &section(&[6, 11])), 12);
     assert_eq!(slice_number(&[3, 1, 1], &section(&[6, 1])), 14);
-    assert_eq!(slice_number(&[3, 1, 1], &section(&[6, 1, 8])), 14);
+    assert_eq!(slice_number(&[3, 1, 1], &section(&[6, 1, 11])), 14);
     assert_eq!(slice_number(&[3, 2, 1], &section(&[6, 3])), 14);
     assert_eq!(slice_number(&[3, 1, 1], &section(&[6, 2])), 11);
     // A sequence as first part: 5 is refused at once, 6 asks on.
     let nested = [3, 3, 1, 1, 1];
     assert_eq!(slice_number(&nested, &section(&[6, 5])), 14);
-    assert_eq!(slice_number(&nested, &section(&[6, 5, 8])), 14);
+    assert_eq!(slice_number(&nested, &section(&[6, 5, 11])), 14);
     assert_eq!(slice_number(&nested, &section(&[6, 6, 1])), 14);
     assert_eq!(slice_number(&nested, &section(&[6, 6, 2, 1])), 14);
     assert_eq!(slice_number(&nested, &section(&[6, 6, 2, 2])), 11);
@@ -340,7 +342,7 @@ fn second_slice_of_join() {
     let number = |second: &[u8]| join(&stream, &first, second, &mut []).expect_err("refused");
     assert_eq!(number(&[]), 11);
     assert_eq!(number(&section(&[5])), 11);
-    assert_eq!(number(&section(&[9])), 12);
+    assert_eq!(number(&section(&[11])), 12);
     assert_eq!(number(&section(&[5, 0, 0])), 13);
     // What is left of the cue is empty, to which 1 and 2 no longer belong.
     assert_eq!(number(&section(&[5, 1])), 14);
