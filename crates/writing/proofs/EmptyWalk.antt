@@ -6,7 +6,7 @@ use Prim.Native.Nat.{ℕ, suc, _+_, _-_, _≤_, _<_}
 use native.Mathlib.Omega.{arith}
 use lib.ListN.{length, getD, set, drop, length-append, length-set}
 use lib.Seq.{drop-drop, getD-set-same, getD-set-other}
-use Rattle.stream.specs.Types.{Ty, empty, cue, level, seq, par, size, type-limit, kind}
+use Rattle.stream.specs.Types.{Ty, empty, cue, level, seq, par, either, size, type-limit, kind}
 use Rattle.stream.specs.Types.Laws.{size-positive, limit-is}
 use Rattle.stream.specs.Prefixes.{empty-prefix}
 use Rattle.stream.specs.Prefixes.Kinds.{prefix-arity}
@@ -100,6 +100,7 @@ leaf-owes cue h r = refl
 leaf-owes level h r = refl
 leaf-owes (seq s t) h r = absurd (omega arith)
 leaf-owes (par s t) h r = absurd (omega arith)
+leaf-owes (either s t) h r = refl
 
 -- A type whose empty prefix has parts is a kind byte, for which one byte is written, and two parts: the first is written, and the
 -- second if the empty prefix has it.
@@ -118,6 +119,7 @@ forked cue h = absurd (omega arith)
 forked level h = absurd (omega arith)
 forked (seq s t) h = record { first = s; second = passed t; marks = refl; bytes = λ r. refl; owes = λ xs. refl; total = refl }
 forked (par s t) h = record { first = s; second = written t; marks = refl; bytes = λ r. refl; owes = λ xs. refl; total = refl }
+forked (either s t) h = absurd (omega arith)
 
 module _ (types : List ℕ) (at : ℕ) (lent now stack : List ℕ) (depth next count : ℕ) where
   -- Where the loop is: the types still to be gone through stand at `next`, their marks lie on the stack, and the empty prefix of

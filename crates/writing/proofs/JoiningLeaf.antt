@@ -2,7 +2,7 @@
 use mathlib.Core.Path.{_≡_}
 use mathlib.Core.Bool.{true, false}
 use mathlib.Core.List.{List, []}
-use Prim.Native.Nat.{ℕ, _+_, _≤_, _<_}
+use Prim.Native.Nat.{ℕ, _+_, _≤_}
 use native.Mathlib.Omega.{arith}
 use lib.ListN.{getD}
 use Rattle.stream.specs.Prefixes.Functions.{concat}
@@ -10,7 +10,7 @@ use Rattle.stream.specs.Prefixes.Kinds.{prefix-arity}
 use Rattle.reading.specs.SliceReads.{prefix-width, is-unfinished}
 use Rattle.reading.specs.SliceReads.Laws.{prefix-bytes-length, kind-at}
 use Rattle.writing.specs.Writing.{PrefixDue, PrefixWritten, ConcatDue, LeafConcatDue, ConcatWritten}
-use Rattle.writing.proofs.PrefixKinds.{leaf-kind, kind-listed, Awaited, awaited, Come, come, empty-wide}
+use Rattle.writing.proofs.PrefixKinds.{kind-listed, Awaited, awaited, Come, come, empty-wide}
 
 module _ {first second : List ℕ} {first-place second-place : ℕ} {lent : List ℕ} where
   module _ (leaf : prefix-arity (getD first first-place 0) ≡ 0) where
@@ -68,9 +68,10 @@ module _ {first second : List ℕ} {first-place second-place : ℕ} {lent : List
                 };
           }
 
-  pub leaf-due : getD first first-place 0 < 5 → ConcatDue first first-place second second-place lent → LeafConcatDue first first-place second second-place lent
-  leaf-due h due = record { due = due; leaf = leaf-kind _ h }
+  pub leaf-due : prefix-arity (getD first first-place 0) ≡ 0 → ConcatDue first first-place second second-place lent
+      → LeafConcatDue first first-place second second-place lent
+  leaf-due none due = record { due = due; leaf = none }
 
-  -- A kind above 7 does not stand there.
-  pub unlisted : 8 ≤ getD first first-place 0 → ConcatDue first first-place second second-place lent → ⊥
+  -- A kind above 10 does not stand there.
+  pub unlisted : 11 ≤ getD first first-place 0 → ConcatDue first first-place second second-place lent → ⊥
   unlisted h due = omega (arith, kind-at (due .follows .first-at), kind-listed (due .one))

@@ -6,7 +6,7 @@ use native.Mathlib.Omega.{arith}
 use lib.ListN.{length, getD, set}
 use Rattle.writing.specs.declared.Moved.{Moved}
 use Rattle.stream.specs.Types.{Ty}
-use Rattle.stream.specs.Prefixes.{Prefix, in-first, crossed, beside, IsPrefix, of-empty, of-cue-awaited, of-cue-come, of-level-awaited, of-level-come, of-first, of-crossed, of-beside, derivative}
+use Rattle.stream.specs.Prefixes.{Prefix, in-first, crossed, beside, IsPrefix, of-empty, of-cue-awaited, of-cue-come, of-level-awaited, of-level-come, of-first, of-crossed, of-beside, of-none-chosen, of-first-chosen, of-second-chosen, derivative}
 use Rattle.stream.specs.Prefixes.Functions.{concat}
 use Rattle.stream.specs.Prefixes.Kinds.{prefix-arity}
 use Rattle.stream.specs.SliceFiles.{prefix-bytes}
@@ -15,7 +15,7 @@ use Rattle.reading.specs.SliceReads.Laws.{prefix-bytes-length, width-positive, 
 use Rattle.writing.specs.Writing.{PrefixDue, PrefixWritten, Moves, Follows, ConcatDue, ConcatWritten, Begun}
 use Rattle.writing.specs.Writing.Laws.{part, back, front-length, begins, goes-on, room-left, length-kept}
 
--- How two prefixes meet, if the first has parts.
+-- How two prefixes meet, if the first has parts and is no choice.
 data Meets (first : List ℕ) (first-place : ℕ) (second : List ℕ) (second-place : ℕ) : Prefix → Prefix → Type 0 where
   coming : {t : Ty} {p q : Prefix} → getD first first-place 0 ≡ 5 → getD second second-place 0 ≡ 5
       → Follows first (first-place + 1) second (second-place + 1) t p q → Meets first first-place second second-place (in-first p) (in-first q)
@@ -29,9 +29,9 @@ data Meets (first : List ℕ) (first-place : ℕ) (second : List ℕ) (second-pl
       → Follows first first-end second second-end t q u) → Meets first first-place second second-place (beside p q) (beside r u)
 
 meets : {first second : List ℕ} {first-place second-place : ℕ} {t : Ty} {one other : Prefix} → Follows first first-place second second-place t one other
-    → 0 < prefix-arity (getD first first-place 0) → Meets first first-place second second-place one other
+    → 0 < prefix-arity (getD first first-place 0) → getD first first-place 0 < 8 → Meets first first-place second second-place one other
 unfolding derivative
-meets {first} {second} {first-place} {second-place} f h = go (f .is-first) (f .is-second) (f .first-at) (f .second-at)
+meets {first} {second} {first-place} {second-place} f h low = go (f .is-first) (f .is-second) (f .first-at) (f .second-at)
   where
     go : {t : Ty} {p q : Prefix} → IsPrefix t p → IsPrefix (derivative t p) q → PrefixAt first first-place p → PrefixAt second second-place q
         → Meets first first-place second second-place p q
@@ -54,6 +54,9 @@ meets {first} {second} {first-place} {second-place} f h = go (f .is-first) (f .i
         aside (kind-at x)
         (record { first-at = beside-first-at x; second-at = beside-first-at y; is-first = i; is-second = k })
         (λ first-end second-end d e. record { first-at = beside-second-at x d; second-at = beside-second-at y e; is-first = j; is-second = l })
+    go of-none-chosen k x y = absurd (omega (arith, kind-at x))
+    go (of-first-chosen i) k x y = absurd (omega (arith, kind-at x))
+    go (of-second-chosen i) k x y = absurd (omega (arith, kind-at x))
 
 -- The bytes of two parts behind a kind byte.
 kind-and-parts : {k j : ℕ} (p q : Prefix) → k ≡ j → (k ∷ prefix-bytes p []) ++ prefix-bytes q [] ≡ j ∷ prefix-bytes p (prefix-bytes q [])
@@ -93,7 +96,7 @@ module _ (first : List ℕ) (first-place : ℕ) (second : List ℕ) (second-plac
         kept = ap length (d .buffer) ∙ front-length (prefix-bytes (concat (due .one) (due .other)) []) lent (omega (arith, due .room));
       }
 
-  moves : {a b : ℕ} {e bytes after : List ℕ} {m : Moved} → m .first ≡ a → m .second ≡ b → Begun e lent after (m .written) → e ≡ bytes
+  pub moves : {a b : ℕ} {e bytes after : List ℕ} {m : Moved} → m .first ≡ a → m .second ≡ b → Begun e lent after (m .written) → e ≡ bytes
       → Moves a b bytes lent after m
   moves f s b e = record { first = f; second = s; written = rw e at (b .long); buffer = rw e at (b .buffer) }
 
@@ -104,10 +107,11 @@ module _ (first : List ℕ) (first-place : ℕ) (second : List ℕ) (second-plac
     first-due {t} {p} {q} f h =
         record { type = t; one = p; other = q; follows = f; room = omega (arith, room-left (begins {lent = lent} k (omega arith))) }
 
-    pub joins-first : ConcatDue first first-place second second-place lent → 0 < prefix-arity (getD first first-place 0) → (getD first first-place 0 ≡ 6 → ⊥)
+    pub joins-first : ConcatDue first first-place second second-place lent → 0 < prefix-arity (getD first first-place 0)
+        → getD first first-place 0 < 8 → (getD first first-place 0 ≡ 6 → ⊥)
         → ConcatDue first (first-place + 1) second (second-place + 1) (part 1 (set lent 0 k))
     unfolding prefix-width concat
-    joins-first due h n = go (meets (due .follows) h) (due .room)
+    joins-first due h low n = go (meets (due .follows) h low) (due .room)
       where
         go : {p q : Prefix} → Meets first first-place second second-place p q → prefix-width (concat p q) ≤ length lent
             → ConcatDue first (first-place + 1) second (second-place + 1) (part 1 (set lent 0 k))
@@ -133,9 +137,10 @@ module _ (first : List ℕ) (first-place : ℕ) (second : List ℕ) (second-plac
         pub within : 1 + m .written ≤ length lent
         pub kept : length (back 1 (set lent 0 k) y) ≡ length lent
 
-      pub started : ConcatDue first first-place second second-place lent → 0 < prefix-arity (getD first first-place 0) → (getD first first-place 0 ≡ 6 → ⊥) → Started
+      pub started : ConcatDue first first-place second second-place lent → 0 < prefix-arity (getD first first-place 0)
+          → getD first first-place 0 < 8 → (getD first first-place 0 ≡ 6 → ⊥) → Started
       unfolding prefix-width concat
-      started due h n = go (meets (due .follows) h) (due .room)
+      started due h low n = go (meets (due .follows) h low) (due .room)
         where
           so-far : {t : Ty} {p q : Prefix} → Follows first (first-place + 1) second (second-place + 1) t p q → prefix-width (concat p q) < length lent → Started
           so-far {p = p} {q = q} f r =
@@ -154,7 +159,7 @@ module _ (first : List ℕ) (first-place : ℕ) (second : List ℕ) (second-plac
         pub coming-written : getD second second-place 0 ≡ 5
             → ConcatWritten first first-place second second-place lent (back 1 (set lent 0 k) y) (record { first = m .first; second = m .second; written = 1 + m .written })
         unfolding prefix-width concat prefix-bytes
-        coming-written other-kind = record { each = λ due. go (meets (due .follows) (rw one-kind (omega arith))) (due .room) }
+        coming-written other-kind = record { each = λ due. go (meets (due .follows) (rw one-kind (omega arith)) (omega arith)) (due .room) }
           where
             go : {p q : Prefix} → Meets first first-place second second-place p q → prefix-width (concat p q) ≤ length lent
                 → Moves (first-place + prefix-width p) (second-place + prefix-width q) (prefix-bytes (concat p q) []) lent (back 1 (set lent 0 k) y)
@@ -182,7 +187,7 @@ module _ (first : List ℕ) (first-place : ℕ) (second : List ℕ) (second-plac
 
           pub crossing-due : ConcatDue first first-place second second-place lent → PrefixDue second (m .second) (part (1 + m .written) (back 1 (set lent 0 k) y))
           unfolding prefix-width concat
-          crossing-due due = go (meets (due .follows) (rw one-kind (omega arith))) (due .room)
+          crossing-due due = go (meets (due .follows) (rw one-kind (omega arith)) (omega arith)) (due .room)
             where
               go : {p q : Prefix} → Meets first first-place second second-place p q → prefix-width (concat p q) ≤ length lent
                   → PrefixDue second (m .second) (part (1 + m .written) (back 1 (set lent 0 k) y))
@@ -195,7 +200,7 @@ module _ (first : List ℕ) (first-place : ℕ) (second : List ℕ) (second-plac
               → ConcatWritten first first-place second second-place lent (back (1 + m .written) (back 1 (set lent 0 k) y) z)
               (record { first = m .first; second = m .second + n; written = 1 + m .written + n })
           unfolding prefix-width concat prefix-bytes
-          crossing-written {z} {n} copied = record { each = λ due. go (meets (due .follows) (rw one-kind (omega arith))) (due .room) }
+          crossing-written {z} {n} copied = record { each = λ due. go (meets (due .follows) (rw one-kind (omega arith)) (omega arith)) (due .room) }
             where
               go : {p q : Prefix} → Meets first first-place second second-place p q → prefix-width (concat p q) ≤ length lent
                   → Moves (first-place + prefix-width p) (second-place + prefix-width q) (prefix-bytes (concat p q) []) lent (back (1 + m .written) (back 1 (set lent 0 k) y) z)
@@ -230,7 +235,7 @@ module _ (first : List ℕ) (first-place : ℕ) (second : List ℕ) (second-plac
         pub aside-due : ConcatDue first first-place second second-place lent
             → ConcatDue first (m .first) second (m .second) (part (1 + m .written) (back 1 (set lent 0 k) y))
         unfolding prefix-width concat
-        aside-due due = go (meets (due .follows) (rw one-kind (omega arith))) (due .room)
+        aside-due due = go (meets (due .follows) (rw one-kind (omega arith)) (omega arith)) (due .room)
           where
             go : {p q : Prefix} → Meets first first-place second second-place p q → prefix-width (concat p q) ≤ length lent
                 → ConcatDue first (m .first) second (m .second) (part (1 + m .written) (back 1 (set lent 0 k) y))
@@ -244,7 +249,7 @@ module _ (first : List ℕ) (first-place : ℕ) (second : List ℕ) (second-plac
             → ConcatWritten first first-place second second-place lent (back (1 + m .written) (back 1 (set lent 0 k) y) z)
             (record { first = n .first; second = n .second; written = 1 + m .written + n .written })
         unfolding prefix-width concat prefix-bytes
-        aside-written {z} {n} joined = record { each = λ due. go (meets (due .follows) (rw one-kind (omega arith))) (due .room) }
+        aside-written {z} {n} joined = record { each = λ due. go (meets (due .follows) (rw one-kind (omega arith)) (omega arith)) (due .room) }
           where
             go : {p q : Prefix} → Meets first first-place second second-place p q → prefix-width (concat p q) ≤ length lent
                 → Moves (first-place + prefix-width p) (second-place + prefix-width q) (prefix-bytes (concat p q) []) lent (back (1 + m .written) (back 1 (set lent 0 k) y) z)
@@ -267,7 +272,7 @@ module _ (first : List ℕ) (first-place : ℕ) (second : List ℕ) (second-plac
 
     pub copies-first : ConcatDue first first-place second second-place lent → PrefixDue first (first-place + 1) (part 1 (set lent 0 6))
     unfolding prefix-width concat
-    copies-first due = go (meets (due .follows) (rw one-kind (omega arith))) (due .room)
+    copies-first due = go (meets (due .follows) (rw one-kind (omega arith)) (omega arith)) (due .room)
       where
         go : {p q : Prefix} → Meets first first-place second second-place p q → prefix-width (concat p q) ≤ length lent
             → PrefixDue first (first-place + 1) (part 1 (set lent 0 6))
@@ -307,7 +312,7 @@ module _ (first : List ℕ) (first-place : ℕ) (second : List ℕ) (second-plac
 
       pub copied : ConcatDue first first-place second second-place lent → Copied
       unfolding prefix-width concat
-      copied due = go (meets (due .follows) (rw one-kind (omega arith))) (due .room)
+      copied due = go (meets (due .follows) (rw one-kind (omega arith)) (omega arith)) (due .room)
         where
           go : {p q : Prefix} → Meets first first-place second second-place p q → prefix-width (concat p q) ≤ length lent → Copied
           go (coming d e f) r = absurd (omega arith)
@@ -321,7 +326,7 @@ module _ (first : List ℕ) (first-place : ℕ) (second : List ℕ) (second-plac
       pub behind-due : ConcatDue first first-place second second-place lent
           → ConcatDue first (first-place + (1 + n)) second second-place (part (1 + n) (back 1 (set lent 0 6) y))
       unfolding prefix-width concat
-      behind-due due = go (meets (due .follows) (rw one-kind (omega arith))) (due .room)
+      behind-due due = go (meets (due .follows) (rw one-kind (omega arith)) (omega arith)) (due .room)
         where
           go : {p q : Prefix} → Meets first first-place second second-place p q → prefix-width (concat p q) ≤ length lent
               → ConcatDue first (first-place + (1 + n)) second second-place (part (1 + n) (back 1 (set lent 0 6) y))
@@ -335,7 +340,7 @@ module _ (first : List ℕ) (first-place : ℕ) (second : List ℕ) (second-plac
           → ConcatWritten first first-place second second-place lent (back (1 + n) (back 1 (set lent 0 6) y) z)
           (record { first = m .first; second = m .second; written = 1 + n + m .written })
       unfolding prefix-width concat prefix-bytes
-      behind-written {z} {m} joined = record { each = λ due. go (meets (due .follows) (rw one-kind (omega arith))) (due .room) }
+      behind-written {z} {m} joined = record { each = λ due. go (meets (due .follows) (rw one-kind (omega arith)) (omega arith)) (due .room) }
         where
           go : {p q : Prefix} → Meets first first-place second second-place p q → prefix-width (concat p q) ≤ length lent
               → Moves (first-place + prefix-width p) (second-place + prefix-width q) (prefix-bytes (concat p q) []) lent (back (1 + n) (back 1 (set lent 0 6) y) z)

@@ -1,11 +1,13 @@
 pub mod PrefixKinds
 pub mod JoiningLeaf
 pub mod JoiningParts
+pub mod JoiningChoice
 pub mod JoinedFile
 pub mod RoomBehind
 pub mod SectionFile
 pub mod SliceWalk
 pub mod SliceLeft
+pub mod SliceChoice
 pub mod SliceFile
 pub mod EmptyWalk
 pub mod SpentWalk

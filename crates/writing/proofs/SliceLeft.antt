@@ -17,7 +17,7 @@ use Rattle.stream.specs.Types.{Ty, empty, seq, par, size, type-limit, first-par
 use Rattle.stream.specs.Types.Laws.{size-positive}
 use Rattle.stream.specs.Levels.{value-width}
 use Rattle.stream.specs.Levels.Laws.{value-there, value-missing}
-use Rattle.stream.specs.Prefixes.{Prefix, nothing, cue-awaited, cue-come, level-awaited, level-come, in-first, crossed, beside, derivative}
+use Rattle.stream.specs.Prefixes.{Prefix, nothing, cue-awaited, cue-come, level-awaited, level-come, in-first, crossed, beside, none-chosen, derivative}
 use Rattle.stream.specs.Prefixes.Kinds.{prefix-arities, prefix-arity, root-width}
 use Rattle.stream.specs.Reading.{Reading, read, fault, read-on, leaf}
 use Rattle.stream.specs.Reading.Laws.{_&_, past, every}
@@ -99,12 +99,15 @@ module _ (t : Ty) (c : Bool) (budget n place : ℕ) (s r lent now : List ℕ) (l
       & (λ none e h. absurd (omega arith))
       & (λ none e h. absurd (omega arith))
       & (λ none e h. absurd (omega arith))
+      & (λ none e h. plain-left none-chosen e (h (omega arith)))
+      & (λ none e h. absurd (omega arith))
+      & (λ none e h. absurd (omega arith))
       & past (λ k l none e h. absurd (omega (arith, beyond prefix-arities 2 k l))))
 
 -- The walk that failed, and one through a leaf
 
 -- One type stands there, and it has a node, so the budget is not spent.
-all-left : {types : List ℕ} {at : ℕ} {t : Ty} → TypeAt types at t → (slice : List ℕ) (place : ℕ) (c : Bool) (lent now : List ℕ)
+pub all-left : {types : List ℕ} {at : ℕ} {t : Ty} → TypeAt types at t → (slice : List ℕ) (place : ℕ) (c : Bool) (lent now : List ℕ)
     → ((budget : ℕ) → size t ≤ suc budget → LeftBy t (read-owed (suc budget) (owed t c) (drop place slice)) lent now)
     → (u : Ty) → TypeAt types at u → (budget : ℕ) → size u ≤ budget → LeftBy u (read-owed budget (owed u c) (drop place slice)) lent now
 all-left here slice place c lent now each u other zero enough = absurd (omega (arith, size-positive u))
@@ -185,7 +188,7 @@ module _ {types : List ℕ} {at : ℕ} {t : Ty} {slice : List ℕ} {place : ℕ}
     unfolding LeftBy known first-prefix
     first-written not-crossed =
         let f = first-within (half .halfway) budget enough in
-        let kept = half .starts .kept not-crossed in
+        let kept = half .starts .kept not-crossed (half .halfway .forks .no-choice) in
         let remains : first .remains ≡ size (derivative (first-part t) (f .prefix)) = ap (λ k. k .remains) (f .knows) in
         written-part (written-on (nothing-written lent) (kept .0)) (kept .1)
         (rw (f .reads) at (half .first-left .left (first-part t) (first-stands (half .halfway .forks)) budget enough))

@@ -1,6 +1,6 @@
 -- A prefix walked through beside its type: what each kind byte comes to, from how the walks through the parts ended.
 use mathlib.Core.Path.{_≡_, refl, sym, ap, ap₂, _∙_}
-use mathlib.Core.Bool.{Bool, true, false, not}
+use mathlib.Core.Bool.{Bool, true, false, not, true≢false}
 use mathlib.Core.Logic.{⊎-elim}
 use mathlib.Core.List.{List, [], _∷_}
 use Prim.Native.Nat.{ℕ, zero, suc, _+_, _-_, _≤_, _<_}
@@ -21,7 +21,7 @@ use Rattle.stream.specs.Types.Laws.{and-left, size-positive}
 use Rattle.stream.specs.Types.Kinds.{type-arity, leaf-alone}
 use Rattle.stream.specs.Levels.{value-width}
 use Rattle.stream.specs.Levels.Laws.{value-there, value-missing}
-use Rattle.stream.specs.Prefixes.{Prefix, nothing, cue-awaited, cue-come, level-awaited, level-come, in-first, crossed, beside, derivative}
+use Rattle.stream.specs.Prefixes.{Prefix, nothing, cue-awaited, cue-come, level-awaited, level-come, in-first, crossed, beside, none-chosen, derivative}
 use Rattle.stream.specs.Prefixes.Functions.{complete}
 use Rattle.stream.specs.Prefixes.Laws.{derivative-size}
 use Rattle.stream.specs.Prefixes.Kinds.{prefix-arities, prefix-arity, root-width}
@@ -63,6 +63,9 @@ come-alone =
     & (λ n f. absurd (omega arith))
     & (λ n f. absurd (omega arith))
     & (λ n f. absurd (omega arith))
+    & (λ n f. absurd (true≢false f))
+    & (λ n f. absurd (omega arith))
+    & (λ n f. absurd (omega arith))
     & past (λ k l n f. absurd (omega (arith, beyond prefix-arities 2 k l))))
 
 abbrev pub level-root : Reading ℕ → Reading (Root Owed Prefix)
@@ -101,6 +104,9 @@ module _ (t : Ty) (c : Bool) (budget at n place : ℕ) (s r : List ℕ) (long : 
       & (λ none alone e. awaited 3 level-awaited e refl refl refl refl)
       & (λ none alone e. level-read (alone refl) e)
       & (λ none alone e. absurd (omega arith))
+      & (λ none alone e. absurd (omega arith))
+      & (λ none alone e. absurd (omega arith))
+      & (λ none alone e. awaited 8 none-chosen e refl refl refl refl)
       & (λ none alone e. absurd (omega arith))
       & (λ none alone e. absurd (omega arith))
       & past (λ k l none alone e. absurd (omega (arith, beyond prefix-arities 2 k l))))
@@ -246,10 +252,10 @@ module _ {types : List ℕ} {at : ℕ} {t : Ty} (stands : TypeAt types at t) (sl
     here : drop place slice ≡ getD slice place 0 ∷ drop (place + 1) slice
     here = drop-cons slice place 0 more ∙ rw add-one
 
-    pub unlisted : 7 < getD slice place 0 → Walks types at slice place c (Failed SliceUnlisted)
+    pub unlisted : 10 < getD slice place 0 → Walks types at slice place c (Failed SliceUnlisted)
     unlisted h = stops SliceUnlisted (rw here (root-unlisted t c (drop (place + 1) slice) (getD slice place 0) h))
 
-    tested : getD slice place 0 ≤ 7 → (b : Bool) → b ≡ belongs-at (getD types at 0) (getD slice place 0) c
+    tested : getD slice place 0 ≤ 10 → (b : Bool) → b ≡ belongs-at (getD types at 0) (getD slice place 0) c
         → prefix-root (owed t c) (drop place slice) ≡ belongs b (kind-root (getD slice place 0) t c) (drop (place + 1) slice)
     tested l b e =
         ap (prefix-root (owed t c)) here
@@ -257,7 +263,7 @@ module _ {types : List ℕ} {at : ℕ} {t : Ty} (stands : TypeAt types at t) (sl
         ∙ ap (λ x. belongs x (kind-root (getD slice place 0) t c) (drop (place + 1) slice))
         (ap (λ x. belongs-at x (getD slice place 0) c) (sym (kind-at stands)) ∙ sym e)
 
-    pub misplaced : getD slice place 0 ≤ 7 → false ≡ belongs-at (getD types at 0) (getD slice place 0) c
+    pub misplaced : getD slice place 0 ≤ 10 → false ≡ belongs-at (getD types at 0) (getD slice place 0) c
         → Walks types at slice place c (Failed SliceMisplaced)
     misplaced l e = stops SliceMisplaced (tested l false e)
 
@@ -266,7 +272,7 @@ pub record Begins (types : List ℕ) (at : ℕ) (t : Ty) (slice : List ℕ) (pla
   pub stands : TypeAt types at t
   pub bytes : Bytes slice
   pub more : place < length slice
-  pub listed : getD slice place 0 ≤ 7
+  pub listed : getD slice place 0 ≤ 10
   pub fits : true ≡ belongs-at (getD types at 0) (getD slice place 0) c
 
 module _ {types : List ℕ} {at : ℕ} {t : Ty} {slice : List ℕ} {place : ℕ} {c : Bool} (begins : Begins types at t slice place c) where
@@ -289,10 +295,12 @@ module _ {types : List ℕ} {at : ℕ} {t : Ty} {slice : List ℕ} {place : ℕ}
       (λ budget enough. leaf-ends .each t (begins .stands)
       ∙ leaf-read t c budget at (length slice) place (drop place slice) (drop (place + 1) slice) long (getD slice place 0) none alone begun)
 
--- A kind byte with parts behind it that belongs there; d says whether the first part has to be complete.
+-- A kind byte with parts behind it, of which the first is walked through first, that belongs there; d says whether that part has to
+-- be complete.
 pub record Forks (types : List ℕ) (at : ℕ) (t : Ty) (slice : List ℕ) (place : ℕ) (c d : Bool) : Type 0 where
   pub begins : Begins types at t slice place c
   pub parts : prefix-arity (getD slice place 0) ≡ 0 → ⊥
+  pub no-choice : getD slice place 0 ≤ 8
   pub handed : d ≡ first-complete (getD slice place 0) c
 
 -- A prefix with parts belongs to a type with two.
@@ -307,15 +315,18 @@ forks-on =
     & (λ h. refl)
     & (λ h. refl)
     & (λ h. refl)
+    & (λ h. absurd (h refl))
+    & (λ h. refl)
+    & (λ h. refl)
     & past (λ k l h. refl))
 
--- A kind with parts is read as its first part and what is behind it.
-parts-of : (t : Ty) (c d : Bool) (budget : ℕ) (s r : List ℕ) (k : ℕ) → (prefix-arity k ≡ 0 → ⊥) → k ≤ 7 → d ≡ first-complete k c
+-- A kind with parts that is no choice is read as its first part and what is behind it.
+parts-of : (t : Ty) (c d : Bool) (budget : ℕ) (s r : List ℕ) (k : ℕ) → (prefix-arity k ≡ 0 → ⊥) → k ≤ 8 → d ≡ first-complete k c
     → prefix-root (owed t c) s ≡ kind-root k t c r
     → read-owed (suc budget) (owed t c) s ≡ read-on (read-owed budget (owed (first-part t) d) r) (behind-first t c budget k)
 parts-of t c d budget s r =
     every
-    (λ k root. (prefix-arity k ≡ 0 → ⊥) → k ≤ 7 → d ≡ first-complete k c → prefix-root (owed t c) s ≡ root r
+    (λ k root. (prefix-arity k ≡ 0 → ⊥) → k ≤ 8 → d ≡ first-complete k c → prefix-root (owed t c) s ≡ root r
     → read-owed (suc budget) (owed t c) s ≡ read-on (read-owed budget (owed (first-part t) d) r) (behind-first t c budget k))
     (λ x. fault SliceUnlisted) (kind-roots t c)
     ((λ parts l h e. absurd (parts refl))
@@ -326,11 +337,18 @@ parts-of t c d budget s r =
     & (λ parts l h e. rw h (reads-one t c budget s in-first _ r e))
     & (λ parts l h e. rw h (reads-two t c budget s crossed _ _ r e))
     & (λ parts l h e. rw h (reads-two t c budget s beside _ _ r e))
+    & (λ parts l h e. absurd (parts refl))
+    & (λ parts l h e. absurd (omega arith))
+    & (λ parts l h e. absurd (omega arith))
     & past (λ k long parts l h e. absurd (omega arith)))
+
+pub fork-under : {types : List ℕ} {at : ℕ} {t : Ty} {slice : List ℕ} {place : ℕ} {c : Bool} → Begins types at t slice place c
+    → (prefix-arity (getD slice place 0) ≡ 0 → ⊥) → 3 ≤ kind t
+fork-under {t = t} {slice} {place} begins parts = parts-fork (kind t) (ap type-arity (type-kind-is begins) ∙ forks-on (getD slice place 0) parts)
 
 module _ {types : List ℕ} {at : ℕ} {t : Ty} {slice : List ℕ} {place : ℕ} {c d : Bool} (forks : Forks types at t slice place c d) where
   fork : 3 ≤ kind t
-  fork = parts-fork (kind t) (ap type-arity (type-kind-is (forks .begins)) ∙ forks-on (getD slice place 0) (forks .parts))
+  fork = fork-under (forks .begins) (forks .parts)
 
   whole-size : size t ≡ suc (size (first-part t) + size (second-part t))
   whole-size = fork-size t fork
@@ -342,7 +360,7 @@ module _ {types : List ℕ} {at : ℕ} {t : Ty} {slice : List ℕ} {place : ℕ}
       → read-owed (suc budget) (owed t c) (drop place slice)
       ≡ read-on (read-owed budget (owed (first-part t) d) (drop (place + 1) slice)) (behind-first t c budget (getD slice place 0))
   parts-read budget =
-      parts-of t c d budget (drop place slice) (drop (place + 1) slice) (getD slice place 0) (forks .parts) (forks .begins .listed) (forks .handed)
+      parts-of t c d budget (drop place slice) (drop (place + 1) slice) (getD slice place 0) (forks .parts) (forks .no-choice) (forks .handed)
       (begun (forks .begins))
 
   pub first-failed : (e : Fault) → Walks types (at + 1) slice (place + 1) d (Failed e) → Walks types at slice place c (Failed e)

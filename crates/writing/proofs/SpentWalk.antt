@@ -1,6 +1,7 @@
 -- What a complete prefix leaves, written byte by byte: what is written so far goes before what is left by the complete prefixes
 -- that are still owed, one behind the other.
 use mathlib.Core.Path.{_≡_, refl, sym, ap, _∙_}
+use mathlib.Core.Bool.{true, false, true≢false}
 use mathlib.Core.List.{List, [], _∷_, _++_, append-nil}
 use Prim.Native.Nat.{ℕ, suc, _+_, _-_, _≤_, _<_}
 use native.Mathlib.Omega.{arith}
@@ -9,13 +10,13 @@ use lib.Seq.{append-snoc}
 use Rattle.stream.specs.Types.{Ty, first-part, second-part}
 use Rattle.stream.specs.Types.Laws.{size-positive}
 use Rattle.stream.specs.Buffers.{at-front}
-use Rattle.stream.specs.Prefixes.{Prefix, Complete, whole-nothing, whole-cue, whole-level, whole-crossed, whole-beside, derivative}
+use Rattle.stream.specs.Prefixes.{Prefix, Complete, whole-nothing, whole-cue, whole-level, whole-crossed, whole-beside, whole-first-chosen, whole-second-chosen, derivative}
 use Rattle.stream.specs.TypeFiles.{type-bytes}
 use Rattle.stream.specs.TypeFiles.Laws.{type-length}
 use Rattle.stream.specs.Prefixes.Kinds.{prefix-kind, prefix-arity, root-width}
 use Rattle.reading.specs.TypeReads.Laws.{type-width}
-use Rattle.reading.specs.SliceReads.{prefix-width, PrefixAt, SomePrefixAt, PrefixEnds}
-use Rattle.reading.specs.SliceReads.Laws.{width-positive, root-positive, prefix-inside, kind-at, crossed-first-at, crossed-second-at, beside-first-at, beside-second-at}
+use Rattle.reading.specs.SliceReads.{prefix-width, is-unfinished, PrefixAt, SomePrefixAt, PrefixEnds}
+use Rattle.reading.specs.SliceReads.Laws.{width-positive, root-positive, prefix-inside, kind-at, crossed-first-at, crossed-second-at, beside-first-at, beside-second-at, first-chosen-at, second-chosen-at}
 use Rattle.writing.specs.Writing.{SpentDue, SpentWritten}
 use Rattle.writing.specs.Appending.Laws.{WrittenSoFar, nothing-written, written-on}
 use Rattle.writing.proofs.RoomBehind.{appended-byte}
@@ -38,13 +39,15 @@ record Crosses (slice : List ℕ) (owed next : ℕ) (left : List ℕ) : Type 0 w
   first : SomePrefixAt slice (next + 1)
   second : (end : ℕ) → PrefixEnds slice (next + 1) end → (next < end) × Pending slice owed end left
 
--- No complete prefix has a first part that is still coming, and none a kind above 7.
-not-coming : {p : Prefix} → Complete p → prefix-kind p ≡ 5 → ⊥
-not-coming whole-nothing e = omega arith
-not-coming whole-cue e = omega arith
-not-coming whole-level e = omega arith
-not-coming (whole-crossed d) e = omega arith
-not-coming (whole-beside c d) e = omega arith
+-- A complete prefix is of no kind that would keep it from being complete.
+finished-kind : {p : Prefix} → Complete p → is-unfinished (prefix-kind p) ≡ false
+finished-kind whole-nothing = refl
+finished-kind whole-cue = refl
+finished-kind whole-level = refl
+finished-kind (whole-crossed d) = refl
+finished-kind (whole-beside c d) = refl
+finished-kind (whole-first-chosen c) = refl
+finished-kind (whole-second-chosen c) = refl
 
 module _ {slice : List ℕ} where
   -- Each prefix leaves a byte at least.
@@ -87,6 +90,8 @@ module _ {slice : List ℕ} where
             (omega arith, more (second-part t) (crossed-second-at s behind) d (moved r refl (omega arith)));
       }
   crosses (more t s (whole-beside c d) r) h e = absurd (omega (arith, kind-at s))
+  crosses (more t s (whole-first-chosen c) r) h e = absurd (omega (arith, kind-at s))
+  crosses (more t s (whole-second-chosen c) r) h e = absurd (omega (arith, kind-at s))
 
   -- Two prefixes side by side: both are owed, and leave their types side by side.
   forks : {owed next : ℕ} {left : List ℕ} → Pending slice owed next left → 0 < owed → getD slice next 0 ≡ 7
@@ -100,6 +105,21 @@ module _ {slice : List ℕ} where
   forks (more t s (whole-beside c d) r) h e =
       let second = more (second-part t) (beside-second-at s refl) d (moved r refl (omega arith)) in
       record { others = _; starts-with = refl; pending = moved (more (first-part t) (beside-first-at s) c second) (omega arith) refl }
+  forks (more t s (whole-first-chosen c) r) h e = absurd (omega (arith, kind-at s))
+  forks (more t s (whole-second-chosen c) r) h e = absurd (omega (arith, kind-at s))
+
+  -- A choice leaves what the slice behind its mark leaves, and no byte is written.
+  chooses : {owed next : ℕ} {left : List ℕ} → Pending slice owed next left → 0 < owed → 8 < getD slice next 0
+      → Pending slice owed (next + 1) left
+  unfolding prefix-width derivative
+  chooses (none i) h e = absurd (omega arith)
+  chooses (more t s whole-nothing r) h e = absurd (omega (arith, kind-at s))
+  chooses (more t s whole-cue r) h e = absurd (omega (arith, kind-at s))
+  chooses (more t s whole-level r) h e = absurd (omega (arith, kind-at s))
+  chooses (more t s (whole-crossed d) r) h e = absurd (omega (arith, kind-at s))
+  chooses (more t s (whole-beside c d) r) h e = absurd (omega (arith, kind-at s))
+  chooses (more t s (whole-first-chosen c) r) h e = more (first-part t) (first-chosen-at s) c (moved r refl (omega arith))
+  chooses (more t s (whole-second-chosen c) r) h e = more (second-part t) (second-chosen-at s) c (moved r refl (omega arith))
 
   -- A complete leaf leaves the empty type.
   leaves : {owed next : ℕ} {left : List ℕ} → Pending slice owed next left → 0 < owed → prefix-arity (getD slice next 0) ≡ 0
@@ -111,11 +131,13 @@ module _ {slice : List ℕ} where
   leaves (more t s whole-level r) h e = record { others = _; starts-with = refl; pending = rw (kind-at s) (moved r (omega arith) refl) }
   leaves (more t s (whole-crossed d) r) h e = absurd (omega (arith, rw (kind-at s) at e))
   leaves (more t s (whole-beside c d) r) h e = absurd (omega (arith, rw (kind-at s) at e))
+  leaves (more t s (whole-first-chosen c) r) h e = absurd (omega (arith, rw (kind-at s) at e))
+  leaves (more t s (whole-second-chosen c) r) h e = absurd (omega (arith, rw (kind-at s) at e))
 
   not-other : {owed next : ℕ} {left : List ℕ} → Pending slice owed next left → 0 < owed
-      → (getD slice next 0 ≡ 5 → ⊥) × (getD slice next 0 ≤ 7)
+      → (is-unfinished (getD slice next 0) ≡ false) × (getD slice next 0 ≤ 10)
   not-other (none i) h = absurd (omega arith)
-  not-other (more t {p} s d r) h = (λ five. not-coming d (sym (kind-at s) ∙ five), omega (arith, kind-at s, kind-listed p))
+  not-other (more t {p} s d r) h = (ap is-unfinished (kind-at s) ∙ finished-kind d, omega (arith, kind-at s, kind-listed p))
 
 -- What is written so far, and what the prefixes that are still owed leave, are all that is to be written.
 pub record Spending (slice lent whole now : List ℕ) (owed next written : ℕ) : Type 0 where
@@ -166,6 +188,18 @@ module _ {slice lent whole now : List ℕ} {owed next written : ℕ} (spending :
   pub within : next ≤ length slice
   within = ends-inside (spending .pending)
 
+  -- A place is passed, and no byte is written.
+  passed : {end : ℕ} → Pending slice owed end (spending .left) → Spending slice lent whole now owed end written
+  passed pending =
+      record {
+        bytes = spending .bytes;
+        left = spending .left;
+        all = spending .all;
+        room = spending .room;
+        so-far = spending .so-far;
+        pending = pending;
+      }
+
   module _ (wanted : 0 < owed) where
     pub inside : next < length slice
     inside = starts-inside (spending .pending) wanted
@@ -189,18 +223,11 @@ module _ {slice lent whole now : List ℕ} {owed next written : ℕ} (spending :
 
     pub crossed : getD slice next 0 ≡ 6 → {end : ℕ} → PrefixEnds slice (next + 1) end
         → (next < end) × Spending slice lent whole now owed end written
-    crossed six {end} ends =
-        let onward = crosses (spending .pending) wanted six .second end ends in (
-          onward .0,
-          record {
-            bytes = spending .bytes;
-            left = spending .left;
-            all = spending .all;
-            room = spending .room;
-            so-far = spending .so-far;
-            pending = onward .1;
-          },
-        )
+    crossed six {end} ends = let onward = crosses (spending .pending) wanted six .second end ends in (onward .0, passed (onward .1))
+
+    -- At a choice it goes on behind the mark without a byte.
+    pub chosen : 8 < getD slice next 0 → Spending slice lent whole now owed (next + 1) written
+    chosen is-mark = passed (chooses (spending .pending) wanted is-mark)
 
     -- At a kind 7 a byte 4 is written, and one prefix more is owed.
     pub forked : getD slice next 0 ≡ 7 → Spending slice lent whole (set now written 4) (owed + 1) (next + 1) (written + 1)
@@ -212,9 +239,12 @@ module _ {slice lent whole now : List ℕ} {owed next written : ℕ} (spending :
     leaf h e =
         (omega (arith, e, root-positive (getD slice next 0)), rw e (turned (leaves (spending .pending) wanted (leaf-kind _ h))))
 
-    -- Other kinds do not stand there.
-    pub no-other : (getD slice next 0 ≡ 5 → ⊥) × (getD slice next 0 ≤ 7)
-    no-other = not-other (spending .pending) wanted
+    -- No other kind stands there, nor one that would keep the prefix from being complete.
+    pub no-unfinished : is-unfinished (getD slice next 0) ≡ true → ⊥
+    no-unfinished unfinished = true≢false (sym unfinished ∙ not-other (spending .pending) wanted .0)
+
+    pub listed : getD slice next 0 ≤ 10
+    listed = not-other (spending .pending) wanted .1
 
 -- So after the loop the contract is met, whichever prefix stood at `place`.
 pub spent : {slice : List ℕ} {place : ℕ} {lent now : List ℕ} {owed next written : ℕ}

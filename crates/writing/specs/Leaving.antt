@@ -2,7 +2,7 @@
 use mathlib.Core.Path.{_≡_}
 use mathlib.Core.Bool.{Bool, cond}
 use mathlib.Core.List.{List, [], _∷_}
-use Prim.Native.Nat.{ℕ, _+_, _-_, _≤_}
+use Prim.Native.Nat.{ℕ, _+_, _-_, _≤_, _<_}
 use lib.ListN.{length, getD, drop}
 use Rattle.stream.specs.Types.{Ty, empty, size}
 use Rattle.stream.specs.Prefixes.{Prefix, derivative}
@@ -12,7 +12,7 @@ use Rattle.stream.specs.TypeFiles.{type-bytes}
 use Rattle.stream.specs.SliceFiles.{owed, slice-file}
 use Rattle.reading.specs.declared.prefixes.Walk.{Walk}
 use Rattle.reading.specs.declared.prefixes.SliceRead.{SliceRead}
-use Rattle.reading.specs.TypeReads.{TypeAt}
+use Rattle.reading.specs.TypeReads.{TypeAt, TypeEnds}
 use Rattle.reading.specs.SliceReads.{is-unfinished, WalksLeaf, read-owed, Walks, ReadsSlice}
 use Rattle.writing.specs.Appending.{Holds, Appends, Within}
 
@@ -32,13 +32,19 @@ pub record WalksLeafLeaving (types : List ℕ) (at : ℕ) (slice : List ℕ) (pl
   pub left : root-width (getD slice place 0) ≤ length slice - place
       → (t : Ty) → TypeAt types at t → Holds (type-bytes (leaf-leaves (is-unfinished (getD slice place 0)) t) []) lent lent-after
 
--- Where the first part under a slice's kind writes what it leaves: behind the kind byte that the type left keeps, or nowhere if
--- it was crossed, since then nothing of it is left.
+-- Where the part that is walked through first under a slice's kind writes what it leaves: behind the kind byte that the type left
+-- keeps; nowhere if it was crossed, since then nothing of it is left; at the front if it was chosen, since that is all that is left.
 pub record FirstStarts (kind type-kind : ℕ) (lent lent-after : List ℕ) (start : ℕ) : Type 0 where
   pub long : length lent-after ≡ length lent
   pub inside : start ≤ length lent-after
   pub crossed : kind ≡ 6 → (lent-after ≡ lent) × (start ≡ length lent)
-  pub kept : (kind ≡ 6 → ⊥) → Appends (type-kind ∷ []) 0 lent lent-after 1 × Within 1 (length lent-after) start
+  pub chosen : 8 < kind → (lent-after ≡ lent) × (start ≡ 0)
+  pub kept : (kind ≡ 6 → ⊥) → kind ≤ 8 → Appends (type-kind ∷ []) 0 lent lent-after 1 × Within 1 (length lent-after) start
+
+-- Where the part stands that is walked through first: behind the kind byte, or behind the first part if the second was chosen.
+pub record PartStarts (types : List ℕ) (at kind start : ℕ) : Type 0 where
+  pub first : (kind ≡ 10 → ⊥) → start ≡ at + 1
+  pub second : kind ≡ 10 → TypeEnds types (at + 1) start
 
 -- What a prefix that was read leaves of t has been written; where none was read nothing is said.
 unfoldable pub LeftBy : Ty → Reading Prefix → (lent lent-after : List ℕ) → Type 0

@@ -2,3 +2,4 @@ pub mod Writing
 pub mod Appending
 pub mod Reordering
 pub mod Leaving
+pub mod Comparing

@@ -76,7 +76,7 @@ pub record JoinedFileWritten (first second : List ℕ) (joined : ℕ) (lent lent
 
 -- The kind that the empty prefix of a type begins with, by the type's kind; of a byte that is no type's kind nobody asks.
 abbrev pub empty-kind : ℕ → ℕ
-empty-kind k = getD (0 ∷ 1 ∷ 3 ∷ 5 ∷ 7 ∷ []) k 7
+empty-kind k = getD (0 ∷ 1 ∷ 3 ∷ 5 ∷ 7 ∷ 8 ∷ []) k 7
 
 -- The empty prefix of the type at `at` is to be written on `lent`, which has room for it.
 pub record EmptyDue (types : List ℕ) (at : ℕ) (lent : List ℕ) : Type 0 where

@@ -16,6 +16,7 @@ ghost use Rattle.stream.specs.Prefixes.Kinds.{prefix-arity};
 ghost use Rattle.writing.specs.Writing.{PrefixDue, PrefixWritten, LeafConcatDue, ConcatDue, ConcatWritten, JoinedFileDue, JoinedFileWritten, empty-kind, EmptyDue, EmptyWritten, SilenceDue, SilenceWritten, SpentDue, SpentWritten};
 
 pub mod appending;
+pub mod comparing;
 pub mod reordering;
 pub mod slices;
 
@@ -97,7 +98,7 @@ fn write_leaf_concat(
     }
 }
 
-// Writes the join of the prefix at `first_place` and the one at `second_place` of what the first leaves. No slice has a kind above 7.
+// Writes the join of the prefix at `first_place` and the one at `second_place` of what the first leaves. No slice has a kind above 10.
 pub fn write_concat(
     first: &[u8],
     first_place: usize,
@@ -153,7 +154,14 @@ pub fn write_concat(
             let rest = write_concat(first, part.first, second, part.second, &mut out[written..]);
             onward(rest, written)
         }
-        8..=255 => Moved::new(first_place, second_place, 0),
+        8 => write_leaf_concat(first, first_place, second, second_place, out),
+        // The mark of a choice stays, and the second prefix is one of what the part that was chosen leaves.
+        9..=10 => {
+            out[0] = first[first_place];
+            let part = write_concat(first, first_place + 1, second, second_place, &mut out[1..]);
+            onward(part, 1)
+        }
+        11..=255 => Moved::new(first_place, second_place, 0),
     }
 }
 
@@ -175,7 +183,7 @@ pub fn write_section(body: &[u8], out: &mut [u8])
     copy(body, &mut out[2..]);
 }
 
-// The kind that the empty prefix of a type begins with, by the type's kind. No type has a kind above 4.
+// The kind that the empty prefix of a type begins with, by the type's kind. No type has a kind above 5.
 fn empty_kind(kind: u8) -> u8
     ensures { λ r. ⌜ r ≡ empty-kind kind ⌝ }
 {
@@ -185,7 +193,8 @@ fn empty_kind(kind: u8) -> u8
         2 => 3,
         3 => 5,
         4 => 7,
-        5..=255 => 7,
+        5 => 8,
+        6..=255 => 7,
     }
 }
 
@@ -197,7 +206,8 @@ fn empty_parts(kind: u8) -> u8
         0..=2 => 0,
         3 => 1,
         4 => 2,
-        5..=255 => 2,
+        5 => 0,
+        6..=255 => 2,
     }
 }
 
@@ -252,7 +262,8 @@ pub fn write_silence(source: &[u8], out: &mut [u8])
 }
 
 // Writes the type that the complete prefix at `place` leaves, and says how many nodes it has. What a complete prefix leaves is
-// fixed by the prefix alone: the type is not asked for. A first part that is still coming does not stand in it, nor a kind above 7.
+// fixed by the prefix alone: the type is not asked for. A first part that is still coming does not stand in it, nor
+// a choice that is still to be made, nor a kind above 10.
 pub fn write_spent(slice: &[u8], place: usize, out: &mut [u8]) -> usize
     requires { ⌜ SpentDue (now slice) place (now out) ⌝ }
     ensures { λ r. ⌜ SpentWritten (now (slice .entry)) place (now (out .entry)) (now (out .exit)) r ⌝ }
@@ -281,7 +292,13 @@ pub fn write_spent(slice: &[u8], place: usize, out: &mut [u8]) -> usize
                 owed += 1;
                 next += 1;
             }
-            8..=255 => {
+            8 => {
+                return written;
+            }
+            9..=10 => {
+                next += 1;
+            }
+            11..=255 => {
                 return written;
             }
         }

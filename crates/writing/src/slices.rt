@@ -18,11 +18,11 @@ use reading::prefixes::root_width;
 use reading::sections::count_of;
 use reading::types::skip_type;
 use stream::Fault;
-ghost use Prim.Native.Nat.{_-_, _≤_, _<_};
+ghost use Prim.Native.Nat.{_+_, _-_, _≤_, _<_};
 ghost use lib.ListN.{length, take, drop};
 ghost use Rattle.reading.specs.TypeReads.{SomeTypeAt};
 ghost use Rattle.writing.specs.Appending.{Appends, PartDue};
-ghost use Rattle.writing.specs.Leaving.{LeafLeft, WalksLeafLeaving, FirstStarts, WalksLeaving, ReadsSliceLeaving};
+ghost use Rattle.writing.specs.Leaving.{LeafLeft, WalksLeafLeaving, FirstStarts, PartStarts, WalksLeaving, ReadsSliceLeaving};
 
 // Writes the type from `from` up to `to` behind the first `written` bytes, if there is room. Most have one node, for which no loop
 // is begun.
@@ -75,19 +75,34 @@ fn walk_leaf(types: &[u8], at: usize, slice: &[u8], place: usize, left: &mut [u8
     )
 }
 
-// Where the first part under a slice's kind writes what it leaves: behind the kind byte of its type, which is written, or at the
-// end, and so nothing, if it was crossed.
+// Where the part that is walked through first under a slice's kind writes what it leaves: behind the kind byte of its type, which is
+// written; at the end, and so nothing, if it was crossed; at the front if it was chosen, since then that is all that is left.
 fn first_start(kind: u8, ty: u8, left: &mut [u8]) -> usize
     ensures { λ r. ⌜ FirstStarts kind ty (now (left .entry)) (now (left .exit)) r ⌝ }
 {
     if kind == 6 {
         return left.len();
     }
+    if 8 < kind {
+        return 0;
+    }
     if left.len() == 0 {
         return 0;
     }
     left[0] = ty;
     1
+}
+
+// Where the part stands that is walked through first under a slice's kind: behind the kind byte of the type, or behind the first
+// part if the second was chosen.
+fn part_start(types: &[u8], at: usize, kind: u8) -> usize
+    requires { ⌜ SomeTypeAt (now types) (at + 1) ⌝ }
+    ensures { λ r. ⌜ PartStarts (now (types .entry)) at kind r ⌝ }
+{
+    if kind == 10 {
+        return skip_type(types, at + 1);
+    }
+    at + 1
 }
 
 // Walks through the type at `at` and the prefix of it at `place`, to the end of both or to the first fault.
@@ -108,7 +123,7 @@ fn walk_prefix(
         return Walk::Failed(Fault::SliceCutShort);
     }
     let kind = slice[place];
-    if 7 < kind {
+    if 10 < kind {
         return Walk::Failed(Fault::SliceUnlisted);
     }
     let ty = types[at];
@@ -120,7 +135,8 @@ fn walk_prefix(
     }
     let first = first_complete(kind, complete);
     let start = first_start(kind, ty, left);
-    match walk_prefix(types, at + 1, slice, place + 1, first, &mut left[start..]) {
+    let part = part_start(types, at, kind);
+    match walk_prefix(types, part, slice, place + 1, first, &mut left[start..]) {
         Walk::Failed(fault) => Walk::Failed(fault),
         Walk::Past(type_end, prefix_end, prefix) => match kind {
             5 => {
@@ -138,9 +154,15 @@ fn walk_prefix(
                 let second = walk_prefix(types, type_end, slice, prefix_end, complete, other);
                 beside(prefix, second)
             }
+            9 => {
+                let end = skip_type(types, type_end);
+                Walk::Past(end, prefix_end, prefix)
+            }
+            10 => Walk::Past(type_end, prefix_end, prefix),
             // These have no parts, or are no slice's kinds: both were told above.
             0..=4 => Walk::Failed(Fault::SliceMisplaced),
-            8..=255 => Walk::Failed(Fault::SliceUnlisted),
+            8 => Walk::Failed(Fault::SliceMisplaced),
+            11..=255 => Walk::Failed(Fault::SliceUnlisted),
         },
     }
 }

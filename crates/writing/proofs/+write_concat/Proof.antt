@@ -4,12 +4,15 @@ use borrow.Author.Needs.{needs}
 use borrow.Fn.Kinds.{In}
 use borrow.Fn.PlainCycle.{Measures, is, falls, and}
 use native.Mathlib.Omega.{arith}
-use mathlib.Core.Path.{refl}
+use mathlib.Core.Path.{refl, ap}
 use Prim.Native.Nat.{ℕ, _+_, _-_, _≤_, _<_}
 use lib.ListN.{length, getD, set, length-set}
+use Rattle.stream.specs.Prefixes.Kinds.{prefix-arity}
 use Rattle.writing.specs.Writing.Laws.{back}
+use Rattle.writing.proofs.PrefixKinds.{leaf-kind}
 use Rattle.writing.proofs.JoiningLeaf.{leaf-due, unlisted}
 use Rattle.writing.proofs.JoiningParts.{inside, settled, joins-first, started, coming-written, crossing-due, crossing-written, aside-due, aside-written, copies-first, copied, behind-due, behind-written}
+use Rattle.writing.proofs.JoiningChoice.{chosen-due, chosen-written}
 use Rattle.writing.proofs.write_concat.Reads as write-concat
 use Rattle.writing.proofs.write_concat.Kinds as write-concat-kinds
 use Rattle.writing.proofs.+write_concat.Lts-write_concat as lts
@@ -58,16 +61,23 @@ module _ (t : ℕ) where
   abbrev aside-kind : lts.After-write-concat3 calls here write-concat.Post → lts.At-match-keys3 calls here write-concat.Post
   aside-kind c = c .before .before
 
+  abbrev choice-read : lts.After-shared-slice-known5 calls here write-concat.Post
+      → lts.After-shared-slice-known3 calls here write-concat.Post
+  choice-read c = c .before .before .before .before
+
   abbrev coming-kind : lts.After-write-concat calls here write-concat.Post → lts.At-match-keys1 calls here write-concat.Post
   coming-kind c = c .before .before .before
 
   abbrev behind-copied : lts.After-slice-known4 calls here write-concat.Post → lts.After-copy-prefix2 calls here write-concat.Post
   behind-copied c = c .before .before
 
+  abbrev none-call : lts.After-slice-known8 calls here write-concat.Post → lts.After-write-leaf-concat calls here write-concat.Post
+  none-call c = c .before .before
+
   abbrev coming-part : lts.After-slice-known2 calls here write-concat.Post → lts.After-write-concat calls here write-concat.Post
   coming-part c = c .before .before
 
-  abbrev leaf-call : lts.After-slice-known8 calls here write-concat.Post → lts.After-write-leaf-concat calls here write-concat.Post
+  abbrev leaf-call : lts.After-slice-known9 calls here write-concat.Post → lts.After-write-leaf-concat2 calls here write-concat.Post
   leaf-call c = c .before .before
 
   abbrev aside-part : lts.After-struct-known3 calls here write-concat.Post → lts.After-write-concat3 calls here write-concat.Post
@@ -81,6 +91,10 @@ module _ (t : ℕ) where
 
   abbrev both-part : lts.After-write-concat4 calls here write-concat.Post → lts.After-write-concat3 calls here write-concat.Post
   both-part c = aside-part (c .before .before)
+
+  abbrev shared-slice-known5-before-onward4 : lts.After-onward4 calls here write-concat.Post
+      → lts.After-shared-slice-known5 calls here write-concat.Post
+  shared-slice-known5-before-onward4 c = c .before .before .before .before .before
 
   abbrev behind-call : lts.After-slice-known5 calls here write-concat.Post → lts.After-write-concat2 calls here write-concat.Post
   behind-call c = c .before .before
@@ -129,7 +143,7 @@ module _ (t : ℕ) where
       let kind = coming-kind c in
       let begun =
       started _ _ _ _ _ _ (c .write-concat .ensures) (entry (kind .before) .pre .1) (rw (kind .match .keys1) (omega arith))
-      (λ six. omega (arith, kind .match .keys1)) in
+      (omega (arith, kind .match .keys1)) (λ six. omega (arith, kind .match .keys1)) in
       (begun .within, omega (arith, begun .within, begun .kept))
 
   aside-within : (c : Aside)
@@ -140,7 +154,7 @@ module _ (t : ℕ) where
       let kind = aside-kind c in
       let begun =
       started _ _ _ _ _ _ (c .write-concat3 .ensures) (entry (kind .before) .pre .1) (rw (kind .match .keys3) (omega arith))
-      (λ six. omega (arith, kind .match .keys3)) in
+      (omega (arith, kind .match .keys3)) (λ six. omega (arith, kind .match .keys3)) in
       (begun .within, omega (arith, begun .within, begun .kept))
 
   -- With what the second prefix has of the second part copied, both sums are within the bytes that there are.
@@ -189,7 +203,8 @@ module _ (t : ℕ) where
       let kind = c .before .before in
       let start = entry (kind .before) in (
         omega (arith, start .pre .0, inside _ _ _ _ _ (start .pre .1)),
-        joins-first _ _ _ _ _ _ (start .pre .1) (rw (kind .match .keys1) (omega arith)) (λ six. omega (arith, kind .match .keys1)),
+        joins-first _ _ _ _ _ _ (start .pre .1) (rw (kind .match .keys1) (omega arith))
+            (omega (arith, kind .match .keys1)) (λ six. omega (arith, kind .match .keys1)),
       )
 
   onward-requires : lts.Need-onward-requires calls here write-concat.Post
@@ -366,7 +381,8 @@ module _ (t : ℕ) where
       let kind = c .before in
       let start = entry (kind .before) in (
         omega (arith, start .pre .0, inside _ _ _ _ _ (start .pre .1)),
-        joins-first _ _ _ _ _ _ (start .pre .1) (rw (kind .match .keys3) (omega arith)) (λ six. omega (arith, kind .match .keys3)),
+        joins-first _ _ _ _ _ _ (start .pre .1) (rw (kind .match .keys3) (omega arith))
+            (omega (arith, kind .match .keys3)) (λ six. omega (arith, kind .match .keys3)),
       )
 
   add-written-3 : lts.Need-add-written-3 calls here write-concat.Post
@@ -391,7 +407,7 @@ module _ (t : ℕ) where
           start .pre .0,
           inside _ _ _ _ _ (start .pre .1),
           started _ _ _ _ _ _ (first .write-concat3 .ensures) (start .pre .1) (rw (kind .match .keys3) (omega arith))
-              (λ six. omega (arith, kind .match .keys3)),
+              (omega (arith, kind .match .keys3)) (λ six. omega (arith, kind .match .keys3)),
         ),
         aside-due _ _ _ _ _ _ (first .write-concat3 .ensures) refl (kind .match .keys3) (start .pre .1),
       )
@@ -420,26 +436,83 @@ module _ (t : ℕ) where
       let first = both-part (both-call (c .before)) in
       settled _ _ _ _ _ (entry (aside-kind first .before) .pre .1) (returns-4 c) .kept
 
-  -- A leaf.
+  -- A leaf, and a choice that is still to be made.
+
+  write-leaf-concat-requires-2 : lts.Need-write-leaf-concat-requires-2 calls here write-concat.Post
+  write-leaf-concat-requires-2 c κs = leaf-due (leaf-kind _ (c .before .if2 .taken)) (entry (leaf-read (c .before)) .pre .1)
+
+  returns-6 : lts.Need-returns-6 calls here write-concat.Post
+  returns-6 c = leaf-call c .write-leaf-concat2 .ensures
+
+  same-length-6 : lts.Need-same-length-6 calls here write-concat.Post
+  same-length-6 c =
+      let branch = leaf-call c .before .before in
+      settled _ _ _ _ _ (entry (leaf-read branch) .pre .1) (returns-6 c) .kept
 
   write-leaf-concat-requires : lts.Need-write-leaf-concat-requires calls here write-concat.Post
-  write-leaf-concat-requires c κs = leaf-due (c .before .if2 .taken) (entry (leaf-read (c .before)) .pre .1)
+  write-leaf-concat-requires c κs = leaf-due (ap prefix-arity (c .before .match .keys4)) (entry (c .before .before) .pre .1)
 
   returns-5 : lts.Need-returns-5 calls here write-concat.Post
-  returns-5 c = leaf-call c .write-leaf-concat .ensures
+  returns-5 c = none-call c .write-leaf-concat .ensures
 
   same-length-5 : lts.Need-same-length-5 calls here write-concat.Post
-  same-length-5 c =
-      let branch = leaf-call c .before .before in
-      settled _ _ _ _ _ (entry (leaf-read branch) .pre .1) (returns-5 c) .kept
+  same-length-5 c = settled _ _ _ _ _ (entry (none-call c .before .before .before) .pre .1) (returns-5 c) .kept
 
-  -- A kind above 7 does not stand there.
+  -- A choice: the second prefix is joined with the slice behind the mark.
+
+  shared-slice-read-out : lts.Need-shared-slice-read-out calls here write-concat.Post
+  shared-slice-read-out c = omega (arith, inside _ _ _ _ _ (entry (choice-read c) .pre .1))
+
+  slice-write-out-4 : lts.Need-slice-write-out-4 calls here write-concat.Post
+  slice-write-out-4 c = omega (arith, inside _ _ _ _ _ (entry (choice-read c) .pre .1))
+
+  add-write-concat-6 : lts.Need-add-write-concat-6 calls here write-concat.Post
+  add-write-concat-6 c = omega (arith, inside _ _ _ _ _ (entry (choice-read c) .pre .1))
+
+  sub-write-concat-5 : lts.Need-sub-write-concat-5 calls here write-concat.Post
+  sub-write-concat-5 c = simp length-set (omega (arith, inside _ _ _ _ _ (entry (choice-read c) .pre .1)))
+
+  part-write-concat-start-5 : lts.Need-part-write-concat-start-5 calls here write-concat.Post
+  part-write-concat-start-5 c = sub-write-concat-5 c
+
+  part-write-concat-end-5 : lts.Need-part-write-concat-end-5 calls here write-concat.Post
+  part-write-concat-end-5 c = search needs
+
+  is-mark : (c : lts.After-shared-slice-known5 calls here write-concat.Post)
+      → let start = entry (choice-read c) in
+      8 < getD (start .args .first .now) (start .args .first-place) 0
+  is-mark c = omega (arith, c .before .before .before .match .rest, c .before .before .if2 .left)
+
+  write-concat-requires-5 : lts.Need-write-concat-requires-5 calls here write-concat.Post
+  write-concat-requires-5 c κs =
+      let start = entry (choice-read (c .before)) in
+      (omega (arith, start .pre .0, inside _ _ _ _ _ (start .pre .1)), chosen-due _ _ _ _ (is-mark (c .before)) (start .pre .1))
+
+  onward-requires-4 : lts.Need-onward-requires-4 calls here write-concat.Post
+  onward-requires-4 c κs =
+      let called = c .before .before in
+      let read = called .before .before in
+      let start = entry (choice-read read) in
+      omega (arith, start .good, settled _ _ _ _ _ (start .pre .1) (chosen-written _ _ _ _ (is-mark read) (called .write-concat5 .ensures)))
+
+  returns-7 : lts.Need-returns-7 calls here write-concat.Post
+  returns-7 c =
+      let called = c .before .before .before in
+      rw (c .onward4 .ensures) (chosen-written _ _ _ _ (is-mark (called .before .before)) (called .write-concat5 .ensures))
+
+  same-length-7 : lts.Need-same-length-7 calls here write-concat.Post
+  same-length-7 c =
+      let read = shared-slice-known5-before-onward4 c in
+      settled _ _ _ _ _ (entry (choice-read read) .pre .1) (returns-7 c) .kept
+
+  -- A kind above 10 does not stand there.
 
   new-requires-2 : lts.Need-new-requires-2 calls here write-concat.Post
   new-requires-2 c κs = search needs
 
-  returns-6 : lts.Need-returns-6 calls here write-concat.Post
-  returns-6 c = record { each = λ due. absurd (unlisted (omega (arith, c .before .if2 .left, c .before .before .match .rest)) due) }
+  returns-8 : lts.Need-returns-8 calls here write-concat.Post
+  returns-8 c =
+      record { each = λ due. absurd (unlisted (omega (arith, c .before .if3 .left, c .before .before .if2 .left, c .before .before .before .match .rest)) due) }
 
 pub +write-concat-spec : {M : Type 1} → statement M
 +write-concat-spec =
@@ -496,6 +569,15 @@ pub +write-concat-spec : {M : Type 1} → statement M
     (write-concat-requires-4 t)
     (onward-requires-3 t)
     (write-leaf-concat-requires t)
+    (write-leaf-concat-requires-2 t)
+    (shared-slice-read-out t)
+    (slice-write-out-4 t)
+    (add-write-concat-6 t)
+    (sub-write-concat-5 t)
+    (part-write-concat-start-5 t)
+    (part-write-concat-end-5 t)
+    (write-concat-requires-5 t)
+    (onward-requires-4 t)
     (new-requires-2 t)
     (same-length-2 t)
     (returns-2 t)
@@ -505,4 +587,8 @@ pub +write-concat-spec : {M : Type 1} → statement M
     (returns-4 t)
     (same-length-5 t)
     (returns-5 t)
+    (same-length-6 t)
     (returns-6 t)
+    (same-length-7 t)
+    (returns-7 t)
+    (returns-8 t)

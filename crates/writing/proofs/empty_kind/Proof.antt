@@ -23,18 +23,22 @@ returns-4 c = search needs
 returns-5 : tie.Need-returns-5
 returns-5 c = search needs
 
-other : (k : ℕ) → 5 ≤ k → 7 ≡ empty-kind k
+returns-6 : tie.Need-returns-6
+returns-6 c = search needs
+
+other : (k : ℕ) → 6 ≤ k → 7 ≡ empty-kind k
 other =
-    every (λ k begins. 5 ≤ k → 7 ≡ begins) 7 _
+    every (λ k begins. 6 ≤ k → 7 ≡ begins) 7 _
     ((λ h. absurd (omega arith))
+    & (λ h. absurd (omega arith))
     & (λ h. absurd (omega arith))
     & (λ h. absurd (omega arith))
     & (λ h. absurd (omega arith))
     & (λ h. absurd (omega arith))
     & past (λ k i h. refl))
 
-returns-6 : tie.Need-returns-6
-returns-6 c = other (c .before .args .kind) (omega arith)
+returns-7 : tie.Need-returns-7
+returns-7 c = other (c .before .args .kind) (omega arith)
 
 pub empty-kind-spec : {M : Type 1} → statement M
-empty-kind-spec = tie.close (tie.spec returns returns-2 returns-3 returns-4 returns-5 returns-6)
+empty-kind-spec = tie.close (tie.spec returns returns-2 returns-3 returns-4 returns-5 returns-6 returns-7)

@@ -18,23 +18,33 @@ returns-2 c = search needs
 leaf : (k : ℕ) → k ≤ 2 → 0 ≡ prefix-arity (empty-kind k)
 leaf =
     every (λ k begins. k ≤ 2 → 0 ≡ prefix-arity begins) 7 _
-    ((λ h. refl) & (λ h. refl) & (λ h. refl) & (λ h. absurd (omega arith)) & (λ h. absurd (omega arith)) & past (λ k i h. absurd (omega arith)))
+    ((λ h. refl)
+    & (λ h. refl)
+    & (λ h. refl)
+    & (λ h. absurd (omega arith))
+    & (λ h. absurd (omega arith))
+    & (λ h. absurd (omega arith))
+    & past (λ k i h. absurd (omega arith)))
 
 returns-3 : tie.Need-returns-3
-returns-3 c = leaf (c .before .before .args .kind) (omega arith)
+returns-3 c = search needs
 
-other : (k : ℕ) → 5 ≤ k → 2 ≡ prefix-arity (empty-kind k)
+returns-4 : tie.Need-returns-4
+returns-4 c = leaf (c .before .before .args .kind) (omega arith)
+
+other : (k : ℕ) → 6 ≤ k → 2 ≡ prefix-arity (empty-kind k)
 other =
-    every (λ k begins. 5 ≤ k → 2 ≡ prefix-arity begins) 7 _
+    every (λ k begins. 6 ≤ k → 2 ≡ prefix-arity begins) 7 _
     ((λ h. absurd (omega arith))
+    & (λ h. absurd (omega arith))
     & (λ h. absurd (omega arith))
     & (λ h. absurd (omega arith))
     & (λ h. absurd (omega arith))
     & (λ h. absurd (omega arith))
     & past (λ k i h. refl))
 
-returns-4 : tie.Need-returns-4
-returns-4 c = other (c .before .before .args .kind) (omega arith)
+returns-5 : tie.Need-returns-5
+returns-5 c = other (c .before .before .args .kind) (omega arith)
 
 pub empty-parts-spec : {M : Type 1} → statement M
-empty-parts-spec = tie.close (tie.spec returns returns-2 returns-3 returns-4)
+empty-parts-spec = tie.close (tie.spec returns returns-2 returns-3 returns-4 returns-5)

@@ -1,12 +1,14 @@
 -- `write_spent` meets its contract: whatever complete prefix stands at `place`, what is written so far goes before what is left by
--- the `owed` complete prefixes from `next` on (`Spending`). A crossed one makes way for its second part, two side by side for
--- both and a byte 4, and a leaf for a byte 0.
+-- the `owed` complete prefixes from `next` on (`Spending`). A crossed one makes way for its second part, a choice for the slice behind
+-- its mark, two side by side for both and a byte 4, and a leaf for a byte 0.
 use borrow.Author.Needs.{needs}
 use native.Mathlib.Omega.{arith}
+use mathlib.Core.Path.{ap}
 use Prim.Native.Nat.{_-_}
 use lib.ListN.{length}
+use Rattle.reading.specs.SliceReads.{is-unfinished}
 use Rattle.writing.specs.Writing.{SpentDue}
-use Rattle.writing.proofs.SpentWalk.{to-write, Spending, starts, spent, fits, length-stays, within, inside, first-part-at, crossed, forked, leaf, no-other}
+use Rattle.writing.proofs.SpentWalk.{to-write, Spending, starts, spent, fits, length-stays, within, inside, first-part-at, crossed, chosen, forked, leaf, no-unfinished, listed}
 use Rattle.writing.proofs.write_spent.Statement.{statement}
 use Rattle.writing.proofs.write_spent.Tie as tie
 
@@ -26,11 +28,14 @@ turn c = c .before .before
 abbrev skipped : tie.After-skip-prefix Inv-loop μ-loop → tie.After-shared-slice-known2 Inv-loop μ-loop
 skipped c = c .before .before
 
-abbrev other-read : tie.Else1 Inv-loop μ-loop → tie.After-shared-slice-known2 Inv-loop μ-loop
-other-read c = c .before .before
-
 abbrev leaf-read : tie.Then1 Inv-loop μ-loop → tie.After-shared-slice-known2 Inv-loop μ-loop
 leaf-read c = c .before .before
+
+abbrev other-read : tie.Else2 Inv-loop μ-loop → tie.After-shared-slice-known2 Inv-loop μ-loop
+other-read c = c .before .before .before
+
+abbrev choice-read : tie.Then2 Inv-loop μ-loop → tie.After-shared-slice-known2 Inv-loop μ-loop
+choice-read c = c .before .before .before
 
 -- The places: the entry; a turn of the loop, in which the kind is read; the arms of the kinds 6 and 0 to 4, up to their calls.
 
@@ -47,19 +52,25 @@ loop-holds c = λ due. starts due
 shared-slice-read-kind : tie.Need-shared-slice-read-kind Inv-loop μ-loop
 shared-slice-read-kind c = inside (spending c) (omega arith)
 
--- A first part that is still coming does not stand there, nor a kind above 7.
+-- A first part that is still coming does not stand there, nor a choice that is still to be made, nor a kind above 10.
 
 returns : tie.Need-returns Inv-loop μ-loop
-returns c = absurd (no-other (spending (c .before)) (omega arith) .0 (c .match .keys1))
+returns c = absurd (no-unfinished (spending (c .before)) (omega arith) (ap is-unfinished (c .match .keys1)))
 
 same-length : tie.Need-same-length Inv-loop μ-loop
-same-length c = absurd (no-other (spending (c .before)) (omega arith) .0 (c .match .keys1))
+same-length c = absurd (no-unfinished (spending (c .before)) (omega arith) (ap is-unfinished (c .match .keys1)))
 
 returns-2 : tie.Need-returns-2 Inv-loop μ-loop
-returns-2 c = absurd (omega (arith, no-other (spending (other-read c)) (omega arith) .1))
+returns-2 c = absurd (no-unfinished (spending (c .before)) (omega arith) (ap is-unfinished (c .match .keys4)))
 
 same-length-2 : tie.Need-same-length-2 Inv-loop μ-loop
-same-length-2 c = absurd (omega (arith, no-other (spending (other-read c)) (omega arith) .1))
+same-length-2 c = absurd (no-unfinished (spending (c .before)) (omega arith) (ap is-unfinished (c .match .keys4)))
+
+returns-3 : tie.Need-returns-3 Inv-loop μ-loop
+returns-3 c = absurd (omega (arith, listed (spending (other-read c)) (omega arith)))
+
+same-length-3 : tie.Need-same-length-3 Inv-loop μ-loop
+same-length-3 c = absurd (omega (arith, listed (spending (other-read c)) (omega arith)))
 
 -- A crossed prefix.
 
@@ -122,11 +133,22 @@ loop-again-3 c = λ due. leaf (turn (leaf-read (c .before)) .loop .inv due) (ome
 add-next-2 : tie.Need-add-next-2 Inv-loop μ-loop
 add-next-2 c = omega (arith, within (loop-again-3 c (entry (turn (leaf-read (c .before))) .pre)))
 
-same-length-3 : tie.Need-same-length-3 Inv-loop μ-loop
-same-length-3 c = length-stays (c .before .loop .inv (entry (c .before) .pre))
+-- A choice.
 
-returns-3 : tie.Need-returns-3 Inv-loop μ-loop
-returns-3 c = spent (c .before .loop .inv) (omega arith)
+loop-again-4 : tie.Need-loop-again-4 Inv-loop μ-loop
+loop-again-4 c = λ due. chosen (turn (choice-read c) .loop .inv due) (omega arith) (omega arith)
+
+add-next-3 : tie.Need-add-next-3 Inv-loop μ-loop
+add-next-3 c = omega (arith, inside (spending (choice-read c)) (omega arith))
+
+loop-less-4 : tie.Need-loop-less-4 Inv-loop μ-loop
+loop-less-4 c = omega (arith, inside (spending (choice-read c)) (omega arith))
+
+same-length-4 : tie.Need-same-length-4 Inv-loop μ-loop
+same-length-4 c = length-stays (c .before .loop .inv (entry (c .before) .pre))
+
+returns-4 : tie.Need-returns-4 Inv-loop μ-loop
+returns-4 c = spent (c .before .loop .inv) (omega arith)
 
 pub write-spent-spec : {M : Type 1} → statement M
 write-spent-spec =
@@ -148,6 +170,8 @@ write-spent-spec =
     add-next
     loop-less-2
     loop-again-2
+    same-length-2
+    returns-2
     slice-write-out-2
     add-written-2
     sub-owed
@@ -155,7 +179,10 @@ write-spent-spec =
     add-next-2
     loop-less-3
     loop-again-3
-    same-length-2
-    returns-2
+    add-next-3
+    loop-less-4
+    loop-again-4
     same-length-3
-    returns-3)
+    returns-3
+    same-length-4
+    returns-4)

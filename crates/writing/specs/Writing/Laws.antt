@@ -19,7 +19,7 @@ back a x y = take a x ++ (y ++ drop (length x - a) (drop a x))
 pub part-is : (a : ℕ) (x : List ℕ) → part a x ≡ drop a x
 part-is a x = take-all (length x - a) (drop a x) (omega (arith, length-drop a x))
 
-back-is : (a : ℕ) (x y : List ℕ) → back a x y ≡ take a x ++ y
+pub back-is : (a : ℕ) (x y : List ℕ) → back a x y ≡ take a x ++ y
 back-is a x y = rw (drop-of-length-le (drop a x) {i = length x - a} (omega (arith, length-drop a x)), append-nil)
 
 -- One byte, and two, at the front.

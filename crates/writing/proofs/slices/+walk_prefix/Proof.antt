@@ -1,19 +1,20 @@
 -- `walk_prefix` meets its contract: the byte at `place` says whether a prefix can begin there (`Begins`) and whether it has
--- parts (`Forks`), and the walks through the parts, which stand further on in the types' bytes, say how it ends and what it
--- leaves (`HalfLeft`).
+-- parts (`Parted`), and the walks through the parts, which stand further on in the types' bytes, say how it ends and what it
+-- leaves (`PartLeft`, and `HalfLeft` where it is no choice).
 use borrow.Author.Needs.{needs}
 use borrow.Author.Tests.{not-true, not-false}
 use native.Mathlib.Omega.{arith}
-use mathlib.Core.Path.{_≡_, refl, sym, _∙_}
+use mathlib.Core.Path.{_≡_, refl, sym, ap, _∙_}
 use Prim.Native.Nat.{ℕ, _-_, _<_, _≤_}
 use lib.ListN.{length, getD}
 use Rattle.stream.specs.Types.Laws.{limit-is}
 use Rattle.stream.specs.Tables.{shared}
-use Rattle.stream.specs.Prefixes.Kinds.{prefix-arities}
+use Rattle.stream.specs.Prefixes.Kinds.{prefix-arities, prefix-arity}
 use Rattle.reading.specs.TypeReads.{SomeTypeAt}
-use Rattle.reading.specs.TypeReads.Laws.{starts-inside}
-use Rattle.writing.proofs.SliceWalk.{cut-short, unlisted, misplaced, Begins, Forks, first-stands, first-failed, first-came, second-stands, further, first-sums, both-sums, split, stands}
+use Rattle.reading.specs.TypeReads.Laws.{starts-inside, first-at}
+use Rattle.writing.proofs.SliceWalk.{cut-short, unlisted, misplaced, Begins, fork-under, first-came, second-stands, further, first-sums, both-sums, split, stands}
 use Rattle.writing.proofs.SliceLeft.{answered-as, stopped, leaf-leaving, first-long, HalfLeft, second-due, still-first-leaving, crossing-leaving, both-leaving}
+use Rattle.writing.proofs.SliceChoice.{Parted, part-stands, part-failed, PartLeft, half-left, passed-stands, first-chosen-leaving, second-chosen-leaving}
 use borrow.Fn.Kinds.{In}
 use borrow.Fn.PlainCycle.{Measures, is, falls, and}
 use Rattle.writing.proofs.slices.walk_prefix.Reads as walk-prefix
@@ -29,6 +30,7 @@ use Rattle.reading.proofs.types.skip_type.Reads as skip-type-reads
 use Rattle.writing.proofs.slices.append_type.Reads as append-type-reads
 use Rattle.writing.proofs.appending.within.Reads as within-reads
 use Rattle.writing.proofs.slices.first_start.Reads as first-start-reads
+use Rattle.writing.proofs.slices.part_start.Reads as part-start-reads
 use Rattle.writing.proofs.slices.walk_leaf.Reads as walk-leaf-reads
 use Rattle.writing.proofs.slices.+walk_prefix.{statement}
 use Rattle.writing.proofs.slices.+walk_prefix.Tie.{close}
@@ -56,6 +58,8 @@ module _ (t : ℕ) where
     first-complete-reads.Learnt,
     first-start-reads.Asked,
     first-start-reads.Learnt,
+    part-start-reads.Asked,
+    part-start-reads.Learnt,
     below,
     walk-prefix.Post,
     skip-type-reads.Asked,
@@ -87,23 +91,27 @@ module _ (t : ℕ) where
   abbrev entry-before-else3 : lts.Else3 calls here walk-prefix.Post → lts.Start calls here walk-prefix.Post
   entry-before-else3 c = entry-before-shared-slice-known3 (shared-slice-known3-before-else3 c)
 
-  abbrev else3-before-first-complete : lts.After-first-complete calls here walk-prefix.Post → lts.Else3 calls here walk-prefix.Post
-  else3-before-first-complete c = c .before .before .before
+  abbrev else4-before-first-start : lts.After-first-start calls here walk-prefix.Post → lts.Else4 calls here walk-prefix.Post
+  else4-before-first-start c = c .before .before .before
 
   abbrev else3-before-first-start : lts.After-first-start calls here walk-prefix.Post → lts.Else3 calls here walk-prefix.Post
-  else3-before-first-start c = else3-before-first-complete (c .before .before)
+  else3-before-first-start c = else4-before-first-start c .before .before
 
-  abbrev first-start-before-walk-prefix : lts.After-walk-prefix calls here walk-prefix.Post
+  abbrev first-start-before-part-start : lts.After-part-start calls here walk-prefix.Post
       → lts.After-first-start calls here walk-prefix.Post
-  first-start-before-walk-prefix c = c .before .before .before .before
+  first-start-before-part-start c = c .before .before .before
 
   abbrev walk-prefix-before-type-end : lts.After-type-end calls here walk-prefix.Post
       → lts.After-walk-prefix calls here walk-prefix.Post
   walk-prefix-before-type-end c = c .before .before .before .before
 
+  abbrev part-start-before-type-end : lts.After-type-end calls here walk-prefix.Post
+      → lts.After-part-start calls here walk-prefix.Post
+  part-start-before-type-end c = walk-prefix-before-type-end c .before .before
+
   abbrev first-start-before-type-end : lts.After-type-end calls here walk-prefix.Post
       → lts.After-first-start calls here walk-prefix.Post
-  first-start-before-type-end c = first-start-before-walk-prefix (walk-prefix-before-type-end c)
+  first-start-before-type-end c = first-start-before-part-start (part-start-before-type-end c)
 
   abbrev entry-before-type-end : lts.After-type-end calls here walk-prefix.Post → lts.Start calls here walk-prefix.Post
   entry-before-type-end c = entry-before-else3 (else3-before-first-start (first-start-before-type-end c))
@@ -111,14 +119,6 @@ module _ (t : ℕ) where
   abbrev walk-prefix-before-known-told : lts.After-known-told calls here walk-prefix.Post
       → lts.After-walk-prefix calls here walk-prefix.Post
   walk-prefix-before-known-told c = c .before .before .before .before .before
-
-  abbrev type-end-before-skip-type : lts.After-skip-type calls here walk-prefix.Post
-      → lts.After-type-end calls here walk-prefix.Post
-  type-end-before-skip-type c = c .before .before .before
-
-  abbrev type-end-before-walk-prefix2 : lts.After-walk-prefix2 calls here walk-prefix.Post
-      → lts.After-type-end calls here walk-prefix.Post
-  type-end-before-walk-prefix2 c = c .before .before .before .before
 
   abbrev type-end-before-within : lts.After-within calls here walk-prefix.Post → lts.After-type-end calls here walk-prefix.Post
   type-end-before-within c = c .before .before .before .before
@@ -134,7 +134,7 @@ module _ (t : ℕ) where
   shared-slice-read-kind c = search needs
 
   returns-2 : lts.Need-returns-2 calls here walk-prefix.Post
-  returns-2 c = stopped (unlisted (entry-before-shared-slice-known3 (c .before) .pre .1 .0 .stands) _ _ _ (omega arith) (c .if2 .taken)) refl
+  returns-2 c = stopped (unlisted (entry-before-shared-slice-known3 (c .before) .pre .1 .0 .stands) _ _ _ (omega arith) (omega (arith, c .if2 .taken))) refl
 
   shared-slice-read-ty : lts.Need-shared-slice-read-ty calls here walk-prefix.Post
   shared-slice-read-ty c = starts-inside (entry-before-shared-slice-known3 (c .before .before) .pre .1 .0 .stands)
@@ -185,38 +185,53 @@ module _ (t : ℕ) where
   first-start-requires : lts.Need-first-start-requires calls here walk-prefix.Post
   first-start-requires c κs = search needs
 
-  add-walk-prefix : lts.Need-add-walk-prefix calls here walk-prefix.Post
-  add-walk-prefix c = omega (arith, starts-inside (begins (else3-before-first-start (c .before .before)) .stands))
+  -- It has parts behind it.
 
-  add-walk-prefix-2 : lts.Need-add-walk-prefix-2 calls here walk-prefix.Post
-  add-walk-prefix-2 c = omega (arith, begins (else3-before-first-start (c .before .before)) .more)
+  parts-behind : (c : lts.After-first-start calls here walk-prefix.Post)
+      → let z = entry-before-else3 (else3-before-first-start c) in
+      prefix-arity (getD (z .args .slice .now) (z .args .place) 0) ≡ 0 → ⊥
+  parts-behind c none =
+      let branch = else4-before-first-start c in
+      branch .if4 .left (branch .before .prefix-arity .ensures ∙ none)
+
+  part-start-requires : lts.Need-part-start-requires calls here walk-prefix.Post
+  part-start-requires c κs =
+      let first = c .before .before in
+      let begun = begins (else3-before-first-start first) in
+      record { type = _; stands = first-at (begun .stands) (fork-under begun (parts-behind first)) }
+
+  add-walk-prefix : lts.Need-add-walk-prefix calls here walk-prefix.Post
+  add-walk-prefix c = omega (arith, begins (else3-before-first-start (c .before .before .before)) .more)
 
   sub-walk-prefix : lts.Need-sub-walk-prefix calls here walk-prefix.Post
-  sub-walk-prefix c = c .before .before .first-start .ensures .inside
+  sub-walk-prefix c = c .before .before .before .first-start .ensures .inside
 
   part-walk-prefix-start : lts.Need-part-walk-prefix-start calls here walk-prefix.Post
-  part-walk-prefix-start c = c .before .before .first-start .ensures .inside
+  part-walk-prefix-start c = c .before .before .before .first-start .ensures .inside
 
   part-walk-prefix-end : lts.Need-part-walk-prefix-end calls here walk-prefix.Post
   part-walk-prefix-end c = search needs
 
-  -- It has parts behind it.
-  forks : (c : lts.After-first-complete calls here walk-prefix.Post)
-      → let z = entry-before-else3 (else3-before-first-complete c) in
-      Forks (z .args .types .now) (z .args .at) (z .pre .1 .0 .type) (z .args .slice .now) (z .args .place) (z .args .complete) (c .first-complete .result)
-  forks c =
+  parted : (c : lts.After-part-start calls here walk-prefix.Post)
+      → let first = c .before .before .before in
+      let z = entry-before-else3 (else3-before-first-start first) in
+      Parted (z .args .types .now) (z .args .at) (z .pre .1 .0 .type) (z .args .slice .now) (z .args .place) (z .args .complete)
+      (first .before .before .first-complete .result) (c .part-start .result)
+  parted c =
+      let first = c .before .before .before in
       record {
-        begins = begins (else3-before-first-complete c);
-        parts = λ none. c .before .if4 .left (c .before .before .prefix-arity .ensures ∙ none);
-        handed = c .first-complete .ensures;
+        begins = begins (else3-before-first-start first);
+        parts = parts-behind first;
+        handed = first .before .before .first-complete .ensures;
+        starts = c .part-start .ensures;
       }
 
   walk-prefix-requires : lts.Need-walk-prefix-requires calls here walk-prefix.Post
   walk-prefix-requires c κs =
-      let first = c .before .before .before in
-      let s = begins (else3-before-first-start first) in (
-        omega (arith, entry-before-else3 (else3-before-first-start first) .pre .0, starts-inside (s .stands)),
-        (record { type = _; stands = first-stands (forks (first .before .before)) }, omega (arith, s .more)),
+      let stands = part-stands (parted (c .before)) in
+      let z = entry-before-else3 (else3-before-first-start (first-start-before-part-start (c .before))) in (
+        omega (arith, z .pre .0, stands .further, starts-inside (stands .some .stands)),
+        (stands .some, omega (arith, parted (c .before) .begins .more)),
       )
 
   enum-known-fault : lts.Need-enum-known-fault calls here walk-prefix.Post
@@ -225,71 +240,94 @@ module _ (t : ℕ) where
   enum-known-type-end : lts.Need-enum-known-type-end calls here walk-prefix.Post
   enum-known-type-end c = search needs
 
-  -- The walk through the first part came to its end.
-  half : (c : lts.After-type-end calls here walk-prefix.Post)
+  -- The walk through the part came to its end.
+  part : (c : lts.After-type-end calls here walk-prefix.Post)
       → let z = entry-before-type-end c in
+      let first = first-start-before-type-end c .first-start in
+      let g = c .type-end .given .0 in
+      PartLeft (z .args .types .now) (z .args .at) (z .pre .1 .0 .type) (z .args .slice .now) (z .args .place) (z .args .complete) (z .args .left .now)
+      (first .last .1 .1 .0) (walk-prefix-before-type-end c .walk-prefix .last .1 .1 .1 .1 .1 .0) (first .result)
+      (part-start-before-type-end c .part-start .result) (g .0) (g .1 .0) (g .1 .1 .0)
+  part c =
+      let begun = part-start-before-type-end c in
+      record {
+        must-complete = first-start-before-part-start begun .before .before .first-complete .result;
+        parted = parted begun;
+        written-from = first-start-before-part-start begun .first-start .ensures;
+        left = answered-as (walk-prefix-before-type-end c .walk-prefix .ensures) (c .type-end .given .1);
+      }
+
+  abbrev Low : lts.After-type-end calls here walk-prefix.Post → Type 0
+  Low c = let z = entry-before-type-end c in getD (z .args .slice .now) (z .args .place) 0 ≤ 8
+
+  abbrev Half : lts.After-type-end calls here walk-prefix.Post → Type 0
+  Half c =
+      let z = entry-before-type-end c in
       let first = first-start-before-type-end c .first-start in
       let g = c .type-end .given .0 in
       HalfLeft (z .args .types .now) (z .args .at) (z .pre .1 .0 .type) (z .args .slice .now) (z .args .place) (z .args .complete) (z .args .left .now)
       (first .last .1 .1 .0) (walk-prefix-before-type-end c .walk-prefix .last .1 .1 .1 .1 .1 .0) (first .result) (g .0) (g .1 .0) (g .1 .1 .0)
-  half c =
-      let first = first-start-before-type-end c in
-      let left = answered-as (walk-prefix-before-type-end c .walk-prefix .ensures) (c .type-end .given .1) in
-      record {
-        halfway =
-            record {
-              must-complete = first .before .before .first-complete .result;
-              forks = forks (first .before .before);
-              walked-first = left .walks;
-            };
-        starts = first .first-start .ensures;
-        first-left = left;
-      }
 
-  second-asked : (c : lts.After-type-end calls here walk-prefix.Post)
+  half : (c : lts.After-type-end calls here walk-prefix.Post) → Low c → Half c
+  half c low = half-left (part c) low
+
+  second-asked : (c : lts.After-type-end calls here walk-prefix.Post) → Low c
       → let z = entry-before-type-end c in
       let g = c .type-end .given .0 in
       (length (z .args .types .now) - g .0 < t) × (SomeTypeAt (z .args .types .now) (g .0) × (g .1 .0 ≤ length (z .args .slice .now)))
-  second-asked c =
-      let h = half c .halfway in
+  second-asked c low =
+      let h = half c low .halfway in
       let s = second-stands h in (
         omega (arith, entry-before-type-end c .pre .0, further h, starts-inside s),
         (record { type = _; stands = s }, first-came h .inside),
       )
 
+  -- A first part that is still coming.
+
+  coming : (c : lts.At-match2-keys1 calls here walk-prefix.Post) → Low (c .before .before)
+  coming c = omega (arith, c .match2 .keys1)
+
   skip-type-requires : lts.Need-skip-type-requires calls here walk-prefix.Post
-  skip-type-requires c κs = record { type = _; stands = second-stands (half (c .before .before) .halfway) }
+  skip-type-requires c κs = record { type = _; stands = second-stands (half (c .before .before) (coming c) .halfway) }
+
+  skipped-half : (c : lts.After-skip-type calls here walk-prefix.Post) → Half (c .before .before .before)
+  skipped-half c = half (c .before .before .before) (coming (c .before))
 
   add-append-type : lts.Need-add-append-type calls here walk-prefix.Post
-  add-append-type c = omega (arith, second-due (half (type-end-before-skip-type (c .before))) (c .before .skip-type .ensures))
+  add-append-type c = omega (arith, second-due (skipped-half (c .before)) (c .before .skip-type .ensures))
 
   append-type-requires : lts.Need-append-type-requires calls here walk-prefix.Post
   append-type-requires c κs =
       let skipped = c .before .before in
-      second-due (half (type-end-before-skip-type skipped)) (skipped .skip-type .ensures)
+      second-due (skipped-half skipped) (skipped .skip-type .ensures)
 
   sub-in-first : lts.Need-sub-in-first calls here walk-prefix.Post
   sub-in-first c =
       let skipped = skip-type-before-slice-known5 c in
-      omega (arith, skipped .skip-type .ensures .each _ (second-stands (half (type-end-before-skip-type skipped) .halfway)))
+      omega (arith, skipped .skip-type .ensures .each _ (second-stands (skipped-half skipped .halfway)))
 
   in-first-requires : lts.Need-in-first-requires calls here walk-prefix.Post
   in-first-requires c κs =
       let skipped = skip-type-before-slice-known5 c in
-      first-sums (half (type-end-before-skip-type skipped) .halfway) _ (skipped .skip-type .ensures)
+      first-sums (skipped-half skipped .halfway) _ (skipped .skip-type .ensures)
 
   returns-6 : lts.Need-returns-6 calls here walk-prefix.Post
   returns-6 c =
       let skipped = skip-type-before-slice-known5 (c .before) in
       rw (c .in-first .ensures)
-      (still-first-leaving (half (type-end-before-skip-type skipped)) (skipped .before .match2 .keys1) _ (skipped .skip-type .ensures)
+      (still-first-leaving (skipped-half skipped) (skipped .before .match2 .keys1) _ (skipped .skip-type .ensures)
       (c .before .before .before .append-type .ensures))
 
   same-length-3 : lts.Need-same-length-3 calls here walk-prefix.Post
   same-length-3 c = returns-6 c .long
 
+  -- A first part that was crossed.
+
+  crossing : (c : lts.At-match2-keys2 calls here walk-prefix.Post) → Low (c .before .before)
+  crossing c = omega (arith, c .match2 .keys2)
+
   walk-prefix-requires-2 : lts.Need-walk-prefix-requires-2 calls here walk-prefix.Post
-  walk-prefix-requires-2 c κs = second-asked (c .before .before .before)
+  walk-prefix-requires-2 c κs = second-asked (c .before .before .before) (crossing (c .before))
 
   crossed-requires : lts.Need-crossed-requires calls here walk-prefix.Post
   crossed-requires c κs = search needs
@@ -297,15 +335,21 @@ module _ (t : ℕ) where
   returns-7 : lts.Need-returns-7 calls here walk-prefix.Post
   returns-7 c =
       let second = c .before .before .before in
+      let branch = second .before .before in
       rw (c .crossed .ensures)
-      (crossing-leaving (half (type-end-before-walk-prefix2 second)) (second .before .before .match2 .keys2) _ (second .walk-prefix2 .ensures))
+      (crossing-leaving (half (branch .before .before) (crossing branch)) (branch .match2 .keys2) _ (second .walk-prefix2 .ensures))
 
   same-length-4 : lts.Need-same-length-4 calls here walk-prefix.Post
   same-length-4 c = returns-7 c .long
 
+  -- Two prefixes side by side.
+
+  aside : (c : lts.At-match2-keys3 calls here walk-prefix.Post) → Low (c .before .before)
+  aside c = omega (arith, c .match2 .keys3)
+
   add-within : lts.Need-add-within calls here walk-prefix.Post
   add-within c =
-      let h = half (c .before .before .before) .halfway in
+      let h = half (c .before .before .before) (aside (c .before)) .halfway in
       omega (arith, first-came h .remains-within, split h, stands h .small, limit-is)
 
   within-requires : lts.Need-within-requires calls here walk-prefix.Post
@@ -321,49 +365,77 @@ module _ (t : ℕ) where
   part-other-end c = search needs
 
   walk-prefix-requires-3 : lts.Need-walk-prefix-requires-3 calls here walk-prefix.Post
-  walk-prefix-requires-3 c κs = second-asked (type-end-before-within (c .before))
+  walk-prefix-requires-3 c κs =
+      let within = c .before in
+      second-asked (type-end-before-within within) (aside (within .before .before))
 
   beside-requires : lts.Need-beside-requires calls here walk-prefix.Post
   beside-requires c κs =
       let second = c .before .before in
-      both-sums (half (type-end-before-within (second .before .before)) .halfway) _ (second .walk-prefix3 .ensures .walks)
+      let within = second .before .before in
+      both-sums (half (type-end-before-within within) (aside (within .before .before)) .halfway) _ (second .walk-prefix3 .ensures .walks)
 
   returns-8 : lts.Need-returns-8 calls here walk-prefix.Post
   returns-8 c =
       let second = c .before .before .before in
       let within = second .before .before in
+      let branch = within .before .before in
       rw (c .beside .ensures)
-      (both-leaving (half (type-end-before-within within)) (within .before .before .match2 .keys3) (within .within .ensures) _ (second .walk-prefix3 .ensures))
+      (both-leaving (half (type-end-before-within within) (aside branch)) (branch .match2 .keys3) (within .within .ensures) _ (second .walk-prefix3 .ensures))
 
   same-length-5 : lts.Need-same-length-5 calls here walk-prefix.Post
   same-length-5 c = returns-8 c .long
 
-  -- No other kind has parts, or is listed.
+  -- A choice.
+
+  skip-type-requires-2 : lts.Need-skip-type-requires-2 calls here walk-prefix.Post
+  skip-type-requires-2 c κs = record { type = _; stands = passed-stands (part (c .before .before)) (c .match2 .keys4) }
 
   returns-9 : lts.Need-returns-9 calls here walk-prefix.Post
-  returns-9 c =
-      let half-way = c .before .before .before in
-      let forks = half half-way .halfway .forks in
-      let z = entry-before-type-end half-way in
-      absurd (forks .parts (sym (shared prefix-arities 2 0 5 refl (getD (z .args .slice .now) (z .args .place) 0) (omega arith) (omega arith))))
+  returns-9 c = first-chosen-leaving (part (c .before .before .before)) (c .before .match2 .keys4) (c .skip-type2 .ensures)
 
   same-length-6 : lts.Need-same-length-6 calls here walk-prefix.Post
   same-length-6 c = returns-9 c .long
 
   returns-10 : lts.Need-returns-10 calls here walk-prefix.Post
-  returns-10 c = absurd (omega (arith, half (c .before .before .before) .halfway .forks .begins .listed))
+  returns-10 c = second-chosen-leaving (part (c .before .before)) (c .match2 .keys5)
 
   same-length-7 : lts.Need-same-length-7 calls here walk-prefix.Post
   same-length-7 c = returns-10 c .long
 
-  -- The walk through the first part failed.
+  -- No other kind has parts, or is listed.
+
+  returns-11 : lts.Need-returns-11 calls here walk-prefix.Post
+  returns-11 c = absurd (part (c .before .before) .parted .parts (ap prefix-arity (c .match2 .keys6)))
+
+  same-length-8 : lts.Need-same-length-8 calls here walk-prefix.Post
+  same-length-8 c = returns-11 c .long
+
+  returns-12 : lts.Need-returns-12 calls here walk-prefix.Post
+  returns-12 c =
+      let told = c .before .before .before in
+      let z = entry-before-type-end told in
+      absurd
+      (part told .parted .parts
+      (sym (shared prefix-arities 2 0 5 refl (getD (z .args .slice .now) (z .args .place) 0) (omega arith) (omega arith))))
+
+  same-length-9 : lts.Need-same-length-9 calls here walk-prefix.Post
+  same-length-9 c = returns-12 c .long
+
+  returns-13 : lts.Need-returns-13 calls here walk-prefix.Post
+  returns-13 c = absurd (omega (arith, part (c .before .before .before) .parted .begins .listed))
+
+  same-length-10 : lts.Need-same-length-10 calls here walk-prefix.Post
+  same-length-10 c = returns-13 c .long
+
+  -- The walk through the part failed.
 
   returns-5 : lts.Need-returns-5 calls here walk-prefix.Post
   returns-5 c =
-      let first = walk-prefix-before-known-told c in
-      let start = first-start-before-walk-prefix first in
-      stopped (first-failed (forks (start .before .before)) _ (answered-as (first .walk-prefix .ensures) (c .before .fault .given .1) .walks))
-      (first-long (start .first-start .ensures) (first .walk-prefix .ensures))
+      let called = walk-prefix-before-known-told c in
+      let begun = called .before .before in
+      stopped (part-failed (parted begun) (answered-as (called .walk-prefix .ensures) (c .before .fault .given .1)))
+      (first-long (first-start-before-part-start begun .first-start .ensures) (called .walk-prefix .ensures))
 
   same-length-2 : lts.Need-same-length-2 calls here walk-prefix.Post
   same-length-2 c = returns-5 c .long
@@ -388,8 +460,8 @@ pub +walk-prefix-spec : {M : Type 1} → statement M
     (returns-4 t)
     (first-complete-requires t)
     (first-start-requires t)
+    (part-start-requires t)
     (add-walk-prefix t)
-    (add-walk-prefix-2 t)
     (sub-walk-prefix t)
     (part-walk-prefix-start t)
     (part-walk-prefix-end t)
@@ -410,6 +482,7 @@ pub +walk-prefix-spec : {M : Type 1} → statement M
     (part-other-end t)
     (walk-prefix-requires-3 t)
     (beside-requires t)
+    (skip-type-requires-2 t)
     (same-length-2 t)
     (returns-5 t)
     (same-length-3 t)
@@ -422,3 +495,9 @@ pub +walk-prefix-spec : {M : Type 1} → statement M
     (returns-9 t)
     (same-length-7 t)
     (returns-10 t)
+    (same-length-8 t)
+    (returns-11 t)
+    (same-length-9 t)
+    (returns-12 t)
+    (same-length-10 t)
+    (returns-13 t)
