@@ -23,7 +23,7 @@ use Rattle.stream.specs.TypeFiles.Laws.{type-length, read-type-sound}
 use Rattle.reading.specs.Sections.{end-of}
 use Rattle.reading.specs.Sections.Laws.{failed, Within, tree-within}
 use Rattle.reading.specs.TypeReads.Laws.{type-drop, read-type-within}
-use Rattle.node.specs.Nodes.{Node, pass, silent, emit-cue, emit-level, both, left-side, right-side, first, second, then, chain, regroup-right, regroup-left, spread, front, node-limit}
+use Rattle.node.specs.Nodes.{Node, pass, silent, emit-cue, emit-level, both, left-side, right-side, first, second, then, chain, regroup-right, regroup-left, spread, front, choose, mark-first, mark-second, node-limit}
 use Rattle.node.specs.PatchFiles.{node-kinds, node-root, read-node}
 use Rattle.node.specs.Nodes.Kinds.{node-arities, node-arity, listed-kinds, Contents, bare, a-type, a-value, no-kind, contents-by-kind, node-contents}
 use Rattle.stream.specs.Tables.{beyond}
@@ -59,7 +59,7 @@ shape =
     every (λ k f. Shape (node-contents k) (node-arity k) f) (λ r. fault Unlisted) node-kinds
     (plain pass & carries silent & plain emit-cue & values emit-level & forks both
     & plain left-side & plain right-side & plain first & plain second & forks then & forks chain
-    & plain regroup-right & plain regroup-left & plain spread & plain front
+    & plain regroup-right & plain regroup-left & plain spread & plain front & forks choose & carries mark-first & carries mark-second
     & past none)
   where
     none : (k : ℕ) → listed-kinds ≤ k → Shape (node-contents k) (node-arity k) (λ r. fault Unlisted)
@@ -132,20 +132,13 @@ refuses : {parts : ℕ} {f : ReadsRoot} → Shape no-kind parts f → (m : ℕ) 
 unfolding end-of
 refuses unlisted m s = refl
 
-carried-fails : {parts : ℕ} {f : ReadsRoot} → Shape a-type parts f → (m : ℕ) (s : List ℕ) (e : Fault)
-    → end-of (length s) (read-type s) ≡ Failed e → end-of m (f s) ≡ Failed e
+carried-ends : {parts : ℕ} {f : ReadsRoot} → Shape a-type parts f → (m : ℕ) (s : List ℕ) → end-of m (f s) ≡ end-of m (read-type s)
 unfolding end-of
-carried-fails (carries make) m s e h = rw (failed (length s) (read-type s) e h)
-
-carried-ends : {parts : ℕ} {f : ReadsRoot} → Shape a-type parts f → (m : ℕ) (s : List ℕ) → length s ≤ m → (k : ℕ)
-    → end-of (length s) (read-type s) ≡ At k → end-of m (f s) ≡ At (m - length s + k)
-unfolding end-of
-carried-ends (carries make) m s h k told = go (read-type s) (read-type-within s) told
+carried-ends (carries make) m s = go (read-type s)
   where
-    go : (g : Reading Ty) → Within s g → end-of (length s) g ≡ At k
-        → end-of m (read-on g (λ t r. leaf {W = Unit {0}} (make t) r)) ≡ At (m - length s + k)
-    go (read t r) w told = let e : length s - length r ≡ k = cc in ap At (omega arith)
-    go (fault e) w told = let z : _≡_ {A = ℕ} 0 1 = cc in absurd (omega arith)
+    go : (g : Reading Ty) → end-of m (read-on g (λ t r. leaf {W = Unit {0}} (make t) r)) ≡ end-of m g
+    go (read t r) = refl
+    go (fault e) = refl
 
 valued-fails : {parts : ℕ} {f : ReadsRoot} → Shape a-value parts f → (m : ℕ) (s : List ℕ) → length s < value-width
     → end-of m (f s) ≡ Failed CutShort
@@ -156,6 +149,22 @@ valued-ends : {parts : ℕ} {f : ReadsRoot} → Shape a-value parts f → (m : �
     → end-of m (f s) ≡ At (m - length s + value-width)
 unfolding end-of
 valued-ends (values make) m s h l = rw (value-there CutShort s h .1) (ap At (omega (arith, length-drop value-width s)))
+
+-- Where a carried type ends, by where it ends in the bytes from its place on.
+
+pub carried-failed : (s : List ℕ) (at : ℕ) (e : Fault) → end-of (length (drop at s)) (read-type (drop at s)) ≡ Failed e
+    → end-of (length s) (read-type (drop at s)) ≡ Failed e
+unfolding end-of
+carried-failed s at e h = rw (failed (length (drop at s)) (read-type (drop at s)) e h)
+
+pub carried-ended : (s : List ℕ) (at : ℕ) → at ≤ length s → (k : ℕ) → end-of (length (drop at s)) (read-type (drop at s)) ≡ At k
+    → end-of (length s) (read-type (drop at s)) ≡ At (at + k)
+unfolding end-of
+carried-ended s at inside k told = go (read-type (drop at s)) (read-type-within (drop at s)) told
+  where
+    go : (g : Reading Ty) → Within (drop at s) g → end-of (length (drop at s)) g ≡ At k → end-of (length s) g ≡ At (at + k)
+    go (read t r) w told = let e : length (drop at s) - length r ≡ k = cc in ap At (omega (arith, length-drop at s))
+    go (fault e) w told = let z : _≡_ {A = ℕ} 0 1 = cc in absurd (omega arith)
 
 -- A root was read at the front of s, before which m - length s bytes stand: it ends at `end` and leaves what stands there.
 record Leaves (parts m : ℕ) (s : List ℕ) (g : Reading (Root (Unit {0}) Node)) (end : ℕ) : Type 0 where
@@ -229,13 +238,8 @@ module _ (s : List ℕ) (at : ℕ) where
     pub unlisted-end : listed-kinds ≤ getD s at 0 → root-end ≡ Failed Unlisted
     unlisted-end h = by-kind ∙ refuses (shape-at (sym (beyond contents-by-kind no-kind (getD s at 0) h))) (length s) (drop (at + 1) s)
 
-    module _ (typed : node-contents (getD s at 0) ≡ a-type) where
-      pub type-failed : (e : Fault) → end-of (length (drop (at + 1) s)) (read-type (drop (at + 1) s)) ≡ Failed e → root-end ≡ Failed e
-      type-failed e h = by-kind ∙ carried-fails (shape-at typed) (length s) (drop (at + 1) s) e h
-
-      pub type-ended : (k : ℕ) → end-of (length (drop (at + 1) s)) (read-type (drop (at + 1) s)) ≡ At k → root-end ≡ At (at + 1 + k)
-      type-ended k h =
-          by-kind ∙ carried-ends (shape-at typed) (length s) (drop (at + 1) s) rest-inside k h ∙ ap (λ n. At (n + k)) behind-kind
+    pub type-end : node-contents (getD s at 0) ≡ a-type → root-end ≡ end-of (length s) (read-type (drop (at + 1) s))
+    type-end e = by-kind ∙ carried-ends (shape-at e) (length s) (drop (at + 1) s)
 
     module _ (has-value : node-contents (getD s at 0) ≡ a-value) where
       pub value-failed : length s - (at + 1) < value-width → root-end ≡ Failed CutShort

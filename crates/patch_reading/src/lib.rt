@@ -10,6 +10,7 @@ use stream::Fault;
 ghost use mathlib.Core.Path.{_≡_};
 ghost use Prim.Native.Nat.{_≤_};
 ghost use lib.ListN.{length, drop};
+ghost use Rattle.stream.specs.TypeFiles.{read-type};
 ghost use Rattle.reading.specs.Sections.{end-of};
 ghost use Rattle.node.specs.PatchFiles.{node-root, read-node, node-section, first-pass};
 ghost use Rattle.node.specs.Nodes.Kinds.{node-arity};
@@ -49,8 +50,21 @@ fn node_arity(kind: u8) -> usize
         5..=8 => 0,
         9..=10 => 2,
         11..=14 => 0,
+        15 => 2,
+        16..=17 => 0,
         // No node's kind.
-        15..=255 => 0,
+        18..=255 => 0,
+    }
+}
+
+// Where the type ends that a node carries at `at`.
+fn carried_end(bytes: &[u8], at: usize) -> TreeEnd
+    requires { ⌜ at ≤ length (now bytes) ⌝ }
+    ensures { λ r. ⌜ r ≡ end-of (length (now (bytes .entry))) (read-type (drop at (now (bytes .entry)))) ⌝ }
+{
+    match type_end(&bytes[at..]) {
+        TreeEnd::Failed(fault) => TreeEnd::Failed(fault),
+        TreeEnd::At(read) => TreeEnd::At(at + read),
     }
 }
 
@@ -66,10 +80,7 @@ fn root_end(bytes: &[u8], at: usize) -> TreeEnd
     let next = at + 1;
     match bytes[at] {
         0 => TreeEnd::At(next),
-        1 => match type_end(&bytes[next..]) {
-            TreeEnd::Failed(fault) => TreeEnd::Failed(fault),
-            TreeEnd::At(read) => TreeEnd::At(next + read),
-        },
+        1 => carried_end(bytes, next),
         2 => TreeEnd::At(next),
         3 => {
             if length - next < VALUE_WIDTH {
@@ -78,8 +89,9 @@ fn root_end(bytes: &[u8], at: usize) -> TreeEnd
                 TreeEnd::At(next + VALUE_WIDTH)
             }
         }
-        4..=14 => TreeEnd::At(next),
-        15..=255 => TreeEnd::Failed(Fault::Unlisted),
+        4..=15 => TreeEnd::At(next),
+        16..=17 => carried_end(bytes, next),
+        18..=255 => TreeEnd::Failed(Fault::Unlisted),
     }
 }
 
@@ -91,7 +103,7 @@ pub fn node_end(bytes: &[u8]) -> TreeEnd
     let mut count: usize = 0;
     let mut at: usize = 0;
     while 0 < owed {
-        // The limit is tried before the end of the bytes. A type that silent carries does not count.
+        // The limit is tried before the end of the bytes. A type that a node carries does not count.
         if count == PatchPlace::MAX_NODES {
             return TreeEnd::Failed(Fault::TooManyNodes);
         }

@@ -6,13 +6,13 @@ use native.Mathlib.Omega.{arith}
 use native.Mathlib.Nat.{add-zero}
 use lib.ListN.{length, getD, take, drop, length-append, length-drop}
 use lib.Seq.{getD-drop, drop-drop, take-at, drop-at}
-use Rattle.stream.specs.Types.{Ty, size}
+use Rattle.stream.specs.Types.{Ty, size, Small}
 use Rattle.stream.specs.Levels.Laws.{value-length, value-append}
 use Rattle.stream.specs.Reading.Laws.{_&_, past, every}
 use Rattle.stream.specs.TypeFiles.{type-bytes}
 use Rattle.reading.specs.TypeReads.{TypeAt}
 use Rattle.reading.specs.TypeReads.Laws.{type-before, type-width}
-use Rattle.node.specs.Nodes.{Node, pass, silent, emit-cue, emit-level, both, left-side, right-side, first, second, then, chain, regroup-right, regroup-left, spread, front, count}
+use Rattle.node.specs.Nodes.{Node, pass, silent, emit-cue, emit-level, both, left-side, right-side, first, second, then, chain, regroup-right, regroup-left, spread, front, choose, mark-first, mark-second, count}
 use Rattle.node.specs.Nodes.Functions.{Carries}
 use Rattle.node.specs.Nodes.Kinds.{node-kind, node-arity, node-arities, kind-is-listed}
 use Rattle.node.specs.PatchFiles.{node-bytes}
@@ -35,6 +35,9 @@ root-first regroup-right r = refl
 root-first regroup-left r = refl
 root-first spread r = refl
 root-first front r = refl
+root-first (choose n m) r = refl
+root-first (mark-first t) r = refl
+root-first (mark-second t) r = refl
 
 -- Behind a node stands what was put there.
 
@@ -55,6 +58,9 @@ node-append regroup-right r s = refl
 node-append regroup-left r s = refl
 node-append spread r s = refl
 node-append front r s = refl
+node-append (choose n m) r s = ap (λ l. 15 ∷ l) (ap (node-bytes n) (node-append m r s) ∙ node-append n (node-bytes m r) s)
+node-append (mark-first t) r s = rw (type-before t (r ++ s), type-before t r, append-assoc (type-bytes t []) r s)
+node-append (mark-second t) r s = rw (type-before t (r ++ s), type-before t r, append-assoc (type-bytes t []) r s)
 
 pub node-before : (n : Node) (r : List ℕ) → node-bytes n r ≡ node-bytes n [] ++ r
 node-before n r = node-append n [] r
@@ -83,6 +89,9 @@ count-within regroup-right = omega arith
 count-within regroup-left = omega arith
 count-within spread = omega arith
 count-within front = omega arith
+count-within (choose n m) = omega (arith, count-within n, count-within m, node-bytes-length n (node-bytes m []))
+count-within (mark-first t) = omega arith
+count-within (mark-second t) = omega arith
 
 pub width-positive : (n : Node) → 1 ≤ node-width n
 width-positive n = omega (arith, ap length (root-first n []))
@@ -105,7 +114,7 @@ module _ {bytes : List ℕ} {at : ℕ} {n : Node} (stands : NodeAt bytes at n) w
       let e : getD (drop at bytes) 0 0 ≡ getD bytes at 0 = rw add-zero at (getD-drop at bytes 0 0) in
       rw (← e, stands .here) (ap (λ l. getD l 0 0) (root-first n (stands .rest)))
 
-  pub kind-listed : getD bytes at 0 < 15
+  pub kind-listed : getD bytes at 0 < 18
   kind-listed = rw kind-at (kind-is-listed n)
 
 -- What has to be shown for the kind k.
@@ -127,6 +136,9 @@ Case P k =
     ∷ P regroup-left
     ∷ P spread
     ∷ P front
+    ∷ ((n m : Node) → P (choose n m))
+    ∷ ((t : Ty) → P (mark-first t))
+    ∷ ((t : Ty) → P (mark-second t))
     ∷ [])
     k
     Unit
@@ -147,40 +159,71 @@ by-kind P regroup-right c = c
 by-kind P regroup-left c = c
 by-kind P spread c = c
 by-kind P front c = c
+by-kind P (choose n m) c = c n m
+by-kind P (mark-first t) c = c t
+by-kind P (mark-second t) c = c t
 
 -- By the byte that stands there.
 pub by-byte : (P : Node → Type 0) {bytes : List ℕ} {at k : ℕ} {n : Node} → NodeAt bytes at n → getD bytes at 0 ≡ k → Case P k → P n
 by-byte P {n = n} stands e c = by-kind P n (rw (sym (kind-at stands) ∙ e) c)
 
--- Only 4, 9 and 10 have parts.
-pub leaf-arity : (k : ℕ) → (k ≡ 4 → ⊥) → (k ≡ 9 → ⊥) → (k ≡ 10 → ⊥) → node-arity k ≡ 0
+-- Only 4, 9, 10 and 15 have parts.
+pub leaf-arity : (k : ℕ) → (k ≡ 4 → ⊥) → (k ≡ 9 → ⊥) → (k ≡ 10 → ⊥) → (k ≡ 15 → ⊥) → node-arity k ≡ 0
 leaf-arity =
-    every (λ k arity. (k ≡ 4 → ⊥) → (k ≡ 9 → ⊥) → (k ≡ 10 → ⊥) → arity ≡ 0) 0 node-arities
-    (leaf & leaf & leaf & leaf & (λ four nine ten. absurd (four refl)) & leaf & leaf & leaf & leaf & (λ four nine ten. absurd (nine refl))
-    & (λ four nine ten. absurd (ten refl)) & leaf & leaf & leaf & leaf
+    every (λ k arity. (k ≡ 4 → ⊥) → (k ≡ 9 → ⊥) → (k ≡ 10 → ⊥) → (k ≡ 15 → ⊥) → arity ≡ 0) 0 node-arities
+    (leaf & leaf & leaf & leaf & (λ four nine ten fifteen. absurd (four refl)) & leaf & leaf & leaf & leaf
+    & (λ four nine ten fifteen. absurd (nine refl)) & (λ four nine ten fifteen. absurd (ten refl)) & leaf & leaf & leaf & leaf
+    & (λ four nine ten fifteen. absurd (fifteen refl)) & leaf & leaf
     & past (λ k h. leaf))
   where
-    leaf : {k : ℕ} → (k ≡ 4 → ⊥) → (k ≡ 9 → ⊥) → (k ≡ 10 → ⊥) → _≡_ {A = ℕ} 0 0
-    leaf four nine ten = refl
+    leaf : {k : ℕ} → (k ≡ 4 → ⊥) → (k ≡ 9 → ⊥) → (k ≡ 10 → ⊥) → (k ≡ 15 → ⊥) → _≡_ {A = ℕ} 0 0
+    leaf four nine ten fifteen = refl
 
--- Silent, and the type that it carries.
-pub record Silent (bytes : List ℕ) (at : ℕ) (n : Node) : Type 0 where
+-- The kinds that carry a type: the kind byte and then the type.
+pub record CarriesType (k : ℕ) (make : Ty → Node) : Type 1 where
+  pub bytes : (t : Ty) (r : List ℕ) → node-bytes (make t) r ≡ k ∷ type-bytes t r
+  pub carries : (t : Ty) → Carries (make t) → Small t
+  pub case : (P : Node → Type 0) → ((t : Ty) → P (make t)) → Case P k
+
+pub silent-carries : CarriesType 1 silent
+unfolding node-bytes
+silent-carries = record { bytes = λ t r. refl; carries = λ t small. small; case = λ P f. f }
+
+pub mark-first-carries : CarriesType 16 mark-first
+unfolding node-bytes
+mark-first-carries = record { bytes = λ t r. refl; carries = λ t small. small; case = λ P f. f }
+
+pub mark-second-carries : CarriesType 17 mark-second
+unfolding node-bytes
+mark-second-carries = record { bytes = λ t r. refl; carries = λ t small. small; case = λ P f. f }
+
+-- Where the type stands that a node carries.
+pub record Carried (make : Ty → Node) (bytes : List ℕ) (at : ℕ) (n : Node) : Type 0 where
   pub type : Ty
-  pub made : n ≡ silent type
+  pub made : n ≡ make type
   pub type-at : TypeAt bytes (at + 1) type
   pub wide : node-width n ≡ 1 + size type
 
-pub silent-at : {bytes : List ℕ} {at : ℕ} {n : Node} → getD bytes at 0 ≡ 1 → NodeAt bytes at n → Silent bytes at n
-unfolding node-bytes
-silent-at {bytes} {at} e stands =
-    by-byte (λ n. NodeAt bytes at n → Silent bytes at n) stands e
-    (λ t here. record {
-      type = t;
-      made = refl;
-      type-at = record { rest = here .rest; here = rw (← drop-drop 1 at bytes, here .here); small = here .carries };
-      wide = omega (arith, type-width t);
-    })
-    stands
+pub carried-at : {bytes : List ℕ} {at k : ℕ} {make : Ty → Node} {n : Node} → CarriesType k make → getD bytes at 0 ≡ k
+    → NodeAt bytes at n → Carried make bytes at n
+carried-at {bytes} {at} {k} {make} carries-type e stands = by-byte Standing stands e (carries-type .case Standing go) stands
+  where
+    Standing : Node → Type 0
+    Standing n = NodeAt bytes at n → Carried make bytes at n
+
+    go : (t : Ty) → Standing (make t)
+    go t stands =
+        record {
+          type = t;
+          made = refl;
+          type-at =
+              record {
+                rest = stands .rest;
+                here = rw (← drop-drop 1 at bytes, stands .here, carries-type .bytes t (stands .rest));
+                small = carries-type .carries t (stands .carries);
+              };
+          wide = omega (arith, ap length (carries-type .bytes t []), type-width t);
+        }
 
 -- The kinds with two parts: the kind byte and then both.
 pub record Forks (k : ℕ) (make : Node → Node → Node) : Type 1 where
@@ -199,6 +242,10 @@ then-forks = record { bytes = λ n m r. refl; carries = λ n m f. f; case = λ P
 pub chain-forks : Forks 10 chain
 unfolding node-bytes
 chain-forks = record { bytes = λ n m r. refl; carries = λ n m f. f; case = λ P f. f }
+
+pub choose-forks : Forks 15 choose
+unfolding node-bytes
+choose-forks = record { bytes = λ n m r. refl; carries = λ n m f. f; case = λ P f. f }
 
 -- Where the parts stand.
 pub record Parts (make : Node → Node → Node) (bytes : List ℕ) (at : ℕ) (n : Node) : Type 0 where
