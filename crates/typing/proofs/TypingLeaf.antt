@@ -11,12 +11,13 @@ use Rattle.stream.specs.Reading.{Result}
 use Rattle.stream.specs.TypeFiles.{type-bytes}
 use Rattle.reading.specs.declared.types.TypePlace.{TypePlace}
 use Rattle.reading.specs.TypeReads.{TypeIn, SomeTypeAt}
+use Rattle.node.specs.Nodes.{Node}
 use Rattle.node.specs.Checking.{gives, typing}
 use Rattle.node.specs.PatchFiles.{node-bytes}
 use Rattle.typing.specs.declared.Typed.{Typed}
 use Rattle.typing.specs.declared.Typed.the-variants.{Gives}
 use Rattle.patch_reading.specs.PatchReads.{node-arity, node-width}
-use Rattle.patch_reading.specs.PatchReads.Laws.{ends-inside, Case, by-byte, silent-at}
+use Rattle.patch_reading.specs.PatchReads.Laws.{ends-inside, Case, by-byte, CarriesType, silent-carries, carried-at}
 use Rattle.writing.specs.Appending.{Appends}
 use Rattle.typing.specs.Typing.{Answers, GivenCarried, TypingDue, TypesNode}
 use Rattle.writing.specs.Appending.Laws.{nothing-written, written-on}
@@ -44,22 +45,22 @@ module _ {types : List ℕ} {place : TypePlace} {nodes : List ℕ} {from : ℕ} 
   emitter-typed {lent} wide t e leaf small appended =
       leaf-typed wide e leaf (λ s here. answers-small t small (written-on (nothing-written lent) appended) refl)
 
-  -- Silent gives the type that it carries.
-  module _ (e : getD nodes from 0 ≡ 1) where
-    pub carried-type : TypingDue types place nodes from → SomeTypeAt nodes (from + 1)
-    carried-type due = let silent = silent-at e (due .node-at) in record { type = silent .type; stands = silent .type-at }
+  pub carried-type : {k : ℕ} {make : Ty → Node} → CarriesType k make → getD nodes from 0 ≡ k → TypingDue types place nodes from
+      → SomeTypeAt nodes (from + 1)
+  carried-type carries e due = let node = carried-at carries e (due .node-at) in record { type = node .type; stands = node .type-at }
 
-    pub silent-typed : {lent after : List ℕ} {answer : Typed} → GivenCarried nodes (from + 1) lent after answer
-        → TypesNode types place nodes from lent after answer
-    unfolding typing
-    silent-typed {lent} {after} {answer} given = record { each = each }
-      where
-        each : (due : TypingDue types place nodes from)
-            → Answers (from + node-width (due .node)) (typing (due .type) (due .node)) lent after answer
-        each due =
-            let silent = silent-at e (due .node-at) in
-            let end : from + node-width (due .node) ≡ from + 1 + size (silent .type) = omega (arith, silent .wide) in
-            rw (end, ap (typing (due .type)) (silent .made)) (given .each (silent .type) (silent .type-at))
+  -- Silent gives the type that it carries.
+  pub silent-typed : {lent after : List ℕ} {answer : Typed} → getD nodes from 0 ≡ 1 → GivenCarried nodes (from + 1) lent after answer
+      → TypesNode types place nodes from lent after answer
+  unfolding typing
+  silent-typed {lent} {after} {answer} e given = record { each = each }
+    where
+      each : (due : TypingDue types place nodes from)
+          → Answers (from + node-width (due .node)) (typing (due .type) (due .node)) lent after answer
+      each due =
+          let node = carried-at silent-carries e (due .node-at) in
+          let end : from + node-width (due .node) ≡ from + 1 + size (node .type) = omega (arith, node .wide) in
+          rw (end, ap (typing (due .type)) (node .made)) (given .each (node .type) (node .type-at))
 
   -- A level's value stands behind its kind byte.
   pub level-inside : TypingDue types place nodes from → getD nodes from 0 ≡ 3 → from + suc value-width ≤ length nodes
@@ -77,12 +78,13 @@ Outside (j ∷ js) k = Outside js k × (k ≡ j → ⊥)
 above : {j k : ℕ} → j ≤ k → (k ≡ j → ⊥) → j + 1 ≤ k
 above h other = omega arith
 
-pub none-left : (k : ℕ) → k < 15 → node-arity k ≡ 0 → Outside (14 ∷ 13 ∷ 12 ∷ 11 ∷ 8 ∷ 7 ∷ 6 ∷ 5 ∷ 3 ∷ 2 ∷ 1 ∷ 0 ∷ []) k → ⊥
-none-left k listed leaf ((((((((((((none, pass), silent), cue), level), left), right), first), second), regroup-right), regroup-left), spread), front) =
+pub none-left : (k : ℕ) → k < 18 → node-arity k ≡ 0 → Outside (17 ∷ 16 ∷ 14 ∷ 13 ∷ 12 ∷ 11 ∷ 8 ∷ 7 ∷ 6 ∷ 5 ∷ 3 ∷ 2 ∷ 1 ∷ 0 ∷ []) k → ⊥
+none-left k listed leaf ((((((((((((((none, pass), silent), cue), level), left), right), first), second), regroup-right), regroup-left), spread), front), mark-first), mark-second) =
     let low : 4 ≤ k = above (above (above (above (omega arith) pass) silent) cue) level in
     let middle : 9 ≤ k = above (above (above (above (parted 4 refl low) left) right) first) second in
     let high : 11 ≤ k = parted 10 refl (parted 9 refl middle) in
-    let last : 15 ≤ k = above (above (above (above high regroup-right) regroup-left) spread) front in
+    let upper : 15 ≤ k = above (above (above (above high regroup-right) regroup-left) spread) front in
+    let last : 18 ≤ k = above (above (parted 15 refl upper) mark-first) mark-second in
     omega arith
   where
     parted : (j : ℕ) → node-arity j ≡ 2 → j ≤ k → j + 1 ≤ k

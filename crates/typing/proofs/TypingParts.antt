@@ -8,6 +8,7 @@ use lib.ListN.{length, getD}
 use Rattle.stream.specs.declared.Fault.{Fault}
 use Rattle.stream.specs.declared.Fault.the-variants.{WrongShape}
 use Rattle.stream.specs.Types.{Ty, size, type-limit, kind, first-part, second-part, Small}
+use Rattle.stream.specs.Types.Kinds.{type-arity}
 use Rattle.stream.specs.Reading.{Result, accepted, refused, go-on}
 use Rattle.stream.specs.TypeFiles.{type-bytes}
 use Rattle.reading.specs.declared.types.TypePlace.{TypePlace}
@@ -179,12 +180,16 @@ both-splits =
       outcome = λ h n m. refl;
     }
 
+-- The first part of a type whose kind has two.
+pub part-first : {shape : ℕ} {types : List ℕ} {place : TypePlace} {nodes : List ℕ} {from : ℕ} → getD types (place .start) 0 ≡ shape → type-arity shape ≡ 2
+    → TypingDue types place nodes from → SomeTypeAt types (place .start + 1)
+part-first same two due =
+    let stands = due .type-in .stands in
+    record { type = first-part (due .type); stands = first-at stands (is-fork stands same two) }
+
 module _ {types : List ℕ} {place : TypePlace} (sequence : getD types (place .start) 0 ≡ 3) where
   forked : {t : Ty} → TypeIn types place t → 3 ≤ kind t
   forked h = is-fork (h .stands) sequence refl
-
-  pub sequence-first : {nodes : List ℕ} {from : ℕ} → TypingDue types place nodes from → SomeTypeAt types (place .start + 1)
-  sequence-first due = record { type = first-part (due .type); stands = first-at (due .type-in .stands) (forked (due .type-in)) }
 
   pub then-splits : {middle : ℕ} {first second : TypePlace} → TypeEnds types (place .start + 1) middle
       → first ≡ record { start = place .start + 1; end = middle } → second ≡ record { start = middle; end = place .end }

@@ -7,7 +7,7 @@ use Prim.Native.Nat.{ℕ, _+_}
 use lib.Dec.{leb, eqb}
 use lib.ListN.{length}
 use Rattle.stream.specs.declared.Fault.the-variants.{TypeTooLarge, NotNullable, WrongShape}
-use Rattle.stream.specs.Types.{Ty, seq, par, nullable, size, type-limit, first-part, second-part, has-kind}
+use Rattle.stream.specs.Types.{Ty, seq, par, either, nullable, size, type-limit, first-part, second-part, has-kind}
 use Rattle.stream.specs.Reading.{Result, accepted, refused, require, go-on}
 use Rattle.writing.specs.Appending.{Holds}
 use Rattle.stream.specs.TypeFiles.{type-bytes}
@@ -48,6 +48,14 @@ second-of k t = require (has-kind k t) WrongShape (gives (second-part t))
 -- The answer of silent, by the type that it carries, which stands at `at`.
 pub record GivenCarried (nodes : List ℕ) (at : ℕ) (lent lent-after : List ℕ) (answer : Typed) : Type 0 where
   pub each : (n : Ty) → TypeAt nodes at n → Answers (at + size n) (require (nullable n) NotNullable (gives n)) lent lent-after answer
+
+-- The answer of a node that gives an either, by the types of its two parts.
+pub record GivenEither (first : List ℕ) (first-place : TypePlace) (second : List ℕ) (second-place : TypePlace) (end : ℕ) (lent lent-after : List ℕ) (answer : Typed) : Type 0 where
+  pub each : (s t : Ty) → TypeIn first first-place s → TypeIn second second-place t → Answers end (gives (either s t)) lent lent-after answer
+
+-- The kinds of the nodes that mark a choice.
+abbrev pub Marks : ℕ → Type 0
+Marks k = (k ≡ 16) ⊎ (k ≡ 17)
 
 -- A node, and the type that it takes, in their bytes.
 pub record TypingDue (types : List ℕ) (place : TypePlace) (nodes : List ℕ) (from : ℕ) : Type 0 where

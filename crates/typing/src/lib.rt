@@ -18,6 +18,7 @@ use stream::Fault;
 use writing::appending::append_kind;
 use writing::appending::append_part;
 use writing::appending::within;
+use writing::comparing::same_types;
 use writing::reordering::write_left;
 use writing::reordering::write_right;
 use writing::reordering::write_spread;
@@ -28,7 +29,7 @@ ghost use Rattle.reading.specs.TypeReads.{SomeTypeAt, SomeTypeIn};
 ghost use Rattle.node.specs.Nodes.{regroup-right, regroup-left, spread, front};
 ghost use Rattle.node.specs.Checking.{gives, typing};
 ghost use Rattle.patch_reading.specs.PatchReads.{node-arity};
-ghost use Rattle.typing.specs.Typing.{limited, first-of, second-of, Given, GivenCarried, TypingDue, TypesNode, TypePartsDue, TypesParts};
+ghost use Rattle.typing.specs.Typing.{limited, first-of, second-of, Given, GivenCarried, GivenEither, Marks, TypingDue, TypesNode, TypePartsDue, TypesParts};
 
 // How many bytes the node level takes: its kind, and its value.
 const LEVEL_WIDTH: usize = 1 + VALUE_WIDTH;
@@ -140,6 +141,46 @@ pub fn give_front(types: &[u8], place: TypePlace, end: usize, out: &mut [u8]) ->
     limit(end, written)
 }
 
+// Gives either s or t for the types s in `first_place` and t in `second_place`.
+fn give_either(
+    first: &[u8],
+    first_place: TypePlace,
+    second: &[u8],
+    second_place: TypePlace,
+    end: usize,
+    out: &mut [u8],
+) -> Typed
+    requires { ⌜ SomeTypeIn (now first) «first_place» × SomeTypeIn (now second) «second_place» ⌝ }
+    ensures { λ r. ⌜ GivenEither (now (first .entry)) «first_place» (now (second .entry)) «second_place» end (now (out .entry)) (now (out .exit)) r ⌝ }
+{
+    let mut written = append_kind(5, 0, out);
+    written = append_part(first, first_place.start, first_place.end, written, out);
+    written = append_part(second, second_place.start, second_place.end, written, out);
+    limit(end, written)
+}
+
+// Gives either s or t for the type s in `place` and the type t that the node at `from` carries, or either t or s: nodes 16 and 17.
+pub fn give_marked(
+    types: &[u8],
+    place: TypePlace,
+    nodes: &[u8],
+    from: usize,
+    out: &mut [u8],
+) -> Typed
+    requires { ⌜ TypingDue (now types) place (now nodes) from ⌝ }
+    requires { ⌜ Marks (getD (now nodes) from 0) ⌝ }
+    ensures { λ r. ⌜ TypesNode (now (types .entry)) place (now (nodes .entry)) from (now (out .entry)) (now (out .exit)) r ⌝ }
+{
+    let at = from + 1;
+    let end = skip_type(nodes, at);
+    let carried = TypePlace::new(at, end);
+    if nodes[from] == 16 {
+        give_either(types, place, nodes, carried, end, out)
+    } else {
+        give_either(nodes, carried, types, place, end, out)
+    }
+}
+
 // The type that a node without parts gives.
 fn type_leaf(types: &[u8], place: TypePlace, nodes: &[u8], from: usize, out: &mut [u8]) -> Typed
     requires { ⌜ TypingDue (now types) place (now nodes) from ⌝ }
@@ -160,13 +201,15 @@ fn type_leaf(types: &[u8], place: TypePlace, nodes: &[u8], from: usize, out: &mu
         12 => give_regrouped_left(types, place, next, out),
         13 => give_spread(types, place, next, out),
         14 => give_front(types, place, next, out),
+        16 => give_marked(types, place, nodes, from, out),
+        17 => give_marked(types, place, nodes, from, out),
         // Kinds with parts, and those that are not listed: no such node stands here.
         _ => Typed::Failed(Fault::Unlisted),
     }
 }
 
 // The type that a node gives on the type in `place`. The parts of `both` and `then` write theirs behind one kind byte; what the
-// first part of `chain` gives is the input of the second.
+// first part of `chain` gives is the input of the second; those of `choose` give the same.
 pub fn type_node(types: &[u8], place: TypePlace, nodes: &[u8], from: usize, out: &mut [u8]) -> Typed
     requires { ⌜ TypingDue (now types) place (now nodes) from ⌝ }
     ensures { λ r. ⌜ TypesNode (now (types .entry)) place (now (nodes .entry)) from (now (out .entry)) (now (out .exit)) r ⌝ }
@@ -201,6 +244,7 @@ pub fn type_node(types: &[u8], place: TypePlace, nodes: &[u8], from: usize, out:
                 }
             }
         }
+        15 => type_choose(types, place, nodes, from, out),
         // The kinds without parts.
         _ => type_leaf(types, place, nodes, from, out),
     }
@@ -229,6 +273,41 @@ fn type_parts(
             match type_node(types, second, nodes, next, &mut out[rest..]) {
                 Typed::Failed(fault) => Typed::Failed(fault),
                 Typed::Gives(end, other) => limit(end, written + other),
+            }
+        }
+    }
+}
+
+// The type that both parts of choose give, each on its part of the type in `place`. They are written on work bytes that have room
+// for every type, since they are compared whole, and `out` may be too short for them. A function of its own, so that the nodes of
+// other kinds need no stack for these bytes.
+fn type_choose(types: &[u8], place: TypePlace, nodes: &[u8], from: usize, out: &mut [u8]) -> Typed
+    requires { ⌜ TypingDue (now types) place (now nodes) from × (getD (now nodes) from 0 ≡ 15) ⌝ }
+    ensures { λ r. ⌜ TypesNode (now (types .entry)) place (now (nodes .entry)) from (now (out .entry)) (now (out .exit)) r ⌝ }
+{
+    let at = place.start;
+    if types[at] != 5 {
+        return Typed::Failed(Fault::WrongShape);
+    }
+    let start = at + 1;
+    let middle = skip_type(types, start);
+    let first = TypePlace::new(start, middle);
+    let second = TypePlace::new(middle, place.end);
+    let mut one = [0u8; 255];
+    match type_node(types, first, nodes, from + 1, &mut one) {
+        Typed::Failed(fault) => Typed::Failed(fault),
+        Typed::Gives(next, size) => {
+            let mut other = [0u8; 255];
+            match type_node(types, second, nodes, next, &mut other) {
+                Typed::Failed(fault) => Typed::Failed(fault),
+                Typed::Gives(end, length) => {
+                    if same_types(&one[..size], &other[..length]) {
+                        let held = TypePlace::new(0, size);
+                        give_type(&one, held, end, out)
+                    } else {
+                        Typed::Failed(Fault::OutputsDiffer)
+                    }
+                }
             }
         }
     }

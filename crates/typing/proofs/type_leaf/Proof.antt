@@ -1,5 +1,6 @@
 -- `type_leaf` meets its contract: each kind without parts gives what the function for it writes (`TypingLeaf`).
 use borrow.Author.Needs.{needs}
+use mathlib.Core.Logic.{inl, inr}
 use mathlib.Core.Path.{refl, ap}
 use mathlib.Core.List.{[]}
 use Prim.Native.Nat.{suc}
@@ -10,7 +11,7 @@ use Rattle.stream.specs.Levels.Laws.{value-length}
 use Rattle.stream.specs.TypeFiles.{type-bytes}
 use Rattle.node.specs.Checking.{typing}
 use Rattle.node.specs.PatchFiles.{node-bytes}
-use Rattle.patch_reading.specs.PatchReads.Laws.{starts-inside, kind-listed}
+use Rattle.patch_reading.specs.PatchReads.Laws.{starts-inside, kind-listed, silent-carries}
 use Rattle.typing.proofs.TypingLeaf.{leaf-typed, emitter-typed, carried-type, silent-typed, level-inside, none-left}
 use Rattle.typing.proofs.type_leaf.Statement.{statement}
 use Rattle.typing.proofs.type_leaf.Tie as tie
@@ -27,6 +28,12 @@ entry-before-match-rest c = entry-before-shared-slice-known3 (c .before)
 
 abbrev entry-before-give-carried-arg : tie.After-give-carried-arg → tie.Start
 entry-before-give-carried-arg c = entry-before-shared-slice-known3 (c .before .before)
+
+abbrev entry-before-give-marked-arg : tie.After-give-marked-arg → tie.Start
+entry-before-give-marked-arg c = entry-before-shared-slice-known3 (c .before .before)
+
+abbrev entry-before-give-marked-arg2 : tie.After-give-marked-arg2 → tie.Start
+entry-before-give-marked-arg2 c = entry-before-shared-slice-known3 (c .before .before)
 
 abbrev match-keys9-before-slice-known10 : tie.After-slice-known10 → tie.At-match-keys9
 match-keys9-before-slice-known10 c = c .before .before .before .before
@@ -74,7 +81,7 @@ give-type-requires : tie.Need-give-type-requires
 give-type-requires c κs = search needs
 
 give-carried-requires : tie.Need-give-carried-requires
-give-carried-requires c κs = carried-type (c .before .match .keys2) (entry-before-give-carried-arg c .pre .0)
+give-carried-requires c κs = carried-type silent-carries (c .before .match .keys2) (entry-before-give-carried-arg c .pre .0)
 
 append-kind-requires : tie.Need-append-kind-requires
 append-kind-requires c κs = search needs
@@ -108,6 +115,12 @@ give-spread-requires c κs = search needs
 
 give-front-requires : tie.Need-give-front-requires
 give-front-requires c κs = search needs
+
+give-marked-requires : tie.Need-give-marked-requires
+give-marked-requires c κs = (entry-before-give-marked-arg c .pre .0, inl (c .before .match .keys13))
+
+give-marked-requires-2 : tie.Need-give-marked-requires-2
+give-marked-requires-2 c κs = (entry-before-give-marked-arg2 c .pre .0, inr (c .before .match .keys14))
 
 same-length : tie.Need-same-length
 same-length c = search needs
@@ -192,9 +205,21 @@ returns-12 : tie.Need-returns-12
 unfolding typing node-bytes
 returns-12 c = leaf-typed 1 (match-keys12-before-slice-known13 c .match .keys12) (refl, λ t. refl) (c .before .before .give-front .ensures .each)
 
--- No other kind stands here.
+same-length-13 : tie.Need-same-length-13
+same-length-13 c = search needs
+
 returns-13 : tie.Need-returns-13
-returns-13 c =
+returns-13 c = c .before .before .give-marked .ensures
+
+same-length-14 : tie.Need-same-length-14
+same-length-14 c = search needs
+
+returns-14 : tie.Need-returns-14
+returns-14 c = c .before .before .give-marked2 .ensures
+
+-- No other kind stands here.
+returns-15 : tie.Need-returns-15
+returns-15 c =
     let due = entry-before-match-rest c .pre in
     absurd (none-left _ (kind-listed (due .0 .node-at)) (due .1) (c .match .rest))
 
@@ -217,6 +242,8 @@ type-leaf-spec =
     give-regrouped-left-requires
     give-spread-requires
     give-front-requires
+    give-marked-requires
+    give-marked-requires-2
     same-length
     returns
     same-length-2
@@ -241,4 +268,8 @@ type-leaf-spec =
     returns-11
     same-length-12
     returns-12
-    returns-13)
+    same-length-13
+    returns-13
+    same-length-14
+    returns-14
+    returns-15)

@@ -2,7 +2,7 @@
 use mathlib.Core.Bool.{Bool, true, false}
 use mathlib.Core.Path.{_≡_, refl, sym, ap, _∙_}
 use mathlib.Core.List.{List, []}
-use Prim.Native.Nat.{ℕ, _≤_, _<_}
+use Prim.Native.Nat.{ℕ, _+_, _≤_, _<_}
 use native.Mathlib.Omega.{arith}
 use lib.Dec.{leb}
 use lib.ListN.{length}
@@ -20,6 +20,7 @@ use Rattle.reading.specs.Nesting.{Piece}
 use Rattle.reading.specs.Nesting.Laws.{type-piece}
 use Rattle.writing.specs.Appending.{PartDue}
 use Rattle.writing.specs.Appending.Laws.{WrittenSoFar, part-due}
+use Rattle.writing.specs.Writing.Standing.{TypeHeld, type-held}
 use Rattle.node.specs.Nodes.{Node}
 use Rattle.node.specs.Nodes.Laws.{output-small}
 use Rattle.node.specs.Checking.{gives, typing}
@@ -27,15 +28,16 @@ use Rattle.node.specs.Checking.Laws.{gives-accepted, typing-sound}
 use Rattle.node.specs.Nodes.Functions.{Carries}
 use Rattle.typing.specs.declared.Typed.{Typed}
 use Rattle.typing.specs.declared.Typed.the-variants.{Gives, Failed}
-use Rattle.typing.specs.Typing.{typed, limited, Answers}
+use Rattle.patch_reading.specs.PatchReads.{node-width}
+use Rattle.typing.specs.Typing.{typed, limited, Answers, TypingDue, TypesNode}
 
--- A type in its place is a piece of the bytes, and can be written behind a few others.
+-- A type in its place is a piece of the bytes, and can be written behind a kind byte and another type.
 
 pub type-in-piece : {types : List ℕ} {place : TypePlace} {t : Ty} → TypeIn types place t
     → Piece types (place .start) (place .end) (type-bytes t [])
 type-in-piece here = type-piece (here .stands) (here .ends)
 
-pub copy-due : {types : List ℕ} {place : TypePlace} {written : ℕ} → SomeTypeIn types place → written ≤ 2
+pub copy-due : {types : List ℕ} {place : TypePlace} {written : ℕ} → SomeTypeIn types place → written ≤ 256
     → PartDue types (place .start) (place .end) written
 copy-due some few = part-due (type-in-piece (some .here)) (omega (arith, limit-is, type-width (some .type), some .here .stands .small))
 
@@ -110,3 +112,38 @@ requires-fails r e kept = rw e (answers-refused kept)
 pub requires-holds : {end : ℕ} {b : Bool} (fault : Fault) {r : Result Ty} {lent now : List ℕ} {answer : Typed} → b ≡ true
     → Answers end r lent now answer → Answers end (require b fault r) lent now answer
 requires-holds fault e answered = rw e answered
+
+-- A node typed on work bytes that have room for every type has given one of `many` nodes: it is held at their front.
+
+pub record HasGiven (types : List ℕ) (place : TypePlace) (nodes : List ℕ) (from : ℕ) (held : List ℕ) (next many : ℕ) : Type 0 where
+  pub lent : List ℕ
+  pub room : 255 ≤ length lent
+  pub answer : Typed
+  pub typed : TypesNode types place nodes from lent held answer
+  pub told : answer ≡ Gives next many
+
+pub has-given : {types : List ℕ} {place : TypePlace} {nodes : List ℕ} {from : ℕ} {lent held : List ℕ} {answer : Typed} {next many : ℕ} → length lent ≡ 255
+    → TypesNode types place nodes from lent held answer → answer ≡ Gives next many → HasGiven types place nodes from held next many
+has-given {lent = lent} {answer = answer} long typed told =
+    record { lent = lent; room = omega (arith, long); answer = answer; typed = typed; told = told }
+
+pub record GivenType {types : List ℕ} {place : TypePlace} {nodes : List ℕ} {from : ℕ} (due : TypingDue types place nodes from) (held : List ℕ) (next many : ℕ) : Type 0 where
+  pub type : Ty
+  pub is-accepted : typing (due .type) (due .node) ≡ accepted type
+  pub ends : next ≡ from + node-width (due .node)
+  pub small : Small type
+  pub holds : TypeHeld type held many
+
+pub given-type : {types : List ℕ} {place : TypePlace} {nodes : List ℕ} {from : ℕ} {held : List ℕ} {next many : ℕ} → HasGiven types place nodes from held next many
+    → (due : TypingDue types place nodes from) → GivenType due held next many
+given-type {many = many} given due =
+    let a = given .typed .each due in
+    let g = is-given _ _ (sym (given .told) ∙ a .answers) in
+    let small = typing-small (due .type) (due .node) (due .node-at .carries) (g .given) in
+    record {
+      type = g .type;
+      is-accepted = g .given;
+      ends = g .ends;
+      small = small;
+      holds = type-held (g .type) small (given .room) (a .writes (g .type) (g .given)) many (g .sized);
+    }
