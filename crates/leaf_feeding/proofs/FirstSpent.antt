@@ -5,8 +5,8 @@ use mathlib.Core.List.{List, [], _∷_}
 use Prim.Native.Nat.{ℕ, _+_, _≤_, _<_}
 use native.Mathlib.Omega.{arith}
 use lib.ListN.{length, getD, set}
-use Rattle.stream.specs.Types.{Ty, seq, size, type-limit, Small}
-use Rattle.stream.specs.Prefixes.{Prefix, crossed, derivative}
+use Rattle.stream.specs.Types.{Ty, size, type-limit, Small}
+use Rattle.stream.specs.Prefixes.{Prefix, derivative}
 use Rattle.stream.specs.Prefixes.Laws.{derivative-size}
 use Rattle.stream.specs.TypeFiles.{type-bytes}
 use Rattle.reading.specs.declared.inputs.Input.{Input}
@@ -28,7 +28,7 @@ use Rattle.leaf_feeding.proofs.PartsFed.{crossing, crossed-at, first-du
 
 module _ {types slice : List ℕ} {input : Input} {out remainder given : List ℕ} (due : LeafDue types slice input out remainder given)
     (three : getD types (input .ty .start) 0 ≡ 3) (other : getD slice (input .prefix .start) 0 ≡ 5 → ⊥) {halves : Halves}
-    (found : HalvesFound seq crossed types slice input halves) where
+    (found : HalvesFound types slice input halves) where
   abbrev type : Ty
   type = crossing due three other .first-type
 

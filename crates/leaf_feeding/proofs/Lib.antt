@@ -7,3 +7,4 @@ pub mod SilentSent
 pub mod FirstSpent
 pub mod Regrouped
 pub mod TypedFirst
+pub mod Marked

@@ -4,15 +4,15 @@ use mathlib.Core.Path.{_≡_, refl, sym, _∙_}
 use mathlib.Core.List.{List}
 use Prim.Native.Nat.{ℕ}
 use lib.ListN.{getD}
-use Rattle.stream.specs.Types.{Ty, seq, par, kind}
-use Rattle.stream.specs.Prefixes.{Prefix, crossed, beside}
+use Rattle.stream.specs.Types.{Ty, kind}
+use Rattle.stream.specs.Prefixes.{Prefix}
 use Rattle.stream.specs.Prefixes.Kinds.{prefix-kind}
 use Rattle.reading.specs.declared.types.TypePlace.{TypePlace}
 use Rattle.reading.specs.declared.inputs.Input.{Input}
 use Rattle.reading.specs.declared.inputs.Halves.{Halves}
 use Rattle.reading.specs.TypeReads.Laws.{kind-at}
 use Rattle.reading.specs.SliceReads.Laws as prefixes
-use Rattle.reading.specs.Inputs.{InputAt, CutDue, HalvesDue, HalvesAt, HalvesFound, ComingDue, ComingFound, ComingAt}
+use Rattle.reading.specs.Inputs.{InputAt, CutDue, side-by-side, first-crossed, HalvesDue, HalvesAt, HalvesFound, ComingDue, ComingFound, ComingAt}
 use Rattle.reading.specs.Inputs.Laws.{Sides, has-sides, Coming, is-coming, Crossing, is-crossing}
 use Rattle.node.specs.Nodes.{Node, pass, left-side, right-side, first, second, Takes, takes-left, takes-right, takes-first, takes-second}
 use Rattle.node.specs.Nodes.Functions.{output-type}
@@ -59,9 +59,10 @@ module _ {types slice : List ℕ} {input : Input} {out remainder given : List �
     parts : Sides (due .type) (due .prefix)
     parts = has-sides (due .stands .is-prefix) (sym type-kind ∙ four)
 
-    pub sides-due : HalvesDue par beside types slice input
+    pub sides-due : HalvesDue types slice input
     sides-due =
         record {
+          pairing = side-by-side;
           first-type = parts .first-type;
           second-type = parts .second-type;
           first-prefix = parts .first-prefix;
@@ -69,7 +70,7 @@ module _ {types slice : List ℕ} {input : Input} {out remainder given : List �
           stands = stands-as (parts .type-is) (parts .prefix-is) (due .stands);
         }
 
-    module _ {halves : Halves} (found : HalvesFound par beside types slice input halves) where
+    module _ {halves : Halves} (found : HalvesFound types slice input halves) where
       pub left-due : LeafDue types slice (halves .first) out remainder given
       unfolding sides-due
       left-due =
@@ -137,9 +138,10 @@ module _ {types slice : List ℕ} {input : Input} {out remainder given : List �
     pub crossing : Crossing (due .type) (due .prefix)
     crossing = is-crossing (due .stands .is-prefix) (sym type-kind ∙ three) (λ five. other (slice-kind ∙ five))
 
-    pub crossed-due : HalvesDue seq crossed types slice input
+    pub crossed-due : HalvesDue types slice input
     crossed-due =
         record {
+          pairing = first-crossed;
           first-type = crossing .first-type;
           second-type = crossing .second-type;
           first-prefix = crossing .first-prefix;
@@ -147,7 +149,7 @@ module _ {types slice : List ℕ} {input : Input} {out remainder given : List �
           stands = stands-as (crossing .type-is) (crossing .prefix-is) (due .stands);
         }
 
-    module _ {halves : Halves} (found : HalvesFound seq crossed types slice input halves) where
+    module _ {halves : Halves} (found : HalvesFound types slice input halves) where
       pub crossed-at : HalvesAt types slice halves (crossing .first-type) (crossing .second-type) (crossing .first-prefix) (crossing .second-prefix)
       unfolding crossed-due
       crossed-at = found .each crossed-due

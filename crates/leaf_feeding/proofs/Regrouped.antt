@@ -25,7 +25,7 @@ use Rattle.node.specs.Nodes.{Node, regroup-right, regroup-left, spread, front, 
 use Rattle.node.specs.Feeding.Functions.{sends, leaves}
 use Rattle.node.specs.PatchFiles.{node-bytes}
 use Rattle.leaf_feeding.specs.Steps.Laws.{front-leads, byte-leads}
-use Rattle.leaf_feeding.specs.Reordered.{SendDue, Delivers}
+use Rattle.leaf_feeding.specs.Reordered.{SendDue, Delivers, Marking, marking-first, marking-second}
 
 -- What a node sends and leaves, in bytes; the node left has one.
 pub record Sends (t : Ty) (n : Node) (p : Prefix) (bytes : List ℕ) (k : ℕ) : Type 0 where
@@ -230,3 +230,9 @@ spread-coming second-coming = record { sent = simp onto; kept = refl }
 pub front-sent : (t : Ty) (p : Prefix) → Sends t front p (6 ∷ 0 ∷ prefix-bytes p []) 0
 unfolding sends leaves node-bytes prefix-bytes
 front-sent t p = record { sent = refl; kept = refl }
+
+-- Mark first and mark second: the bytes of the prefix behind the mark.
+pub marked-sent : {mark : ℕ} {n : Node} → Marking mark n → (t : Ty) (p : Prefix) → Sends t n p (mark ∷ prefix-bytes p []) 0
+unfolding sends leaves node-bytes prefix-bytes
+marked-sent marking-first t p = record { sent = refl; kept = refl }
+marked-sent marking-second t p = record { sent = refl; kept = refl }

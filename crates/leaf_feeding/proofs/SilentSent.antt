@@ -20,7 +20,7 @@ use Rattle.node.specs.Checking.Laws.{WellTyped}
 use Rattle.node.specs.Feeding.Functions.{sends, leaves}
 use Rattle.node.specs.PatchFiles.{node-bytes}
 use Rattle.patch_reading.specs.PatchReads.{node-width}
-use Rattle.patch_reading.specs.PatchReads.Laws.{ends-inside, Silent, silent-at, bytes-at as node-bytes-at}
+use Rattle.patch_reading.specs.PatchReads.Laws.{ends-inside, Carried, silent-carries, carried-at, bytes-at as node-bytes-at}
 use Rattle.writing.specs.Writing.{SilenceDue, SilenceWritten}
 use Rattle.leaf_feeding.specs.declared.Step.{Step}
 use Rattle.leaf_feeding.specs.declared.Stepped.the-variants.{Fed, Failed}
@@ -55,8 +55,8 @@ empty-width (null-par h k) = omega (arith, empty-width h, empty-width k)
 module _ {nodes : List ℕ} {from : ℕ} {out remainder given : List ℕ} (due : CarryingDue 1 nodes from out remainder given) where
   -- The type that it carries stands behind its kind byte.
 
-  pub carried : Silent nodes from (due .node)
-  carried = silent-at (due .kind) (due .node-at)
+  pub carried : Carried silent nodes from (due .node)
+  carried = carried-at silent-carries (due .kind) (due .node-at)
 
   abbrev pub some-type : SomeTypeAt nodes (from + 1)
   some-type = record { type = carried .type; stands = carried .type-at }

@@ -65,6 +65,9 @@ module _ (n : Node) (carries : Carries n) {types slice : List ℕ} {input : Inpu
     gave : IsGiven end next many (typing (due .type) n)
     gave = is-given end (typing (due .type) n) (sym (fits .gives next many is .0) ∙ outcome-told)
 
+    pub typed-ends : next ≡ end
+    typed-ends = gave .ends
+
     well-typed : WellTyped (due .type) n (gave .type)
     well-typed = typing-sound (due .type) n (gave .type) carries (gave .given)
 

@@ -11,7 +11,7 @@ use Rattle.reading.specs.declared.prefixes.PrefixPlace.{PrefixPlace}
 use Rattle.reading.specs.SliceReads.{PrefixIn, prefix-width}
 use Rattle.typing.specs.declared.Typed.{Typed}
 use Rattle.typing.specs.declared.Typed.the-variants.{Gives, Failed}
-use Rattle.node.specs.Nodes.{Node, Takes}
+use Rattle.node.specs.Nodes.{Node, mark-first, mark-second, Takes}
 use Rattle.node.specs.Feeding.Functions.{sends, leaves}
 use Rattle.node.specs.PatchFiles.{node-bytes}
 use Rattle.patch_reading.specs.PatchReads.{node-width}
@@ -44,3 +44,22 @@ pub record Delivers (o : Prefix) (n : Node) (out remainder out-after remainder-a
 pub record Sent (n : Node) (slice : List ℕ) (place : PrefixPlace) (out remainder out-after remainder-after : List ℕ) (sent : ℕ) : Type 0 where
   pub each : (due : SendDue n slice place out remainder)
       → Delivers (sends (due .type) n (due .prefix)) (leaves (due .type) n (due .prefix)) out remainder out-after remainder-after sent
+
+-- The kind of the slice by which a node of the kind k marks a choice.
+pub record MarkOf (k mark : ℕ) : Type 0 where
+  pub first : k ≡ 16 → mark ≡ 9
+  pub second : k ≡ 17 → mark ≡ 10
+
+pub data Marking : ℕ → Node → Type 0 where
+  marking-first : {t : Ty} → Marking 9 (mark-first t)
+  marking-second : {t : Ty} → Marking 10 (mark-second t)
+
+-- The same of a node that sends the prefix behind `mark`.
+
+pub record MarkSendDue (mark : ℕ) (slice : List ℕ) (place : PrefixPlace) (out remainder : List ℕ) : Type 0 where
+  pub node : Node
+  pub marking : Marking mark node
+  pub send : SendDue node slice place out remainder
+
+pub record MarkSent (mark : ℕ) (slice : List ℕ) (place : PrefixPlace) (out remainder out-after remainder-after : List ℕ) (sent : ℕ) : Type 0 where
+  pub each : {n : Node} → Marking mark n → Sent n slice place out remainder out-after remainder-after sent

@@ -17,6 +17,7 @@ use Rattle.node.specs.Checking.Laws.{WellTyped}
 use Rattle.node.specs.Feeding.Functions.{sends, leaves}
 use Rattle.node.specs.PatchFiles.{node-bytes}
 use Rattle.patch_reading.specs.PatchReads.{node-width, NodeAt}
+use Rattle.typing.specs.Typing.{Marks}
 use Rattle.leaf_feeding.specs.declared.Step.{Step}
 use Rattle.leaf_feeding.specs.declared.Stepped.{Stepped}
 use Rattle.leaf_feeding.specs.declared.Stepped.the-variants.{Fed, Failed}
@@ -88,6 +89,18 @@ pub record CarryingDue (k : ℕ) (nodes : List ℕ) (from : ℕ) (out remainder 
 pub record CarryingFed (k : ℕ) (nodes : List ℕ) (from : ℕ) (out remainder given out-after remainder-after given-after : List ℕ) (answer : Stepped) : Type 0 where
   pub each : (due : CarryingDue k nodes from out remainder given) (s : Ty) (p : Prefix)
       → NodeAnswers (from + node-width (due .node)) s (due .node) p out remainder given out-after remainder-after given-after answer
+
+-- Nodes that ask type and prefix and carry something in their bytes: those that mark a choice, the node that stands at `from`.
+
+pub record MarkDue (types slice : List ℕ) (input : Input) (nodes : List ℕ) (from : ℕ) (out remainder given : List ℕ) : Type 0 where
+  pub leaf : LeafDue types slice input out remainder given
+  pub node : Node
+  pub node-at : NodeAt nodes from node
+  pub marks : Marks (getD nodes from 0)
+
+pub record MarkFed (types slice : List ℕ) (input : Input) (nodes : List ℕ) (from : ℕ) (out remainder given out-after remainder-after given-after : List ℕ) (answer : Stepped) : Type 0 where
+  pub each : (due : MarkDue types slice input nodes from out remainder given)
+      → NodeAnswers (from + node-width (due .node)) (due .leaf .type) (due .node) (due .leaf .prefix) out remainder given out-after remainder-after given-after answer
 
 -- A node of one byte is left, of the kind k, once a type and a prefix of it are handed on.
 pub record HandsOn (k : ℕ) (types slice : List ℕ) (input : Input) (end : ℕ) (out remainder given out-after remainder-after given-after : List ℕ) (answer : Stepped) : Type 0 where

@@ -3,8 +3,7 @@
 // it takes, and if there is no room for the type that it gives. Where that has room, what is sent has.
 use reading::inputs::Input;
 use reading::inputs::coming_part;
-use reading::inputs::crossed_parts;
-use reading::inputs::sides;
+use reading::inputs::halve;
 use reading::prefixes::VALUE_WIDTH;
 use reading::types::NullableEnd;
 use reading::types::TypePlace;
@@ -182,7 +181,7 @@ pub fn feed_left(
     if types[at] != 4 {
         return Stepped::Failed;
     }
-    let halves = sides(types, slice, input);
+    let halves = halve(types, slice, input);
     hand_on(5, types, slice, halves.first, end, out, remainder, given)
 }
 
@@ -203,7 +202,7 @@ pub fn feed_right(
     if types[at] != 4 {
         return Stepped::Failed;
     }
-    let halves = sides(types, slice, input);
+    let halves = halve(types, slice, input);
     hand_on(6, types, slice, halves.second, end, out, remainder, given)
 }
 
@@ -229,7 +228,7 @@ pub fn feed_first(
         let part = coming_part(types, input);
         return hand_on(7, types, slice, part, end, out, remainder, given);
     }
-    let halves = crossed_parts(types, slice, input);
+    let halves = halve(types, slice, input);
     match hand_on(7, types, slice, halves.first, end, out, remainder, given) {
         Stepped::Failed => Stepped::Failed,
         Stepped::Fed(step) => {
@@ -287,6 +286,6 @@ pub fn feed_second(
         let place = TypePlace::new(part.ty.end, input.ty.end);
         return feed_waiting(types, place, end, out, remainder, given);
     }
-    let halves = crossed_parts(types, slice, input);
+    let halves = halve(types, slice, input);
     hand_on(0, types, slice, halves.second, end, out, remainder, given)
 }

@@ -1,5 +1,5 @@
-// Regroup right, regroup left, spread and front: what they send has the bytes of the prefix in another order, and they leave one byte.
-// Each is typed first. Where the type that it gives has room, what it sends has.
+// Regroup right, regroup left, spread and front, mark first and mark second: what they send has the bytes of the prefix in another order
+// or behind others, and they leave one byte. Each is typed first. Where the type that it gives has room, what it sends has.
 use crate::Step;
 use crate::Stepped;
 use reading::inputs::Input;
@@ -10,6 +10,7 @@ use reading::prefixes::PrefixPlace;
 use stream::Fault;
 use typing::Typed;
 use typing::give_front;
+use typing::give_marked;
 use typing::give_regrouped_left;
 use typing::give_regrouped_right;
 use typing::give_spread;
@@ -19,8 +20,8 @@ use writing::reordering::write_left;
 use writing::reordering::write_right;
 use writing::reordering::write_spread;
 ghost use Rattle.node.specs.Nodes.{regroup-right, regroup-left, spread, front};
-ghost use Rattle.leaf_feeding.specs.Steps.{LeafDue, LeafFed};
-ghost use Rattle.leaf_feeding.specs.Reordered.{FitsIn, SendDue, Sent};
+ghost use Rattle.leaf_feeding.specs.Steps.{LeafDue, LeafFed, MarkDue, MarkFed};
+ghost use Rattle.leaf_feeding.specs.Reordered.{FitsIn, SendDue, Sent, MarkOf, MarkSendDue, MarkSent};
 
 // A type for which there is no room fails too.
 fn fitting(typed: Typed, room: usize) -> Typed
@@ -112,6 +113,32 @@ fn send_in_front(slice: &[u8], place: PrefixPlace, out: &mut [u8], remainder: &m
     append_part(slice, place.start, place.end, sent, out)
 }
 
+// The kind of the slice that a node of the kind `kind` sends: 16 marks the first part as chosen, 17 the second.
+fn mark_of(kind: u8) -> u8
+    ensures { λ r. ⌜ MarkOf kind r ⌝ }
+{
+    if kind == 16 {
+        return 9;
+    }
+    10
+}
+
+// p gives 9 p, or 10 p.
+fn send_marked(
+    mark: u8,
+    slice: &[u8],
+    place: PrefixPlace,
+    out: &mut [u8],
+    remainder: &mut [u8],
+) -> usize
+    requires { ⌜ MarkSendDue mark (now slice) place (now out) (now remainder) ⌝ }
+    ensures { λ r. ⌜ MarkSent mark (now (slice .entry)) place (now (out .entry)) (now (remainder .entry)) (now (out .exit)) (now (remainder .exit)) r ⌝ }
+{
+    remainder[0] = 0;
+    let sent = append_kind(mark, 0, out);
+    append_part(slice, place.start, place.end, sent, out)
+}
+
 // Regroup right sends s, (t, r) for (s, t), r.
 pub fn feed_regroup_right(
     types: &[u8],
@@ -199,6 +226,32 @@ pub fn feed_front(
         Typed::Failed(_) => Stepped::Failed,
         Typed::Gives(_, size) => {
             let sent = send_in_front(slice, input.prefix, out, remainder);
+            Stepped::Fed(Step::new(end, sent, 1, size))
+        }
+    }
+}
+
+// Mark first and mark second send the prefix as that of the part which they choose, even one that brings nothing. The node at `from`
+// carries the type of the other part.
+pub fn feed_mark(
+    types: &[u8],
+    slice: &[u8],
+    input: Input,
+    nodes: &[u8],
+    from: usize,
+    out: &mut [u8],
+    remainder: &mut [u8],
+    given: &mut [u8],
+) -> Stepped
+    requires { ⌜ MarkDue (now types) (now slice) input (now nodes) from (now out) (now remainder) (now given) ⌝ }
+    ensures { λ r. ⌜ MarkFed (now (types .entry)) (now (slice .entry)) input (now (nodes .entry)) from (now (out .entry)) (now (remainder .entry)) (now (given .entry)) (now (out .exit)) (now (remainder .exit)) (now (given .exit)) r ⌝ }
+{
+    let typed = give_marked(types, input.ty, nodes, from, given);
+    match fitting(typed, given.len()) {
+        Typed::Failed(_) => Stepped::Failed,
+        Typed::Gives(end, size) => {
+            let mark = mark_of(nodes[from]);
+            let sent = send_marked(mark, slice, input.prefix, out, remainder);
             Stepped::Fed(Step::new(end, sent, 1, size))
         }
     }

@@ -26,8 +26,8 @@ entry-before-then2 c = entry-before-shared-slice-known4 (c .before)
 abbrev coming-part-before-hand-on : tie.After-hand-on → tie.After-coming-part
 coming-part-before-hand-on c = c .before .before .before .before
 
-abbrev crossed-parts-before-hand-on2 : tie.After-hand-on2 → tie.After-crossed-parts
-crossed-parts-before-hand-on2 c = c .before .before .before .before
+abbrev halve-before-hand-on2 : tie.After-hand-on2 → tie.After-halve
+halve-before-hand-on2 c = c .before .before .before .before
 
 abbrev hand-on-before-slice-known6 : tie.After-slice-known6 → tie.After-hand-on
 hand-on-before-slice-known6 c = c .before .before .before .before .before .before
@@ -83,14 +83,14 @@ returns-2 c =
     let found = coming-part-before-hand-on handed in
     record { each = λ due. coming-answers due (found .before .if2 .taken) (found .coming-part .ensures) (handed .hand-on .ensures) }
 
-crossed-parts-requires : tie.Need-crossed-parts-requires
-crossed-parts-requires c κs = crossed-due (entry-before-else2 c .pre) (c .before .before .if1 .left) (c .if2 .left)
+halve-requires : tie.Need-halve-requires
+halve-requires c κs = crossed-due (entry-before-else2 c .pre) (c .before .before .if1 .left) (c .if2 .left)
 
 hand-on-requires-2 : tie.Need-hand-on-requires-2
 hand-on-requires-2 c κs =
     let found = c .before .before .before in
     let other = found .before in
-    first-due (entry-before-else2 other .pre) (other .before .before .if1 .left) (other .if2 .left) (found .crossed-parts .ensures)
+    first-due (entry-before-else2 other .pre) (other .before .before .if1 .left) (other .if2 .left) (found .halve .ensures)
 
 enum-told : tie.Need-enum-told
 enum-told c = search needs
@@ -101,11 +101,11 @@ enum-known-step c = search needs
 slice-write-remainder : tie.Need-slice-write-remainder
 slice-write-remainder c =
     let handed = hand-on2-before-known-told c in
-    let found = crossed-parts-before-hand-on2 handed in
+    let found = halve-before-hand-on2 handed in
     let other = found .before in
     omega (
       arith,
-      byte-room (entry-before-else2 other .pre) (other .before .before .if1 .left) (other .if2 .left) (found .crossed-parts .ensures)
+      byte-room (entry-before-else2 other .pre) (other .before .before .if1 .left) (other .if2 .left) (found .halve .ensures)
           (handed .hand-on2 .ensures) (c .before .step .given .1),
     )
 
@@ -121,9 +121,9 @@ part-write-spent-end c = search needs
 write-spent-requires : tie.Need-write-spent-requires
 write-spent-requires c κs =
     let handed = hand-on2-before-write-spent-arg c in
-    let found = crossed-parts-before-hand-on2 handed in
+    let found = halve-before-hand-on2 handed in
     let other = found .before in
-    spent-due (entry-before-else2 other .pre) (other .before .before .if1 .left) (other .if2 .left) (found .crossed-parts .ensures)
+    spent-due (entry-before-else2 other .pre) (other .before .before .if1 .left) (other .if2 .left) (found .halve .ensures)
     (handed .hand-on2 .ensures) (c .before .before .step .given .1)
 
 add-new : tie.Need-add-new
@@ -131,11 +131,11 @@ unfolding type-limit
 add-new c =
     let written = c .before .before in
     let handed = hand-on2-before-write-spent written in
-    let found = crossed-parts-before-hand-on2 handed in
+    let found = halve-before-hand-on2 handed in
     let other = found .before in
     omega (
       arith,
-      spent-small (entry-before-else2 other .pre) (other .before .before .if1 .left) (other .if2 .left) (found .crossed-parts .ensures)
+      spent-small (entry-before-else2 other .pre) (other .before .before .if1 .left) (other .if2 .left) (found .halve .ensures)
           (handed .hand-on2 .ensures) (step-before-write-spent written .step .given .1) (written .write-spent .ensures),
     )
 
@@ -154,11 +154,11 @@ same-length-6 c = search needs
 returns-3 : tie.Need-returns-3
 returns-3 c =
     let handed = hand-on2-before-enum-told c in
-    let found = crossed-parts-before-hand-on2 handed in
+    let found = halve-before-hand-on2 handed in
     let other = found .before in
     record {
       each = λ due.
-          first-failed due (other .before .before .if1 .left) (other .if2 .left) (found .crossed-parts .ensures) (handed .hand-on2 .ensures)
+          first-failed due (other .before .before .if1 .left) (other .if2 .left) (found .halve .ensures) (handed .hand-on2 .ensures)
           (c .enum-told .given .1);
     }
 
@@ -169,9 +169,9 @@ same-length-8 : tie.Need-same-length-8
 same-length-8 c =
     let written = c .before .before .before in
     let handed = hand-on2-before-write-spent written in
-    let found = crossed-parts-before-hand-on2 handed in
+    let found = halve-before-hand-on2 handed in
     let other = found .before in
-    spent-kept (entry-before-else2 other .pre) (other .before .before .if1 .left) (other .if2 .left) (found .crossed-parts .ensures)
+    spent-kept (entry-before-else2 other .pre) (other .before .before .if1 .left) (other .if2 .left) (found .halve .ensures)
     (handed .hand-on2 .ensures) (step-before-write-spent written .step .given .1) (written .write-spent .ensures)
 
 same-length-9 : tie.Need-same-length-9
@@ -181,11 +181,11 @@ returns-4 : tie.Need-returns-4
 returns-4 c =
     let written = c .before .before .before in
     let handed = hand-on2-before-write-spent written in
-    let found = crossed-parts-before-hand-on2 handed in
+    let found = halve-before-hand-on2 handed in
     let other = found .before in
     record {
       each = λ due.
-          spent-answers due (other .before .before .if1 .left) (other .if2 .left) (found .crossed-parts .ensures) (handed .hand-on2 .ensures)
+          spent-answers due (other .before .before .if1 .left) (other .if2 .left) (found .halve .ensures) (handed .hand-on2 .ensures)
           (step-before-write-spent written .step .given .1) (written .write-spent .ensures) (c .new .ensures);
     }
 
@@ -202,7 +202,7 @@ feed-first-spec =
     same-length-2
     same-length-3
     returns-2
-    crossed-parts-requires
+    halve-requires
     hand-on-requires-2
     enum-told
     enum-known-step

@@ -23,8 +23,8 @@ entry-before-then2 c = entry-before-shared-slice-known4 (c .before)
 abbrev coming-part-before-new : tie.After-new → tie.After-coming-part
 coming-part-before-new c = c .before
 
-abbrev crossed-parts-before-hand-on : tie.After-hand-on → tie.After-crossed-parts
-crossed-parts-before-hand-on c = c .before .before .before .before
+abbrev halve-before-hand-on : tie.After-hand-on → tie.After-halve
+halve-before-hand-on c = c .before .before .before .before
 
 abbrev new-before-feed-waiting : tie.After-feed-waiting → tie.After-new
 new-before-feed-waiting c = c .before .before .before .before
@@ -79,14 +79,14 @@ returns-2 c =
           waiting-answers due (found .before .if2 .taken) (found .coming-part .ensures) (placed .new .ensures) (waited .feed-waiting .ensures);
     }
 
-crossed-parts-requires : tie.Need-crossed-parts-requires
-crossed-parts-requires c κs = crossed-due (entry-before-else2 c .pre) (c .before .before .if1 .left) (c .if2 .left)
+halve-requires : tie.Need-halve-requires
+halve-requires c κs = crossed-due (entry-before-else2 c .pre) (c .before .before .if1 .left) (c .if2 .left)
 
 hand-on-requires : tie.Need-hand-on-requires
 hand-on-requires c κs =
     let found = c .before .before .before in
     let other = found .before in
-    second-due (entry-before-else2 other .pre) (other .before .before .if1 .left) (other .if2 .left) (found .crossed-parts .ensures)
+    second-due (entry-before-else2 other .pre) (other .before .before .if1 .left) (other .if2 .left) (found .halve .ensures)
 
 same-length-4 : tie.Need-same-length-4
 same-length-4 c = search needs
@@ -100,11 +100,11 @@ same-length-6 c = search needs
 returns-3 : tie.Need-returns-3
 returns-3 c =
     let handed = hand-on-before-slice-known9 c in
-    let found = crossed-parts-before-hand-on handed in
+    let found = halve-before-hand-on handed in
     let other = found .before in
     record {
       each = λ due.
-          second-answers due (other .before .before .if1 .left) (other .if2 .left) (found .crossed-parts .ensures) (handed .hand-on .ensures);
+          second-answers due (other .before .before .if1 .left) (other .if2 .left) (found .halve .ensures) (handed .hand-on .ensures);
     }
 
 pub feed-second-spec : {M : Type 1} → statement M
@@ -121,7 +121,7 @@ feed-second-spec =
     same-length-2
     same-length-3
     returns-2
-    crossed-parts-requires
+    halve-requires
     hand-on-requires
     same-length-4
     same-length-5

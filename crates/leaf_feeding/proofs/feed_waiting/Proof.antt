@@ -2,7 +2,7 @@
 use borrow.Author.Needs.{needs}
 use native.Mathlib.Omega.{arith}
 use Rattle.leaf_feeding.proofs.Handing.{type-ends, no-room}
-use Rattle.leaf_feeding.proofs.SecondWaits.{empty-due, waited}
+use Rattle.leaf_feeding.proofs.SecondWaits.{waiting-empty, waited}
 use Rattle.leaf_feeding.proofs.feed_waiting.Statement.{statement}
 use Rattle.leaf_feeding.proofs.feed_waiting.Tie as tie
 
@@ -40,7 +40,7 @@ copy-requires c κs = search needs
 write-empty-requires : tie.Need-write-empty-requires
 write-empty-requires c κs =
     let tested = else1-before-write-empty-arg c in
-    empty-due (entry-before-else1 tested .pre) (tested .if1 .left)
+    waiting-empty (entry-before-else1 tested .pre) (tested .if1 .left)
 
 slice-write-remainder : tie.Need-slice-write-remainder
 slice-write-remainder c = search needs

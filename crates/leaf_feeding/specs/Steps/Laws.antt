@@ -6,17 +6,19 @@ use native.Mathlib.Omega.{arith}
 use lib.ListN.{length, take, drop, set, length-append}
 use lib.Seq.{take-at}
 use Rattle.stream.specs.Types.{Ty, size, Small}
-use Rattle.stream.specs.Prefixes.{Prefix, IsPrefix}
+use Rattle.stream.specs.Prefixes.{Prefix, IsPrefix, empty-prefix}
+use Rattle.stream.specs.Prefixes.Laws.{empty-prefix-is-prefix}
 use Rattle.stream.specs.Buffers.{at-front}
 use Rattle.stream.specs.TypeFiles.{type-bytes}
 use Rattle.stream.specs.SliceFiles.{prefix-bytes}
 use Rattle.reading.specs.declared.types.TypePlace.{TypePlace}
 use Rattle.reading.specs.declared.prefixes.PrefixPlace.{PrefixPlace}
-use Rattle.reading.specs.TypeReads.{TypeIn}
+use Rattle.reading.specs.TypeReads.{TypeAt, TypeIn}
 use Rattle.reading.specs.TypeReads.Laws.{type-before, type-width, bytes-at}
 use Rattle.reading.specs.SliceReads.{PrefixIn, prefix-width}
 use Rattle.reading.specs.SliceReads.Laws.{prefix-before, prefix-bytes-length, prefix-taken}
 use Rattle.reading.specs.Inputs.Laws.{width-within}
+use Rattle.writing.specs.Writing.{EmptyDue, EmptyWritten}
 use Rattle.writing.specs.Writing.Laws.{part, back, byte, front-length}
 use Rattle.writing.specs.Appending.Laws.{part-length, back-length}
 use Rattle.node.specs.Nodes.{Node, Takes, count}
@@ -103,6 +105,20 @@ left-width {s} {n = n} {p = p} typed h =
 -- Where a type has room, each prefix of it has.
 pub prefix-room : {t : Ty} {p : Prefix} {out given : List ℕ} → Rooms out given → IsPrefix t p → size t ≤ length given → prefix-width p ≤ length out
 prefix-room rooms h room = omega (arith, rooms .for-output, width-within h)
+
+-- So the empty prefix of a type that has room can be written, and then leads.
+module _ {types : List ℕ} {at : ℕ} {t : Ty} {out given : List ℕ} (stands : TypeAt types at t) (rooms : Rooms out given) (room : size t ≤ length given) where
+  pub empty-due : EmptyDue types at out
+  empty-due = record { type = t; stands = stands; room = prefix-room rooms (empty-prefix-is-prefix t) room }
+
+  module _ {out-after : List ℕ} {sent : ℕ} (written : EmptyWritten types at out out-after sent) where
+    pub empty-wide : sent ≡ prefix-width (empty-prefix t)
+    unfolding empty-due
+    empty-wide = written .each empty-due .0
+
+    pub empty-leads : Leads (prefix-bytes (empty-prefix t) []) out out-after
+    unfolding empty-due
+    empty-leads = front-leads _ out (written .each empty-due .1) (omega (arith, prefix-bytes-length (empty-prefix t) [], empty-due .room))
 
 -- What an answer says.
 
