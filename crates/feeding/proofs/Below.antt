@@ -7,7 +7,7 @@ use native.Mathlib.Nat.{add-zero}
 use lib.ListN.{getD, drop}
 use lib.Seq.{drop-drop}
 use Rattle.stream.specs.Reading.{Reading, read, fault}
-use Rattle.node.specs.Nodes.{Node, pass, silent, emit-cue, emit-level, both, left-side, right-side, first, second, then, chain, regroup-right, regroup-left, spread, front, count, Few}
+use Rattle.node.specs.Nodes.{Node, pass, silent, emit-cue, emit-level, both, left-side, right-side, first, second, then, chain, regroup-right, regroup-left, spread, front, choose, mark-first, mark-second, count, Few}
 use Rattle.node.specs.PatchFiles.{read-node}
 use Rattle.node.specs.PatchFiles.Laws.{read-node-reads}
 use Rattle.patch_reading.specs.PatchReads.{node-width, NodeAt}
@@ -39,6 +39,9 @@ count-positive regroup-right = omega arith
 count-positive regroup-left = omega arith
 count-positive spread = omega arith
 count-positive front = omega arith
+count-positive (choose n m) = omega arith
+count-positive (mark-first t) = omega arith
+count-positive (mark-second t) = omega arith
 
 -- A node that stands there is read there.
 stands-read : {nodes : List ℕ} {from : ℕ} {n : Node} (stands : NodeAt nodes from n) → Few n
@@ -79,6 +82,10 @@ then-count n m = refl
 pub chain-count : (n m : Node) → count (chain n m) ≡ suc (count n + count m)
 unfolding count
 chain-count n m = refl
+
+pub choose-count : (n m : Node) → count (choose n m) ≡ suc (count n + count m)
+unfolding count
+choose-count n m = refl
 
 pub parts-count : {make : Node → Node → Node} {nodes : List ℕ} {from : ℕ} {n : Node} → ((l r : Node) → count (make l r) ≡ suc (count l + count r))
     → (parts : Parts make nodes from n) → count n ≡ suc (count (parts .first) + count (parts .second))

@@ -9,8 +9,9 @@ use Rattle.reading.specs.declared.inputs.Input.{Input}
 use Rattle.node.specs.Nodes.{Node}
 use Rattle.patch_reading.specs.PatchReads.{node-width}
 use Rattle.patch_reading.specs.PatchReads.Laws.{Case, by-byte, kind-listed}
+use Rattle.typing.specs.Typing.{Marks}
 use Rattle.leaf_feeding.specs.declared.Stepped.{Stepped}
-use Rattle.leaf_feeding.specs.Steps.{LeafRooms, LeafDue, LeafFed, FreeFed, CarryingDue, CarryingFed}
+use Rattle.leaf_feeding.specs.Steps.{LeafRooms, LeafDue, LeafFed, FreeFed, CarryingDue, CarryingFed, MarkDue, MarkFed}
 use Rattle.feeding.specs.Feeds.{FeedDue, FeedsNode}
 use Rattle.feeding.proofs.Below.{count-positive}
 
@@ -36,6 +37,9 @@ module _ {types slice : List ℕ} {input : Input} {nodes : List ℕ} {from : ℕ
 
     pub carrying-due : {k : ℕ} → getD nodes from 0 ≡ k → CarryingDue k nodes from out remainder given
     carrying-due kind = record { node = due .node; node-at = due .node-at; kind = kind; room = leaf-rooms }
+
+    pub mark-due : Marks (getD nodes from 0) → MarkDue types slice input nodes from out remainder given
+    mark-due marks = record { leaf = leaf-due; node = due .node; node-at = due .node-at; marks = marks }
 
     -- The kinds that fix the node.
     is-node : {n : Node} {k : ℕ} → getD nodes from 0 ≡ k → Case (λ m. m ≡ n) k → due .node ≡ n
@@ -63,7 +67,13 @@ module _ {types slice : List ℕ} {input : Input} {nodes : List ℕ} {from : ℕ
     unfolding carrying-due
     carrying-fed kind feeds = record { each = λ due. feeds .each (carrying-due due kind) (due .type) (due .prefix) }
 
-    -- No other kind is listed.
-    pub other-fed : Outside 15 (getD nodes from 0)
+    pub mark-fed : Marks (getD nodes from 0)
+        → MarkFed types slice input nodes from out remainder given out-after remainder-after given-after answer
         → FeedsNode types slice input nodes from out remainder given out-after remainder-after given-after answer
-    other-fed others = record { each = λ due. absurd (not-outside 15 _ (kind-listed (due .node-at)) others) }
+    unfolding mark-due leaf-due
+    mark-fed marks feeds = record { each = λ due. feeds .each (mark-due due marks) }
+
+    -- No other kind is listed.
+    pub other-fed : Outside 18 (getD nodes from 0)
+        → FeedsNode types slice input nodes from out remainder given out-after remainder-after given-after answer
+    other-fed others = record { each = λ due. absurd (not-outside 18 _ (kind-listed (due .node-at)) others) }

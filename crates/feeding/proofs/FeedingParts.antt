@@ -19,7 +19,6 @@ use Rattle.reading.specs.Inputs.Laws.{width-within}
 use Rattle.writing.specs.Writing.Laws.{part, back}
 use Rattle.writing.specs.Appending.Laws.{back-length}
 use Rattle.node.specs.Nodes.{Node, count}
-use Rattle.node.specs.Nodes.Laws.{output-type-is}
 use Rattle.node.specs.Checking.Laws.{WellTyped}
 use Rattle.node.specs.Feeding.Functions.{sends, leaves}
 use Rattle.node.specs.Feeding.Laws.{preserved}
@@ -36,10 +35,11 @@ use Rattle.feeding.specs.declared.Pair.the-variants.{Beside, Crossed}
 use Rattle.feeding.specs.declared.Parts.{Parts}
 use Rattle.feeding.specs.Feeds.{nodes-below, sent-kind, given-kind, kept-before, pair-sent, pair-left, pair-given, PairTyped, FeedDue, FeedsNode, FeedPartsDue}
 use Rattle.feeding.proofs.Below.{count-positive, below-one, below-two}
+use Rattle.feeding.proofs.Typings.{only-type}
 
--- A node gives one type at most.
+-- A node gives types of one size at most.
 pub one-type : {s t u : Ty} {n : Node} → WellTyped s n t → WellTyped s n u → size t ≡ size u
-one-type a b = ap size (sym (output-type-is (a .types)) ∙ output-type-is (b .types))
+one-type a b = ap size (only-type a b)
 
 -- How many bytes a prefix takes, by their list.
 pub width-is : (o : Prefix) → prefix-width o ≡ length (prefix-bytes o [])

@@ -11,7 +11,7 @@ use Rattle.reading.specs.declared.inputs.Input.{Input}
 use Rattle.reading.specs.declared.inputs.Halves.{Halves}
 use Rattle.reading.specs.TypeReads.Laws.{kind-at as type-kind-at}
 use Rattle.reading.specs.SliceReads.Laws.{kind-at}
-use Rattle.reading.specs.Inputs.{InputAt, HalvesDue, HalvesAt, HalvesFound}
+use Rattle.reading.specs.Inputs.{InputAt, first-crossed, HalvesDue, HalvesAt, HalvesFound}
 use Rattle.reading.specs.Inputs.Laws.{Crossing, is-crossing}
 use Rattle.node.specs.Nodes.{Node, count, then, Takes, takes-then}
 use Rattle.node.specs.Checking.Laws.{WellTyped}
@@ -84,9 +84,10 @@ module _ {types slice : List ℕ} {input : Input} {nodes : List ℕ} {from : ℕ
     crossed-at : InputAt types slice input (seq (crossing .first-type) (crossing .second-type)) (crossed (crossing .first-prefix) (crossing .second-prefix))
     crossed-at = rw (← crossing .type-is, ← crossing .prefix-is) (due .stands)
 
-    pub halves-due : HalvesDue seq crossed types slice input
+    pub halves-due : HalvesDue types slice input
     halves-due =
         record {
+          pairing = first-crossed;
           first-type = crossing .first-type;
           second-type = crossing .second-type;
           first-prefix = crossing .first-prefix;
@@ -94,7 +95,7 @@ module _ {types slice : List ℕ} {input : Input} {nodes : List ℕ} {from : ℕ
           stands = crossed-at;
         }
 
-    module _ {halves : Halves} (found : HalvesFound seq crossed types slice input halves) {parts : Parts}
+    module _ {halves : Halves} (found : HalvesFound types slice input halves) {parts : Parts}
         (asks : parts ≡ record { pair = Crossed; first = halves .first; second = halves .second }) where
       halves-at : HalvesAt types slice halves (crossing .first-type) (crossing .second-type) (crossing .first-prefix) (crossing .second-prefix)
       unfolding halves-due

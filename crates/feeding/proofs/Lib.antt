@@ -6,3 +6,6 @@ mod FeedingBoth
 mod FeedingThen
 mod FeedingComing
 mod FeedingChain
+mod FeedingChoose
+mod FeedingFirstChosen
+mod FeedingSecondChosen

@@ -1,12 +1,16 @@
 -- What the rules and limits say of a node with two parts, by its parts, both ways.
-use mathlib.Core.Path.{refl}
-use Rattle.stream.specs.Types.{Ty, seq, Small}
-use Rattle.node.specs.Nodes.{Node, both, then, chain, Takes, takes-both, takes-then, takes-chain}
+use mathlib.Core.Path.{_≡_, refl, sym, _∙_}
+use Rattle.stream.specs.Types.{Ty, seq, either, Small}
+use Rattle.node.specs.Nodes.{Node, both, then, chain, choose, Takes, takes-both, takes-then, takes-chain, takes-choose}
 use Rattle.node.specs.Nodes.Functions.{Fits}
 use Rattle.node.specs.Nodes.Laws.{output-type-is, output-small}
 use Rattle.node.specs.Checking.Laws.{WellTyped}
 use Rattle.feeding.specs.declared.Pair.the-variants.{Beside, Crossed}
 use Rattle.feeding.specs.Feeds.{PairTyped}
+
+-- A node gives one type at most.
+pub only-type : {s t u : Ty} {n : Node} → WellTyped s n t → WellTyped s n u → t ≡ u
+only-type a b = sym (output-type-is (a .types)) ∙ output-type-is (b .types)
 
 pub both-parts : {s t : Ty} {n m : Node} → WellTyped s (both n m) t → PairTyped Beside s s n m t
 both-parts {s} {t} {n} {m} typed = go (typed .types) (typed .fits)
@@ -75,3 +79,23 @@ chain-whole {s} {t} {n} {m} typed =
       types = whole;
       fits = (one .fits, rw (output-type-is (one .types)) (other .fits), rw (output-type-is whole) (output-small (other .types) (other .fits)));
     }
+
+-- Of choose, the one type that both its nodes give.
+
+pub record ChooseTyped (s r : Ty) (n m : Node) (t : Ty) : Type 0 where
+  pub first-typed : WellTyped s n t
+  pub second-typed : WellTyped r m t
+
+pub choose-parts : {s r t : Ty} {n m : Node} → WellTyped (either s r) (choose n m) t → ChooseTyped s r n m t
+choose-parts {s} {r} {t} {n} {m} typed = go (typed .types) (typed .fits)
+  where
+    go : {u : Ty} → Takes (either s r) (choose n m) u → Fits (either s r) (choose n m) → ChooseTyped s r n m u
+    go (takes-choose d e) f =
+        record { first-typed = record { types = d; fits = f .0 }; second-typed = record { types = e; fits = f .1 } }
+
+pub choose-whole : {s r t : Ty} {n m : Node} → ChooseTyped s r n m t → WellTyped (either s r) (choose n m) t
+choose-whole typed =
+    let one = typed .first-typed in
+    let other = typed .second-typed in
+    let whole = takes-choose (one .types) (other .types) in
+    record { types = whole; fits = (one .fits, other .fits, rw (output-type-is whole) (output-small (one .types) (one .fits))) }

@@ -46,6 +46,13 @@ pub record ComingDue (types slice : List ℕ) (input : Input) (nodes : List ℕ)
   pub is-then : getD nodes from 0 ≡ 9
   pub is-coming : getD slice (input .prefix .start) 0 ≡ 5
 
+-- The same of choose on either, by the kind k of the prefix: 8 while no part is chosen, then 9 or 10.
+pub record ChoiceDue (k : ℕ) (types slice : List ℕ) (input : Input) (nodes : List ℕ) (from : ℕ) (out remainder given : List ℕ) : Type 0 where
+  pub due : FeedDue types slice input nodes from out remainder given
+  pub is-choose : getD nodes from 0 ≡ 15
+  pub is-either : getD types (input .ty .start) 0 ≡ 5
+  pub is-marked : getD slice (input .prefix .start) 0 ≡ k
+
 -- Two nodes one behind the other are fed in turn, side by side or at a crossing: what they send, leave and give together. After a crossing
 -- the second node's remainder is left alone.
 

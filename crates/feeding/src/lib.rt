@@ -11,24 +11,28 @@ use leaf_feeding::feed_right;
 use leaf_feeding::feed_second;
 use leaf_feeding::feed_silent;
 use leaf_feeding::reordered::feed_front;
+use leaf_feeding::reordered::feed_mark;
 use leaf_feeding::reordered::feed_regroup_left;
 use leaf_feeding::reordered::feed_regroup_right;
 use leaf_feeding::reordered::feed_spread;
 use reading::inputs::Input;
+use reading::inputs::chosen_part;
 use reading::inputs::coming_part;
-use reading::inputs::crossed_parts;
+use reading::inputs::halve;
 use reading::prefixes::MAX_SLICE_FILE;
 use reading::prefixes::PrefixPlace;
 use reading::types::TypePlace;
 use typing::Typed;
 use typing::type_node;
+use writing::comparing::same_types;
 use writing::copy;
+use writing::write_empty;
 ghost use mathlib.Core.Path.{_≡_};
 ghost use Prim.Native.Nat.{_+_};
 ghost use lib.ListN.{getD};
 ghost use mir.Val.{Fits};
 ghost use mir.Syntax.{w64};
-ghost use Rattle.feeding.specs.Feeds.{sent-kind, given-kind, kept-before, FeedDue, FeedsNode, ComingDue, FeedPartsDue, FeedsParts};
+ghost use Rattle.feeding.specs.Feeds.{sent-kind, given-kind, kept-before, FeedDue, FeedsNode, ComingDue, ChoiceDue, FeedPartsDue, FeedsParts};
 
 // How two nodes that are fed in turn belong together: side by side, or as the two parts of a sequence of which the first was crossed.
 pub enum Pair {
@@ -87,7 +91,7 @@ fn kept_before(pair: Pair, kept: usize) -> usize
     }
 }
 
-// Feeds the input to the node at `from`. A node is fed by its kind; a kind above 14 is refused where the patch is read, and does not
+// Feeds the input to the node at `from`. A node is fed by its kind; a kind above 17 is refused where the patch is read, and does not
 // stand here.
 pub fn feed_node(
     types: &[u8],
@@ -119,7 +123,10 @@ pub fn feed_node(
         12 => feed_regroup_left(types, slice, input, end, out, remainder, given),
         13 => feed_spread(types, slice, input, end, out, remainder, given),
         14 => feed_front(types, slice, input, end, out, remainder, given),
-        15..=255 => Stepped::Failed,
+        15 => feed_choose(types, slice, input, nodes, from, out, remainder, given),
+        16 => feed_mark(types, slice, input, nodes, from, out, remainder, given),
+        17 => feed_mark(types, slice, input, nodes, from, out, remainder, given),
+        18..=255 => Stepped::Failed,
     }
 }
 
@@ -226,7 +233,7 @@ fn feed_then(
     if slice[place] == 5 {
         return feed_coming(types, slice, input, nodes, from, out, remainder, given);
     }
-    let halves = crossed_parts(types, slice, input);
+    let halves = halve(types, slice, input);
     let parts = Parts::new(Pair::Crossed, halves.first, halves.second);
     feed_parts(types, slice, parts, nodes, from + 1, out, remainder, given)
 }
@@ -335,5 +342,153 @@ fn feed_chain(
                 )),
             }
         }
+    }
+}
+
+// Feeds *choose*: until one part is chosen it waits, and then the chosen part's node is fed alone.
+fn feed_choose(
+    types: &[u8],
+    slice: &[u8],
+    input: Input,
+    nodes: &[u8],
+    from: usize,
+    out: &mut [u8],
+    remainder: &mut [u8],
+    given: &mut [u8],
+) -> Stepped
+    requires { ⌜ FeedDue (now types) (now slice) input (now nodes) from (now out) (now remainder) (now given) ⌝ }
+    requires { ⌜ getD (now nodes) from 0 ≡ 15 ⌝ }
+    ensures { λ r. ⌜ FeedsNode (now (types .entry)) (now (slice .entry)) input (now (nodes .entry)) from (now (out .entry)) (now (remainder .entry)) (now (given .entry)) (now (out .exit)) (now (remainder .exit)) (now (given .exit)) r ⌝ }
+{
+    let at = input.ty.start;
+    if types[at] != 5 {
+        return Stepped::Failed;
+    }
+    let place = input.prefix.start;
+    if slice[place] == 8 {
+        return feed_unchosen(types, slice, input, nodes, from, out, remainder, given);
+    }
+    if slice[place] == 9 {
+        return feed_first_chosen(types, slice, input, nodes, from, out, remainder, given);
+    }
+    feed_second_chosen(types, slice, input, nodes, from, out, remainder, given)
+}
+
+// Feeds *choose* while no part is chosen: it sends nothing of the type that both its nodes give, and stays as it is.
+fn feed_unchosen(
+    types: &[u8],
+    slice: &[u8],
+    input: Input,
+    nodes: &[u8],
+    from: usize,
+    out: &mut [u8],
+    remainder: &mut [u8],
+    given: &mut [u8],
+) -> Stepped
+    requires { ⌜ ChoiceDue 8 (now types) (now slice) input (now nodes) from (now out) (now remainder) (now given) ⌝ }
+    ensures { λ r. ⌜ FeedsNode (now (types .entry)) (now (slice .entry)) input (now (nodes .entry)) from (now (out .entry)) (now (remainder .entry)) (now (given .entry)) (now (out .exit)) (now (remainder .exit)) (now (given .exit)) r ⌝ }
+{
+    match type_node(types, input.ty, nodes, from, given) {
+        Typed::Failed(_) => Stepped::Failed,
+        Typed::Gives(end, size) => {
+            if given.len() < size {
+                return Stepped::Failed;
+            }
+            let sent = write_empty(given, 0, out);
+            copy(&nodes[from..end], remainder);
+            Stepped::Fed(Step::new(end, sent, end - from, size))
+        }
+    }
+}
+
+// Feeds the first node of *choose*, which is left alone. The second node has to give the same type: it is written behind what is left
+// of the first, where the second node itself would have had room.
+fn feed_first_chosen(
+    types: &[u8],
+    slice: &[u8],
+    input: Input,
+    nodes: &[u8],
+    from: usize,
+    out: &mut [u8],
+    remainder: &mut [u8],
+    given: &mut [u8],
+) -> Stepped
+    requires { ⌜ ChoiceDue 9 (now types) (now slice) input (now nodes) from (now out) (now remainder) (now given) ⌝ }
+    ensures { λ r. ⌜ FeedsNode (now (types .entry)) (now (slice .entry)) input (now (nodes .entry)) from (now (out .entry)) (now (remainder .entry)) (now (given .entry)) (now (out .exit)) (now (remainder .exit)) (now (given .exit)) r ⌝ }
+{
+    let choice = chosen_part(types, slice, input);
+    match feed_node(
+        types,
+        slice,
+        choice.part,
+        nodes,
+        from + 1,
+        out,
+        remainder,
+        given,
+    ) {
+        Stepped::Failed => Stepped::Failed,
+        Stepped::Fed(step) => {
+            let kept = step.kept;
+            match type_node(types, choice.other, nodes, step.end, &mut remainder[kept..]) {
+                Typed::Failed(_) => Stepped::Failed,
+                Typed::Gives(end, other) => {
+                    let size = step.size;
+                    let stop = kept + other;
+                    if !same_types(&given[..size], &remainder[kept..stop]) {
+                        return Stepped::Failed;
+                    }
+                    Stepped::Fed(Step::new(end, step.sent, kept, size))
+                }
+            }
+        }
+    }
+}
+
+// Feeds the second node of *choose*, which is left alone. Where it begins is known once the first node is typed, whose type is written at
+// the end of the room for what is left, where the first node itself would have had room.
+fn feed_second_chosen(
+    types: &[u8],
+    slice: &[u8],
+    input: Input,
+    nodes: &[u8],
+    from: usize,
+    out: &mut [u8],
+    remainder: &mut [u8],
+    given: &mut [u8],
+) -> Stepped
+    requires { ⌜ ChoiceDue 10 (now types) (now slice) input (now nodes) from (now out) (now remainder) (now given) ⌝ }
+    ensures { λ r. ⌜ FeedsNode (now (types .entry)) (now (slice .entry)) input (now (nodes .entry)) from (now (out .entry)) (now (remainder .entry)) (now (given .entry)) (now (out .exit)) (now (remainder .exit)) (now (given .exit)) r ⌝ }
+{
+    let choice = chosen_part(types, slice, input);
+    let spare = remainder.len() - TypePlace::MAX_NODES;
+    match type_node(
+        types,
+        choice.other,
+        nodes,
+        from + 1,
+        &mut remainder[spare..],
+    ) {
+        Typed::Failed(_) => Stepped::Failed,
+        Typed::Gives(next, other) => match feed_node(
+            types,
+            slice,
+            choice.part,
+            nodes,
+            next,
+            out,
+            &mut remainder[..spare],
+            given,
+        ) {
+            Stepped::Failed => Stepped::Failed,
+            Stepped::Fed(step) => {
+                let size = step.size;
+                let stop = spare + other;
+                if !same_types(&given[..size], &remainder[spare..stop]) {
+                    return Stepped::Failed;
+                }
+                Stepped::Fed(step)
+            }
+        },
     }
 }

@@ -1,39 +1,53 @@
 -- `feed_node` and the functions for two parts meet their contracts. A node without parts is typed and fed by the function for its kind,
 -- whose answer is the node's (`FeedingLeaf`). The others feed their parts, and what these send, leave and give makes theirs, or one of
--- them fails, and then they fail (`FeedingBoth`, `FeedingParts`, `FeedingThen`, `FeedingComing`, `FeedingChain`). Every call is at fewer
--- nodes below, or hands the same node on, from `feed_node` to a function for two parts and from `feed_then` to `feed_coming` (`Below`).
+-- them fails, and then they fail (`FeedingBoth`, `FeedingParts`, `FeedingThen`, `FeedingComing`, `FeedingChain`, `FeedingChoose`,
+-- `FeedingFirstChosen`, `FeedingSecondChosen`). Every call is at fewer nodes below, or hands the same node on, from `feed_node` to a
+-- function for two parts, from `feed_then` to `feed_coming`, and from `feed_choose` to the function for the chosen part (`Below`).
 use native.Mathlib.Omega.{arith}
 use mathlib.Core.Path.{_≡_, refl}
+use mathlib.Core.Logic.{inl, inr}
 use mathlib.Core.List.{List}
 use borrow.Author.Needs.{needs}
+use borrow.Author.Tests.{not-true, not-false}
 use lib.ListN.{drop}
 use Prim.Native.Nat.{ℕ, _+_, _*_, _<_}
 use borrow.Fn.Kinds.{In}
 use borrow.Fn.PlainCycle.{Measures, is, falls, and}
 use Rattle.feeding.proofs.feed_both.Reads as feed-both
 use Rattle.feeding.proofs.feed_both.Kinds as feed-both-kinds
-use Rattle.feeding.proofs.+feed_both+feed_chain+feed_coming+feed_node+feed_parts+feed_then.Lts-feed_both as feed-both-lts
+use Rattle.feeding.proofs.+feed_both+feed_chain+feed_choose+feed_coming+feed_first_chosen+feed_node+feed_parts+feed_second_chosen+feed_then.Lts-feed_both as feed-both-lts
 use Rattle.feeding.proofs.feed_chain.Reads as feed-chain
 use Rattle.feeding.proofs.feed_chain.Kinds as feed-chain-kinds
-use Rattle.feeding.proofs.+feed_both+feed_chain+feed_coming+feed_node+feed_parts+feed_then.Lts-feed_chain as feed-chain-lts
+use Rattle.feeding.proofs.+feed_both+feed_chain+feed_choose+feed_coming+feed_first_chosen+feed_node+feed_parts+feed_second_chosen+feed_then.Lts-feed_chain as feed-chain-lts
+use Rattle.feeding.proofs.feed_choose.Reads as feed-choose
+use Rattle.feeding.proofs.feed_choose.Kinds as feed-choose-kinds
+use Rattle.feeding.proofs.+feed_both+feed_chain+feed_choose+feed_coming+feed_first_chosen+feed_node+feed_parts+feed_second_chosen+feed_then.Lts-feed_choose as feed-choose-lts
 use Rattle.feeding.proofs.feed_coming.Reads as feed-coming
 use Rattle.feeding.proofs.feed_coming.Kinds as feed-coming-kinds
-use Rattle.feeding.proofs.+feed_both+feed_chain+feed_coming+feed_node+feed_parts+feed_then.Lts-feed_coming as feed-coming-lts
+use Rattle.feeding.proofs.+feed_both+feed_chain+feed_choose+feed_coming+feed_first_chosen+feed_node+feed_parts+feed_second_chosen+feed_then.Lts-feed_coming as feed-coming-lts
+use Rattle.feeding.proofs.feed_first_chosen.Reads as feed-first-chosen
+use Rattle.feeding.proofs.feed_first_chosen.Kinds as feed-first-chosen-kinds
+use Rattle.feeding.proofs.+feed_both+feed_chain+feed_choose+feed_coming+feed_first_chosen+feed_node+feed_parts+feed_second_chosen+feed_then.Lts-feed_first_chosen as feed-first-chosen-lts
 use Rattle.feeding.proofs.feed_node.Reads as feed-node
 use Rattle.feeding.proofs.feed_node.Kinds as feed-node-kinds
-use Rattle.feeding.proofs.+feed_both+feed_chain+feed_coming+feed_node+feed_parts+feed_then.Lts-feed_node as feed-node-lts
+use Rattle.feeding.proofs.+feed_both+feed_chain+feed_choose+feed_coming+feed_first_chosen+feed_node+feed_parts+feed_second_chosen+feed_then.Lts-feed_node as feed-node-lts
 use Rattle.feeding.proofs.feed_parts.Reads as feed-parts
 use Rattle.feeding.proofs.feed_parts.Kinds as feed-parts-kinds
-use Rattle.feeding.proofs.+feed_both+feed_chain+feed_coming+feed_node+feed_parts+feed_then.Lts-feed_parts as feed-parts-lts
+use Rattle.feeding.proofs.+feed_both+feed_chain+feed_choose+feed_coming+feed_first_chosen+feed_node+feed_parts+feed_second_chosen+feed_then.Lts-feed_parts as feed-parts-lts
+use Rattle.feeding.proofs.feed_second_chosen.Reads as feed-second-chosen
+use Rattle.feeding.proofs.feed_second_chosen.Kinds as feed-second-chosen-kinds
+use Rattle.feeding.proofs.+feed_both+feed_chain+feed_choose+feed_coming+feed_first_chosen+feed_node+feed_parts+feed_second_chosen+feed_then.Lts-feed_second_chosen as feed-second-chosen-lts
 use Rattle.feeding.proofs.feed_then.Reads as feed-then
 use Rattle.feeding.proofs.feed_then.Kinds as feed-then-kinds
-use Rattle.feeding.proofs.+feed_both+feed_chain+feed_coming+feed_node+feed_parts+feed_then.Lts-feed_then as feed-then-lts
+use Rattle.feeding.proofs.+feed_both+feed_chain+feed_choose+feed_coming+feed_first_chosen+feed_node+feed_parts+feed_second_chosen+feed_then.Lts-feed_then as feed-then-lts
 use Rattle.reading.proofs.types.TypePlace.new.Reads as type-place-reads
 use Rattle.reading.proofs.prefixes.PrefixPlace.new.Reads as prefix-place-reads
 use Rattle.reading.proofs.inputs.Input.new.Reads as input-reads
 use Rattle.reading.proofs.inputs.coming_part.Reads as coming-part-reads
-use Rattle.reading.proofs.inputs.crossed_parts.Reads as crossed-parts-reads
+use Rattle.reading.proofs.inputs.chosen_part.Reads as chosen-part-reads
+use Rattle.reading.proofs.inputs.halve.Reads as halve-reads
 use Rattle.writing.proofs.copy.Reads as copy-reads
+use Rattle.writing.proofs.comparing.same_types.Reads as same-types-reads
 use Rattle.typing.proofs.type_node.Reads as type-node-reads
 use Rattle.leaf_feeding.proofs.Step.new.Reads as step-reads
 use Rattle.leaf_feeding.proofs.feed_cue.Reads as feed-cue-reads
@@ -45,10 +59,12 @@ use Rattle.leaf_feeding.proofs.feed_right.Reads as feed-right-reads
 use Rattle.leaf_feeding.proofs.feed_second.Reads as feed-second-reads
 use Rattle.leaf_feeding.proofs.feed_silent.Reads as feed-silent-reads
 use Rattle.leaf_feeding.proofs.reordered.feed_front.Reads as feed-front-reads
+use Rattle.leaf_feeding.proofs.reordered.feed_mark.Reads as feed-mark-reads
 use Rattle.leaf_feeding.proofs.reordered.feed_regroup_left.Reads as feed-regroup-left-reads
 use Rattle.leaf_feeding.proofs.reordered.feed_regroup_right.Reads as feed-regroup-right-reads
 use Rattle.leaf_feeding.proofs.reordered.feed_spread.Reads as feed-spread-reads
 use Rattle.feeding.proofs.Parts.new.Reads as parts-reads
+use Rattle.feeding.proofs.feed_unchosen.Reads as feed-unchosen-reads
 use Rattle.feeding.proofs.sent_kind.Reads as sent-kind-reads
 use Rattle.feeding.proofs.given_kind.Reads as given-kind-reads
 use Rattle.feeding.proofs.kept_before.Reads as kept-before-reads
@@ -63,16 +79,20 @@ use Rattle.patch_reading.specs.PatchReads.Laws.{starts-inside, both-forks}
 use Rattle.reading.specs.Inputs.Laws.{type-starts, prefix-starts}
 use Rattle.feeding.specs.Feeds.{nodes-below}
 use Rattle.feeding.proofs.Below.{both-count, parts-fewer, positive}
-use Rattle.feeding.proofs.FeedingLeaf.{leaf-rooms, leaf-due, carrying-due, leaf-fed, free-fed, carrying-fed, other-fed}
+use Rattle.feeding.proofs.FeedingLeaf.{leaf-rooms, leaf-due, carrying-due, mark-due, leaf-fed, free-fed, carrying-fed, mark-fed, other-fed}
 use Rattle.feeding.proofs.FeedingBoth.{both-due, both-answers}
 use Rattle.feeding.proofs.FeedingParts as feeding-parts
 use Rattle.feeding.proofs.FeedingThen as feeding-then
 use Rattle.feeding.proofs.FeedingComing as feeding-coming
 use Rattle.feeding.proofs.FeedingChain as feeding-chain
-use Rattle.feeding.proofs.+feed_both+feed_chain+feed_coming+feed_node+feed_parts+feed_then.{statement}
-use Rattle.feeding.proofs.+feed_both+feed_chain+feed_coming+feed_node+feed_parts+feed_then.Tie.{close}
+use Rattle.feeding.proofs.FeedingChoose as feeding-choose
+use Rattle.feeding.proofs.FeedingFirstChosen as feeding-first-chosen
+use Rattle.feeding.proofs.FeedingSecondChosen as feeding-second-chosen
+use Rattle.feeding.proofs.+feed_both+feed_chain+feed_choose+feed_coming+feed_first_chosen+feed_node+feed_parts+feed_second_chosen+feed_then.{statement}
+use Rattle.feeding.proofs.+feed_both+feed_chain+feed_choose+feed_coming+feed_first_chosen+feed_node+feed_parts+feed_second_chosen+feed_then.Tie.{close}
 
--- The number of nodes below, three times, and two more at `feed_node` and one at `feed_both` and `feed_then`, which hand their own node on.
+-- The number of nodes below, three times, and two more at `feed_node` and one at `feed_both`, `feed_choose` and `feed_then`, which hand
+-- their own node on.
 
 abbrev μ-feed-both : Measures 6 feed-both-kinds.ps ℕ
 μ-feed-both κs a = 3 * nodes-below 1 (drop (a .1 .1 .1 .1 .0) (a .1 .1 .1 .0 .now)) + 1
@@ -80,14 +100,23 @@ abbrev μ-feed-both : Measures 6 feed-both-kinds.ps ℕ
 abbrev μ-feed-chain : Measures 6 feed-chain-kinds.ps ℕ
 μ-feed-chain κs a = 3 * nodes-below 1 (drop (a .1 .1 .1 .1 .0) (a .1 .1 .1 .0 .now))
 
+abbrev μ-feed-choose : Measures 6 feed-choose-kinds.ps ℕ
+μ-feed-choose κs a = 3 * nodes-below 1 (drop (a .1 .1 .1 .1 .0) (a .1 .1 .1 .0 .now)) + 1
+
 abbrev μ-feed-coming : Measures 6 feed-coming-kinds.ps ℕ
 μ-feed-coming κs a = 3 * nodes-below 1 (drop (a .1 .1 .1 .1 .0) (a .1 .1 .1 .0 .now))
+
+abbrev μ-feed-first-chosen : Measures 6 feed-first-chosen-kinds.ps ℕ
+μ-feed-first-chosen κs a = 3 * nodes-below 1 (drop (a .1 .1 .1 .1 .0) (a .1 .1 .1 .0 .now))
 
 abbrev μ-feed-node : Measures 6 feed-node-kinds.ps ℕ
 μ-feed-node κs a = 3 * nodes-below 1 (drop (a .1 .1 .1 .1 .0) (a .1 .1 .1 .0 .now)) + 2
 
 abbrev μ-feed-parts : Measures 6 feed-parts-kinds.ps ℕ
 μ-feed-parts κs a = 3 * nodes-below 2 (drop (a .1 .1 .1 .1 .0) (a .1 .1 .1 .0 .now))
+
+abbrev μ-feed-second-chosen : Measures 6 feed-second-chosen-kinds.ps ℕ
+μ-feed-second-chosen κs a = 3 * nodes-below 1 (drop (a .1 .1 .1 .1 .0) (a .1 .1 .1 .0 .now))
 
 abbrev μ-feed-then : Measures 6 feed-then-kinds.ps ℕ
 μ-feed-then κs a = 3 * nodes-below 1 (drop (a .1 .1 .1 .1 .0) (a .1 .1 .1 .0 .now)) + 1
@@ -107,11 +136,23 @@ module _ (t : ℕ) where
   abbrev chain-below : In 6 feed-chain-kinds.ps
   chain-below = and 6 feed-chain-kinds.ps (falls 6 feed-chain-kinds.ps _<_ μ-feed-chain t) feed-chain.Pre
 
+  abbrev choose-here : In 6 feed-choose-kinds.ps
+  choose-here = and 6 feed-choose-kinds.ps (is 6 feed-choose-kinds.ps μ-feed-choose t) feed-choose.Pre
+
+  abbrev choose-below : In 6 feed-choose-kinds.ps
+  choose-below = and 6 feed-choose-kinds.ps (falls 6 feed-choose-kinds.ps _<_ μ-feed-choose t) feed-choose.Pre
+
   abbrev coming-here : In 6 feed-coming-kinds.ps
   coming-here = and 6 feed-coming-kinds.ps (is 6 feed-coming-kinds.ps μ-feed-coming t) feed-coming.Pre
 
   abbrev coming-below : In 6 feed-coming-kinds.ps
   coming-below = and 6 feed-coming-kinds.ps (falls 6 feed-coming-kinds.ps _<_ μ-feed-coming t) feed-coming.Pre
+
+  abbrev first-chosen-here : In 6 feed-first-chosen-kinds.ps
+  first-chosen-here = and 6 feed-first-chosen-kinds.ps (is 6 feed-first-chosen-kinds.ps μ-feed-first-chosen t) feed-first-chosen.Pre
+
+  abbrev first-chosen-below : In 6 feed-first-chosen-kinds.ps
+  first-chosen-below = and 6 feed-first-chosen-kinds.ps (falls 6 feed-first-chosen-kinds.ps _<_ μ-feed-first-chosen t) feed-first-chosen.Pre
 
   abbrev node-here : In 6 feed-node-kinds.ps
   node-here = and 6 feed-node-kinds.ps (is 6 feed-node-kinds.ps μ-feed-node t) feed-node.Pre
@@ -124,6 +165,12 @@ module _ (t : ℕ) where
 
   abbrev parts-below : In 6 feed-parts-kinds.ps
   parts-below = and 6 feed-parts-kinds.ps (falls 6 feed-parts-kinds.ps _<_ μ-feed-parts t) feed-parts.Pre
+
+  abbrev second-chosen-here : In 6 feed-second-chosen-kinds.ps
+  second-chosen-here = and 6 feed-second-chosen-kinds.ps (is 6 feed-second-chosen-kinds.ps μ-feed-second-chosen t) feed-second-chosen.Pre
+
+  abbrev second-chosen-below : In 6 feed-second-chosen-kinds.ps
+  second-chosen-below = and 6 feed-second-chosen-kinds.ps (falls 6 feed-second-chosen-kinds.ps _<_ μ-feed-second-chosen t) feed-second-chosen.Pre
 
   abbrev then-here : In 6 feed-then-kinds.ps
   then-here = and 6 feed-then-kinds.ps (is 6 feed-then-kinds.ps μ-feed-then t) feed-then.Pre
@@ -153,6 +200,16 @@ module _ (t : ℕ) where
     step-reads.Learnt,
   )
 
+  abbrev calls-choose : feed-choose-lts.Claims
+  calls-choose = (
+    feed-unchosen-reads.Asked,
+    feed-unchosen-reads.Learnt,
+    first-chosen-below,
+    feed-first-chosen.Post,
+    second-chosen-below,
+    feed-second-chosen.Post,
+  )
+
   abbrev calls-coming : feed-coming-lts.Claims
   calls-coming = (
     coming-part-reads.Asked,
@@ -165,6 +222,20 @@ module _ (t : ℕ) where
     type-node-reads.Learnt,
     copy-reads.Asked,
     copy-reads.Learnt,
+    step-reads.Asked,
+    step-reads.Learnt,
+  )
+
+  abbrev calls-first-chosen : feed-first-chosen-lts.Claims
+  calls-first-chosen = (
+    chosen-part-reads.Asked,
+    chosen-part-reads.Learnt,
+    node-below,
+    feed-node.Post,
+    type-node-reads.Asked,
+    type-node-reads.Learnt,
+    same-types-reads.Asked,
+    same-types-reads.Learnt,
     step-reads.Asked,
     step-reads.Learnt,
   )
@@ -201,6 +272,10 @@ module _ (t : ℕ) where
     feed-spread-reads.Learnt,
     feed-front-reads.Asked,
     feed-front-reads.Learnt,
+    choose-below,
+    feed-choose.Post,
+    feed-mark-reads.Asked,
+    feed-mark-reads.Learnt,
   )
 
   abbrev calls-parts : feed-parts-lts.Claims
@@ -217,12 +292,24 @@ module _ (t : ℕ) where
     step-reads.Learnt,
   )
 
+  abbrev calls-second-chosen : feed-second-chosen-lts.Claims
+  calls-second-chosen = (
+    chosen-part-reads.Asked,
+    chosen-part-reads.Learnt,
+    type-node-reads.Asked,
+    type-node-reads.Learnt,
+    node-below,
+    feed-node.Post,
+    same-types-reads.Asked,
+    same-types-reads.Learnt,
+  )
+
   abbrev calls-then : feed-then-lts.Claims
   calls-then = (
     coming-below,
     feed-coming.Post,
-    crossed-parts-reads.Asked,
-    crossed-parts-reads.Learnt,
+    halve-reads.Asked,
+    halve-reads.Learnt,
     parts-reads.Asked,
     parts-reads.Learnt,
     parts-below,
@@ -294,6 +381,38 @@ module _ (t : ℕ) where
       → feed-chain-lts.After-feed-node2 calls-chain chain-here feed-chain.Post
   feed-chain-feed-node2-before-enum-told2 c = c .before .before .before .before .before .before .before .before
 
+  abbrev feed-choose-entry-before-shared-slice-known4 : feed-choose-lts.After-shared-slice-known4 calls-choose choose-here feed-choose.Post
+      → feed-choose-lts.Start calls-choose choose-here feed-choose.Post
+  feed-choose-entry-before-shared-slice-known4 c = c .before .before .before .before .before .before .before
+
+  abbrev feed-choose-entry-before-then1 : feed-choose-lts.Then1 calls-choose choose-here feed-choose.Post
+      → feed-choose-lts.Start calls-choose choose-here feed-choose.Post
+  feed-choose-entry-before-then1 c = feed-choose-entry-before-shared-slice-known4 (c .before)
+
+  abbrev feed-choose-entry-before-shared-slice-known5 : feed-choose-lts.After-shared-slice-known5 calls-choose choose-here feed-choose.Post
+      → feed-choose-lts.Start calls-choose choose-here feed-choose.Post
+  feed-choose-entry-before-shared-slice-known5 c = feed-choose-entry-before-shared-slice-known4 (c .before .before)
+
+  abbrev feed-choose-else1-before-shared-slice-known6 : feed-choose-lts.After-shared-slice-known6 calls-choose choose-here feed-choose.Post
+      → feed-choose-lts.Else1 calls-choose choose-here feed-choose.Post
+  feed-choose-else1-before-shared-slice-known6 c = c .before .before .before
+
+  abbrev feed-choose-entry-before-shared-slice-known6 : feed-choose-lts.After-shared-slice-known6 calls-choose choose-here feed-choose.Post
+      → feed-choose-lts.Start calls-choose choose-here feed-choose.Post
+  feed-choose-entry-before-shared-slice-known6 c = feed-choose-entry-before-shared-slice-known5 (c .before .before)
+
+  abbrev feed-choose-feed-unchosen-before-slice-known6 : feed-choose-lts.After-slice-known6 calls-choose choose-here feed-choose.Post
+      → feed-choose-lts.After-feed-unchosen calls-choose choose-here feed-choose.Post
+  feed-choose-feed-unchosen-before-slice-known6 c = c .before .before .before .before .before .before
+
+  abbrev feed-choose-feed-second-chosen-before-slice-known12 : feed-choose-lts.After-slice-known12 calls-choose choose-here feed-choose.Post
+      → feed-choose-lts.After-feed-second-chosen calls-choose choose-here feed-choose.Post
+  feed-choose-feed-second-chosen-before-slice-known12 c = c .before .before .before .before .before .before
+
+  abbrev feed-choose-feed-first-chosen-before-slice-known9 : feed-choose-lts.After-slice-known9 calls-choose choose-here feed-choose.Post
+      → feed-choose-lts.After-feed-first-chosen calls-choose choose-here feed-choose.Post
+  feed-choose-feed-first-chosen-before-slice-known9 c = c .before .before .before .before .before .before
+
   abbrev feed-coming-entry-before-else1 : feed-coming-lts.Else1 calls-coming coming-here feed-coming.Post
       → feed-coming-lts.Start calls-coming coming-here feed-coming.Post
   feed-coming-entry-before-else1 c = c .before .before .before .before .before .before .before
@@ -362,6 +481,62 @@ module _ (t : ℕ) where
       → feed-coming-lts.After-copy calls-coming coming-here feed-coming.Post
   feed-coming-copy-before-new2 c = c .before .before .before .before
 
+  abbrev feed-first-chosen-entry-before-slice-known3 : feed-first-chosen-lts.After-slice-known3 calls-first-chosen first-chosen-here feed-first-chosen.Post
+      → feed-first-chosen-lts.Start calls-first-chosen first-chosen-here feed-first-chosen.Post
+  feed-first-chosen-entry-before-slice-known3 c = c .before .before .before .before .before .before
+
+  abbrev feed-first-chosen-entry-before-chosen-part : feed-first-chosen-lts.After-chosen-part calls-first-chosen first-chosen-here feed-first-chosen.Post
+      → feed-first-chosen-lts.Start calls-first-chosen first-chosen-here feed-first-chosen.Post
+  feed-first-chosen-entry-before-chosen-part c = feed-first-chosen-entry-before-slice-known3 (c .before)
+
+  abbrev feed-first-chosen-chosen-part-before-feed-node : feed-first-chosen-lts.After-feed-node calls-first-chosen first-chosen-here feed-first-chosen.Post
+      → feed-first-chosen-lts.After-chosen-part calls-first-chosen first-chosen-here feed-first-chosen.Post
+  feed-first-chosen-chosen-part-before-feed-node c = c .before .before .before .before
+
+  abbrev feed-first-chosen-entry-before-feed-node : feed-first-chosen-lts.After-feed-node calls-first-chosen first-chosen-here feed-first-chosen.Post
+      → feed-first-chosen-lts.Start calls-first-chosen first-chosen-here feed-first-chosen.Post
+  feed-first-chosen-entry-before-feed-node c = feed-first-chosen-entry-before-chosen-part (feed-first-chosen-chosen-part-before-feed-node c)
+
+  abbrev feed-first-chosen-feed-node-before-enum-told : feed-first-chosen-lts.After-enum-told calls-first-chosen first-chosen-here feed-first-chosen.Post
+      → feed-first-chosen-lts.After-feed-node calls-first-chosen first-chosen-here feed-first-chosen.Post
+  feed-first-chosen-feed-node-before-enum-told c = c .before .before .before .before .before .before .before .before
+
+  abbrev feed-first-chosen-feed-node-before-step : feed-first-chosen-lts.After-step calls-first-chosen first-chosen-here feed-first-chosen.Post
+      → feed-first-chosen-lts.After-feed-node calls-first-chosen first-chosen-here feed-first-chosen.Post
+  feed-first-chosen-feed-node-before-step c = c .before .before .before .before .before .before .before .before
+
+  abbrev feed-first-chosen-entry-before-step : feed-first-chosen-lts.After-step calls-first-chosen first-chosen-here feed-first-chosen.Post
+      → feed-first-chosen-lts.Start calls-first-chosen first-chosen-here feed-first-chosen.Post
+  feed-first-chosen-entry-before-step c = feed-first-chosen-entry-before-feed-node (feed-first-chosen-feed-node-before-step c)
+
+  abbrev feed-first-chosen-step-before-type-node : feed-first-chosen-lts.After-type-node calls-first-chosen first-chosen-here feed-first-chosen.Post
+      → feed-first-chosen-lts.After-step calls-first-chosen first-chosen-here feed-first-chosen.Post
+  feed-first-chosen-step-before-type-node c = c .before .before .before
+
+  abbrev feed-first-chosen-entry-before-type-node : feed-first-chosen-lts.After-type-node calls-first-chosen first-chosen-here feed-first-chosen.Post
+      → feed-first-chosen-lts.Start calls-first-chosen first-chosen-here feed-first-chosen.Post
+  feed-first-chosen-entry-before-type-node c = feed-first-chosen-entry-before-step (feed-first-chosen-step-before-type-node c)
+
+  abbrev feed-first-chosen-type-node-before-end : feed-first-chosen-lts.After-end calls-first-chosen first-chosen-here feed-first-chosen.Post
+      → feed-first-chosen-lts.After-type-node calls-first-chosen first-chosen-here feed-first-chosen.Post
+  feed-first-chosen-type-node-before-end c = c .before .before .before .before
+
+  abbrev feed-first-chosen-entry-before-end : feed-first-chosen-lts.After-end calls-first-chosen first-chosen-here feed-first-chosen.Post
+      → feed-first-chosen-lts.Start calls-first-chosen first-chosen-here feed-first-chosen.Post
+  feed-first-chosen-entry-before-end c = feed-first-chosen-entry-before-type-node (feed-first-chosen-type-node-before-end c)
+
+  abbrev feed-first-chosen-type-node-before-enum-told2 : feed-first-chosen-lts.After-enum-told2 calls-first-chosen first-chosen-here feed-first-chosen.Post
+      → feed-first-chosen-lts.After-type-node calls-first-chosen first-chosen-here feed-first-chosen.Post
+  feed-first-chosen-type-node-before-enum-told2 c = c .before .before .before .before
+
+  abbrev feed-first-chosen-end-before-then1 : feed-first-chosen-lts.Then1 calls-first-chosen first-chosen-here feed-first-chosen.Post
+      → feed-first-chosen-lts.After-end calls-first-chosen first-chosen-here feed-first-chosen.Post
+  feed-first-chosen-end-before-then1 c = c .before .before .before .before .before .before
+
+  abbrev feed-first-chosen-end-before-new : feed-first-chosen-lts.After-new calls-first-chosen first-chosen-here feed-first-chosen.Post
+      → feed-first-chosen-lts.After-end calls-first-chosen first-chosen-here feed-first-chosen.Post
+  feed-first-chosen-end-before-new c = c .before .before .before .before .before .before .before
+
   abbrev feed-node-entry-before-slice-known3 : feed-node-lts.After-slice-known3 calls-node node-here feed-node.Post
       → feed-node-lts.Start calls-node node-here feed-node.Post
   feed-node-entry-before-slice-known3 c = c .before .before .before .before .before .before
@@ -421,6 +596,18 @@ module _ (t : ℕ) where
   abbrev feed-node-feed-front-before-slice-known48 : feed-node-lts.After-slice-known48 calls-node node-here feed-node.Post
       → feed-node-lts.After-feed-front calls-node node-here feed-node.Post
   feed-node-feed-front-before-slice-known48 c = c .before .before .before .before .before .before
+
+  abbrev feed-node-feed-choose-before-slice-known51 : feed-node-lts.After-slice-known51 calls-node node-here feed-node.Post
+      → feed-node-lts.After-feed-choose calls-node node-here feed-node.Post
+  feed-node-feed-choose-before-slice-known51 c = c .before .before .before .before .before .before
+
+  abbrev feed-node-feed-mark-before-slice-known54 : feed-node-lts.After-slice-known54 calls-node node-here feed-node.Post
+      → feed-node-lts.After-feed-mark calls-node node-here feed-node.Post
+  feed-node-feed-mark-before-slice-known54 c = c .before .before .before .before .before .before
+
+  abbrev feed-node-feed-mark2-before-slice-known57 : feed-node-lts.After-slice-known57 calls-node node-here feed-node.Post
+      → feed-node-lts.After-feed-mark2 calls-node node-here feed-node.Post
+  feed-node-feed-mark2-before-slice-known57 c = c .before .before .before .before .before .before
 
   abbrev feed-node-feed-pass-before-slice-known6 : feed-node-lts.After-slice-known6 calls-node node-here feed-node.Post
       → feed-node-lts.After-feed-pass calls-node node-here feed-node.Post
@@ -493,6 +680,74 @@ module _ (t : ℕ) where
   abbrev feed-parts-answer2-before-new : feed-parts-lts.After-new calls-parts parts-here feed-parts.Post
       → feed-parts-lts.After-answer2 calls-parts parts-here feed-parts.Post
   feed-parts-answer2-before-new c = feed-parts-answer2-before-struct-known5 (c .before)
+
+  abbrev feed-second-chosen-entry-before-slice-known3 : feed-second-chosen-lts.After-slice-known3 calls-second-chosen second-chosen-here feed-second-chosen.Post
+      → feed-second-chosen-lts.Start calls-second-chosen second-chosen-here feed-second-chosen.Post
+  feed-second-chosen-entry-before-slice-known3 c = c .before .before .before .before .before .before
+
+  abbrev feed-second-chosen-entry-before-chosen-part : feed-second-chosen-lts.After-chosen-part calls-second-chosen second-chosen-here feed-second-chosen.Post
+      → feed-second-chosen-lts.Start calls-second-chosen second-chosen-here feed-second-chosen.Post
+  feed-second-chosen-entry-before-chosen-part c = feed-second-chosen-entry-before-slice-known3 (c .before)
+
+  abbrev feed-second-chosen-chosen-part-before-type-node : feed-second-chosen-lts.After-type-node calls-second-chosen second-chosen-here feed-second-chosen.Post
+      → feed-second-chosen-lts.After-chosen-part calls-second-chosen second-chosen-here feed-second-chosen.Post
+  feed-second-chosen-chosen-part-before-type-node c = c .before .before
+
+  abbrev feed-second-chosen-entry-before-type-node : feed-second-chosen-lts.After-type-node calls-second-chosen second-chosen-here feed-second-chosen.Post
+      → feed-second-chosen-lts.Start calls-second-chosen second-chosen-here feed-second-chosen.Post
+  feed-second-chosen-entry-before-type-node c = feed-second-chosen-entry-before-chosen-part (feed-second-chosen-chosen-part-before-type-node c)
+
+  abbrev feed-second-chosen-type-node-before-enum-told : feed-second-chosen-lts.After-enum-told calls-second-chosen second-chosen-here feed-second-chosen.Post
+      → feed-second-chosen-lts.After-type-node calls-second-chosen second-chosen-here feed-second-chosen.Post
+  feed-second-chosen-type-node-before-enum-told c = c .before .before .before .before
+
+  abbrev feed-second-chosen-type-node-before-next : feed-second-chosen-lts.After-next calls-second-chosen second-chosen-here feed-second-chosen.Post
+      → feed-second-chosen-lts.After-type-node calls-second-chosen second-chosen-here feed-second-chosen.Post
+  feed-second-chosen-type-node-before-next c = c .before .before .before .before
+
+  abbrev feed-second-chosen-entry-before-next : feed-second-chosen-lts.After-next calls-second-chosen second-chosen-here feed-second-chosen.Post
+      → feed-second-chosen-lts.Start calls-second-chosen second-chosen-here feed-second-chosen.Post
+  feed-second-chosen-entry-before-next c = feed-second-chosen-entry-before-type-node (feed-second-chosen-type-node-before-next c)
+
+  abbrev feed-second-chosen-next-before-feed-node-arg : feed-second-chosen-lts.After-feed-node-arg calls-second-chosen second-chosen-here feed-second-chosen.Post
+      → feed-second-chosen-lts.After-next calls-second-chosen second-chosen-here feed-second-chosen.Post
+  feed-second-chosen-next-before-feed-node-arg c = c .before .before
+
+  abbrev feed-second-chosen-next-before-feed-node-arg2 : feed-second-chosen-lts.After-feed-node-arg2 calls-second-chosen second-chosen-here feed-second-chosen.Post
+      → feed-second-chosen-lts.After-next calls-second-chosen second-chosen-here feed-second-chosen.Post
+  feed-second-chosen-next-before-feed-node-arg2 c = feed-second-chosen-next-before-feed-node-arg (c .before)
+
+  abbrev feed-second-chosen-next-before-feed-node-arg3 : feed-second-chosen-lts.After-feed-node-arg3 calls-second-chosen second-chosen-here feed-second-chosen.Post
+      → feed-second-chosen-lts.After-next calls-second-chosen second-chosen-here feed-second-chosen.Post
+  feed-second-chosen-next-before-feed-node-arg3 c = feed-second-chosen-next-before-feed-node-arg2 (c .before)
+
+  abbrev feed-second-chosen-next-before-feed-node : feed-second-chosen-lts.After-feed-node calls-second-chosen second-chosen-here feed-second-chosen.Post
+      → feed-second-chosen-lts.After-next calls-second-chosen second-chosen-here feed-second-chosen.Post
+  feed-second-chosen-next-before-feed-node c = feed-second-chosen-next-before-feed-node-arg3 (c .before)
+
+  abbrev feed-second-chosen-entry-before-feed-node : feed-second-chosen-lts.After-feed-node calls-second-chosen second-chosen-here feed-second-chosen.Post
+      → feed-second-chosen-lts.Start calls-second-chosen second-chosen-here feed-second-chosen.Post
+  feed-second-chosen-entry-before-feed-node c = feed-second-chosen-entry-before-next (feed-second-chosen-next-before-feed-node c)
+
+  abbrev feed-second-chosen-feed-node-before-enum-told2 : feed-second-chosen-lts.After-enum-told2 calls-second-chosen second-chosen-here feed-second-chosen.Post
+      → feed-second-chosen-lts.After-feed-node calls-second-chosen second-chosen-here feed-second-chosen.Post
+  feed-second-chosen-feed-node-before-enum-told2 c = c .before .before .before .before .before .before .before .before
+
+  abbrev feed-second-chosen-feed-node-before-step : feed-second-chosen-lts.After-step calls-second-chosen second-chosen-here feed-second-chosen.Post
+      → feed-second-chosen-lts.After-feed-node calls-second-chosen second-chosen-here feed-second-chosen.Post
+  feed-second-chosen-feed-node-before-step c = c .before .before .before .before .before .before .before .before
+
+  abbrev feed-second-chosen-entry-before-step : feed-second-chosen-lts.After-step calls-second-chosen second-chosen-here feed-second-chosen.Post
+      → feed-second-chosen-lts.Start calls-second-chosen second-chosen-here feed-second-chosen.Post
+  feed-second-chosen-entry-before-step c = feed-second-chosen-entry-before-feed-node (feed-second-chosen-feed-node-before-step c)
+
+  abbrev feed-second-chosen-step-before-else1 : feed-second-chosen-lts.Else1 calls-second-chosen second-chosen-here feed-second-chosen.Post
+      → feed-second-chosen-lts.After-step calls-second-chosen second-chosen-here feed-second-chosen.Post
+  feed-second-chosen-step-before-else1 c = c .before .before .before .before .before .before
+
+  abbrev feed-second-chosen-step-before-then1 : feed-second-chosen-lts.Then1 calls-second-chosen second-chosen-here feed-second-chosen.Post
+      → feed-second-chosen-lts.After-step calls-second-chosen second-chosen-here feed-second-chosen.Post
+  feed-second-chosen-step-before-then1 c = c .before .before .before .before .before .before
 
   abbrev feed-then-entry-before-shared-slice-known4 : feed-then-lts.After-shared-slice-known4 calls-then then-here feed-then.Post
       → feed-then-lts.Start calls-then then-here feed-then.Post
@@ -608,6 +863,22 @@ module _ (t : ℕ) where
       let arm = c .before .before .before in
       leaf-due (feed-node-entry-before-shared-slice-known4 (arm .before) .pre .1)
 
+  feed-node-feed-choose-requires : feed-node-lts.Need-feed-choose-requires calls-node node-here feed-node.Post
+  feed-node-feed-choose-requires c κs =
+      let arm = c .before .before .before in
+      let entry = feed-node-entry-before-shared-slice-known4 (arm .before) in
+      (omega (arith, entry .pre .0), (entry .pre .1, arm .match .keys16))
+
+  feed-node-feed-mark-requires : feed-node-lts.Need-feed-mark-requires calls-node node-here feed-node.Post
+  feed-node-feed-mark-requires c κs =
+      let arm = c .before .before .before in
+      mark-due (feed-node-entry-before-shared-slice-known4 (arm .before) .pre .1) (inl (arm .match .keys17))
+
+  feed-node-feed-mark-requires-2 : feed-node-lts.Need-feed-mark-requires-2 calls-node node-here feed-node.Post
+  feed-node-feed-mark-requires-2 c κs =
+      let arm = c .before .before .before in
+      mark-due (feed-node-entry-before-shared-slice-known4 (arm .before) .pre .1) (inr (arm .match .keys18))
+
   feed-node-returns : feed-node-lts.Need-returns calls-node node-here feed-node.Post
   unfolding node-bytes
   feed-node-returns c =
@@ -700,7 +971,22 @@ module _ (t : ℕ) where
       leaf-fed (asked .before .match .keys15) refl refl (fed .feed-front .ensures)
 
   feed-node-returns-16 : feed-node-lts.Need-returns-16 calls-node node-here feed-node.Post
-  feed-node-returns-16 c = other-fed (c .match .rest)
+  feed-node-returns-16 c = feed-node-feed-choose-before-slice-known51 c .feed-choose .ensures
+
+  feed-node-returns-17 : feed-node-lts.Need-returns-17 calls-node node-here feed-node.Post
+  feed-node-returns-17 c =
+      let fed = feed-node-feed-mark-before-slice-known54 c in
+      let asked = fed .before .before .before in
+      mark-fed (inl (asked .before .match .keys17)) (fed .feed-mark .ensures)
+
+  feed-node-returns-18 : feed-node-lts.Need-returns-18 calls-node node-here feed-node.Post
+  feed-node-returns-18 c =
+      let fed = feed-node-feed-mark2-before-slice-known57 c in
+      let asked = fed .before .before .before in
+      mark-fed (inr (asked .before .match .keys18)) (fed .feed-mark2 .ensures)
+
+  feed-node-returns-19 : feed-node-lts.Need-returns-19 calls-node node-here feed-node.Post
+  feed-node-returns-19 c = other-fed (c .match .rest)
 
   feed-node-meets : {M : Type 1} → feed-node-lts.Closed calls-node node-here feed-node.Post M
   feed-node-meets =
@@ -710,6 +996,7 @@ module _ (t : ℕ) where
       feed-node-feed-left-requires feed-node-feed-right-requires feed-node-feed-first-requires feed-node-feed-second-requires
       feed-node-feed-then-requires feed-node-feed-chain-requires feed-node-feed-regroup-right-requires
       feed-node-feed-regroup-left-requires feed-node-feed-spread-requires feed-node-feed-front-requires
+      feed-node-feed-choose-requires feed-node-feed-mark-requires feed-node-feed-mark-requires-2
       (λ c. search needs) (λ c. search needs) (λ c. search needs) feed-node-returns
       (λ c. search needs) (λ c. search needs) (λ c. search needs) feed-node-returns-2
       (λ c. search needs) (λ c. search needs) (λ c. search needs) feed-node-returns-3
@@ -725,7 +1012,10 @@ module _ (t : ℕ) where
       (λ c. search needs) (λ c. search needs) (λ c. search needs) feed-node-returns-13
       (λ c. search needs) (λ c. search needs) (λ c. search needs) feed-node-returns-14
       (λ c. search needs) (λ c. search needs) (λ c. search needs) feed-node-returns-15
-      feed-node-returns-16
+      (λ c. search needs) (λ c. search needs) (λ c. search needs) feed-node-returns-16
+      (λ c. search needs) (λ c. search needs) (λ c. search needs) feed-node-returns-17
+      (λ c. search needs) (λ c. search needs) (λ c. search needs) feed-node-returns-18
+      feed-node-returns-19
 
   -- feed_both: each of its nodes gets the whole input.
 
@@ -993,8 +1283,8 @@ module _ (t : ℕ) where
   feed-then-returns-2 : feed-then-lts.Need-returns-2 calls-then then-here feed-then.Post
   feed-then-returns-2 c = feed-then-feed-coming-before-slice-known6 c .feed-coming .ensures
 
-  feed-then-crossed-parts-requires : feed-then-lts.Need-crossed-parts-requires calls-then then-here feed-then.Post
-  feed-then-crossed-parts-requires c κs =
+  feed-then-halve-requires : feed-then-lts.Need-halve-requires calls-then then-here feed-then.Post
+  feed-then-halve-requires c κs =
       let asked = feed-then-entry-before-else2 c .pre .1 in
       feeding-then.halves-due (asked .1) (asked .0) (c .before .before .if1 .left) (c .if2 .left)
 
@@ -1010,7 +1300,7 @@ module _ (t : ℕ) where
       let entry = feed-then-entry-before-else2 crossed in
       let asked = entry .pre .1 in (
         omega (arith, entry .pre .0, feeding-then.both-below (asked .1) (asked .0)),
-        feeding-then.parts-due (asked .1) (asked .0) (crossed .before .before .if1 .left) (crossed .if2 .left) (made .before .crossed-parts .ensures)
+        feeding-then.parts-due (asked .1) (asked .0) (crossed .before .before .if1 .left) (crossed .if2 .left) (made .before .halve .ensures)
             (made .new .ensures),
       )
 
@@ -1022,7 +1312,7 @@ module _ (t : ℕ) where
       record {
         each = λ due.
             feeding-then.crossed-answers (feed-then-entry-before-else2 crossed .pre .1 .1) due (crossed .before .before .if1 .left) (crossed .if2 .left)
-            (made .before .crossed-parts .ensures) (made .new .ensures) (answered .feed-parts .ensures);
+            (made .before .halve .ensures) (made .new .ensures) (answered .feed-parts .ensures);
       }
 
   feed-then-meets : {M : Type 1} → feed-then-lts.Closed calls-then then-here feed-then.Post M
@@ -1031,7 +1321,7 @@ module _ (t : ℕ) where
       feed-then-shared-slice-read-if1 feed-then-returns
       feed-then-shared-slice-read-if2 feed-then-feed-coming-requires (λ c. search needs) (λ c. search needs)
       (λ c. search needs) feed-then-returns-2
-      feed-then-crossed-parts-requires (λ c κs. search needs) feed-then-add-feed-parts feed-then-feed-parts-requires
+      feed-then-halve-requires (λ c κs. search needs) feed-then-add-feed-parts feed-then-feed-parts-requires
       (λ c. search needs) (λ c. search needs) (λ c. search needs) feed-then-returns-3
 
   -- feed_coming: what is known at each stage, as `FeedingComing` has it.
@@ -1460,7 +1750,416 @@ module _ (t : ℕ) where
       (λ c. search needs) feed-chain-same-length-3 (λ c. search needs) feed-chain-returns-2
       (λ c. search needs) feed-chain-same-length-6 (λ c. search needs) feed-chain-returns-3
 
-pub +feed-both+feed-chain+feed-coming+feed-node+feed-parts+feed-then-spec : {M : Type 1} → statement M
-+feed-both+feed-chain+feed-coming+feed-node+feed-parts+feed-then-spec =
-    close μ-feed-both μ-feed-chain μ-feed-coming μ-feed-node μ-feed-parts μ-feed-then
-    (λ t. feed-both-meets t) (λ t. feed-chain-meets t) (λ t. feed-coming-meets t) (λ t. feed-node-meets t) (λ t. feed-parts-meets t) (λ t. feed-then-meets t)
+  -- feed_choose: on another type it fails; otherwise it hands its node on, by what is chosen.
+
+  feed-choose-shared-slice-read-if1 : feed-choose-lts.Need-shared-slice-read-if1 calls-choose choose-here feed-choose.Post
+  feed-choose-shared-slice-read-if1 c = type-starts (feed-choose-entry-before-shared-slice-known4 c .pre .1 .0 .stands)
+
+  feed-choose-returns : feed-choose-lts.Need-returns calls-choose choose-here feed-choose.Post
+  feed-choose-returns c = record { each = λ due. feeding-choose.no-either (feed-choose-entry-before-then1 c .pre .1 .1) due (c .if1 .taken) }
+
+  feed-choose-shared-slice-read-if2 : feed-choose-lts.Need-shared-slice-read-if2 calls-choose choose-here feed-choose.Post
+  feed-choose-shared-slice-read-if2 c = prefix-starts (feed-choose-entry-before-shared-slice-known5 c .pre .1 .0 .stands)
+
+  feed-choose-feed-unchosen-requires : feed-choose-lts.Need-feed-unchosen-requires calls-choose choose-here feed-choose.Post
+  feed-choose-feed-unchosen-requires c κs =
+      let waits = c .before .before .before in
+      let asked = feed-choose-entry-before-shared-slice-known5 (waits .before) .pre .1 in
+      record { due = asked .0; is-choose = asked .1; is-either = waits .before .before .if1 .left; is-marked = waits .if2 .taken }
+
+  feed-choose-returns-2 : feed-choose-lts.Need-returns-2 calls-choose choose-here feed-choose.Post
+  feed-choose-returns-2 c = feed-choose-feed-unchosen-before-slice-known6 c .feed-unchosen .ensures
+
+  feed-choose-shared-slice-read-if3 : feed-choose-lts.Need-shared-slice-read-if3 calls-choose choose-here feed-choose.Post
+  feed-choose-shared-slice-read-if3 c = prefix-starts (feed-choose-entry-before-shared-slice-known6 c .pre .1 .0 .stands)
+
+  feed-choose-feed-first-chosen-requires : feed-choose-lts.Need-feed-first-chosen-requires calls-choose choose-here feed-choose.Post
+  feed-choose-feed-first-chosen-requires c κs =
+      let chosen = c .before .before .before in
+      let entry = feed-choose-entry-before-shared-slice-known6 (chosen .before) in
+      let asked = entry .pre .1 in (
+        omega (arith, entry .pre .0),
+        record {
+          due = asked .0;
+          is-choose = asked .1;
+          is-either = feed-choose-else1-before-shared-slice-known6 (chosen .before) .if1 .left;
+          is-marked = chosen .if3 .taken;
+        },
+      )
+
+  feed-choose-returns-3 : feed-choose-lts.Need-returns-3 calls-choose choose-here feed-choose.Post
+  feed-choose-returns-3 c = feed-choose-feed-first-chosen-before-slice-known9 c .feed-first-chosen .ensures
+
+  feed-choose-feed-second-chosen-requires : feed-choose-lts.Need-feed-second-chosen-requires calls-choose choose-here feed-choose.Post
+  feed-choose-feed-second-chosen-requires c κs =
+      let chosen = c .before .before .before in
+      let entry = feed-choose-entry-before-shared-slice-known6 (chosen .before) in
+      let asked = entry .pre .1 in
+      let either = feed-choose-else1-before-shared-slice-known6 (chosen .before) .if1 .left in (
+        omega (arith, entry .pre .0),
+        record {
+          due = asked .0;
+          is-choose = asked .1;
+          is-either = either;
+          is-marked = feeding-choose.second-marked (asked .1) (asked .0) either (chosen .before .before .if2 .left) (chosen .if3 .left);
+        },
+      )
+
+  feed-choose-returns-4 : feed-choose-lts.Need-returns-4 calls-choose choose-here feed-choose.Post
+  feed-choose-returns-4 c = feed-choose-feed-second-chosen-before-slice-known12 c .feed-second-chosen .ensures
+
+  feed-choose-meets : {M : Type 1} → feed-choose-lts.Closed calls-choose choose-here feed-choose.Post M
+  feed-choose-meets =
+      feed-choose-lts.spec calls-choose choose-here feed-choose.Post
+      feed-choose-shared-slice-read-if1 feed-choose-returns
+      feed-choose-shared-slice-read-if2 feed-choose-feed-unchosen-requires
+      (λ c. search needs) (λ c. search needs) (λ c. search needs) feed-choose-returns-2
+      feed-choose-shared-slice-read-if3 feed-choose-feed-first-chosen-requires
+      (λ c. search needs) (λ c. search needs) (λ c. search needs) feed-choose-returns-3
+      feed-choose-feed-second-chosen-requires
+      (λ c. search needs) (λ c. search needs) (λ c. search needs) feed-choose-returns-4
+
+  -- feed_first_chosen: what is known at each stage, as `FeedingFirstChosen` has it.
+
+  abbrev at-first-chosen : {A : Type 1} → ((types slice : List ℕ) (input : Input) (nodes : List ℕ) (from : ℕ) (out remainder given : List ℕ) → A)
+      → feed-first-chosen-lts.Start calls-first-chosen first-chosen-here feed-first-chosen.Post → A
+  at-first-chosen stage entry =
+      let a = entry .args in
+      stage (a .types .now) (a .slice .now) (a .input) (a .nodes .now) (a .from) (a .out .now) (a .remainder .now) (a .given .now)
+
+  abbrev first-answered : (c : feed-first-chosen-lts.After-feed-node calls-first-chosen first-chosen-here feed-first-chosen.Post) {answer : Stepped} → c .feed-node .result ≡ answer
+      → at-first-chosen feeding-first-chosen.FirstAnswered (feed-first-chosen-entry-before-feed-node c) answer
+  first-answered c told =
+      let found = feed-first-chosen-chosen-part-before-feed-node c in
+      record {
+        choice = found .chosen-part .result;
+        found = found .chosen-part .ensures;
+        out-now = c .feed-node .last .1 .1 .1 .1 .1 .0;
+        remainder-now = c .feed-node .last .1 .1 .1 .1 .1 .1 .0;
+        given-now = c .feed-node .last .1 .1 .1 .1 .1 .1 .1 .0;
+        feeds = rw told at (c .feed-node .ensures);
+      }
+
+  abbrev first-fed : (c : feed-first-chosen-lts.After-step calls-first-chosen first-chosen-here feed-first-chosen.Post)
+      → at-first-chosen feeding-first-chosen.FirstAnswered (feed-first-chosen-entry-before-step c) (Fed (c .step .given .0 .0))
+  first-fed c = first-answered (feed-first-chosen-feed-node-before-step c) (c .step .given .1)
+
+  abbrev second-typed : (c : feed-first-chosen-lts.After-type-node calls-first-chosen first-chosen-here feed-first-chosen.Post) {answer : Typed} → c .type-node .result ≡ answer
+      → at-first-chosen feeding-first-chosen.SecondTyped (feed-first-chosen-entry-before-type-node c) answer
+  second-typed c told =
+      let fed = feed-first-chosen-step-before-type-node c in
+      record {
+        step = fed .step .given .0 .0;
+        first = first-fed fed;
+        remainder-part = c .type-node .last .1 .1 .1 .1 .0;
+        types-node = rw told at (c .type-node .ensures);
+      }
+
+  abbrev second-gives : (c : feed-first-chosen-lts.After-end calls-first-chosen first-chosen-here feed-first-chosen.Post)
+      → at-first-chosen feeding-first-chosen.SecondTyped (feed-first-chosen-entry-before-end c) (Gives (c .end .given .0 .0) (c .end .given .0 .1 .0))
+  second-gives c = second-typed (feed-first-chosen-type-node-before-end c) (c .end .given .1)
+
+  -- Its needs, in the order of the code.
+
+  feed-first-chosen-chosen-part-requires : feed-first-chosen-lts.Need-chosen-part-requires calls-first-chosen first-chosen-here feed-first-chosen.Post
+  feed-first-chosen-chosen-part-requires c κs = feeding-first-chosen.part-due (feed-first-chosen-entry-before-slice-known3 c .pre .1)
+
+  feed-first-chosen-add-feed-node : feed-first-chosen-lts.Need-add-feed-node calls-first-chosen first-chosen-here feed-first-chosen.Post
+  feed-first-chosen-add-feed-node c = omega (arith, starts-inside (feed-first-chosen-entry-before-chosen-part c .pre .1 .due .node-at))
+
+  feed-first-chosen-feed-node-requires : feed-first-chosen-lts.Need-feed-node-requires calls-first-chosen first-chosen-here feed-first-chosen.Post
+  feed-first-chosen-feed-node-requires c κs =
+      let found = c .before .before .before in
+      let entry = feed-first-chosen-entry-before-chosen-part found in (
+        omega (arith, entry .pre .0, feeding-first-chosen.first-below (entry .pre .1)),
+        feeding-first-chosen.first-due (entry .pre .1) (found .chosen-part .ensures),
+      )
+
+  feed-first-chosen-sub-type-node : feed-first-chosen-lts.Need-sub-type-node calls-first-chosen first-chosen-here feed-first-chosen.Post
+  feed-first-chosen-sub-type-node c =
+      let fed = c .before in
+      feeding-first-chosen.left-inside-now (feed-first-chosen-entry-before-step fed .pre .1) (first-fed fed)
+
+  feed-first-chosen-type-node-requires : feed-first-chosen-lts.Need-type-node-requires calls-first-chosen first-chosen-here feed-first-chosen.Post
+  feed-first-chosen-type-node-requires c κs =
+      let fed = c .before .before in
+      feeding-first-chosen.second-due (feed-first-chosen-entry-before-step fed .pre .1) (first-fed fed)
+
+  feed-first-chosen-add-stop : feed-first-chosen-lts.Need-add-stop calls-first-chosen first-chosen-here feed-first-chosen.Post
+  feed-first-chosen-add-stop c =
+      let gives = c .before in
+      let entry = feed-first-chosen-entry-before-end gives in
+      omega (arith, entry .good, feeding-first-chosen.stop-inside (entry .pre .1) (second-gives gives), feeding-first-chosen.remainder-kept (entry .pre .1) (second-gives gives))
+
+  feed-first-chosen-slice-reshare-prefix-same-types : feed-first-chosen-lts.Need-slice-reshare-prefix-same-types calls-first-chosen first-chosen-here feed-first-chosen.Post
+  feed-first-chosen-slice-reshare-prefix-same-types c =
+      let gives = c .before in
+      feeding-first-chosen.type-inside-now (feed-first-chosen-entry-before-end gives .pre .1) (second-gives gives .first)
+
+  feed-first-chosen-slice-aggregate-same-types : feed-first-chosen-lts.Need-slice-aggregate-same-types calls-first-chosen first-chosen-here feed-first-chosen.Post
+  feed-first-chosen-slice-aggregate-same-types c =
+      let gives = c .before .before in
+      feeding-first-chosen.type-long (feed-first-chosen-entry-before-end gives .pre .1) (second-gives gives .first)
+
+  feed-first-chosen-sub-same-types : feed-first-chosen-lts.Need-sub-same-types calls-first-chosen first-chosen-here feed-first-chosen.Post
+  feed-first-chosen-sub-same-types c = omega arith
+
+  feed-first-chosen-part-same-types-start : feed-first-chosen-lts.Need-part-same-types-start calls-first-chosen first-chosen-here feed-first-chosen.Post
+  feed-first-chosen-part-same-types-start c = feeding-choose.forward _ _
+
+  feed-first-chosen-part-same-types-end : feed-first-chosen-lts.Need-part-same-types-end calls-first-chosen first-chosen-here feed-first-chosen.Post
+  feed-first-chosen-part-same-types-end c =
+      let gives = c .before .before .before in
+      feeding-first-chosen.stop-inside (feed-first-chosen-entry-before-end gives .pre .1) (second-gives gives)
+
+  feed-first-chosen-same-length-2 : feed-first-chosen-lts.Need-same-length-2 calls-first-chosen first-chosen-here feed-first-chosen.Post
+  feed-first-chosen-same-length-2 c =
+      let gives = feed-first-chosen-end-before-then1 c in
+      feeding-first-chosen.remainder-kept (feed-first-chosen-entry-before-end gives .pre .1) (second-gives gives)
+
+  feed-first-chosen-returns : feed-first-chosen-lts.Need-returns calls-first-chosen first-chosen-here feed-first-chosen.Post
+  feed-first-chosen-returns c =
+      let gives = feed-first-chosen-end-before-then1 c in
+      record {
+        each = λ due.
+            feeding-first-chosen.differ (feeding-choose.asked-of (feed-first-chosen-entry-before-end gives .pre .1) due) (second-gives gives)
+            (c .before .same-types .ensures) (not-true _ (c .if1 .taken));
+      }
+
+  feed-first-chosen-returns-2 : feed-first-chosen-lts.Need-returns-2 calls-first-chosen first-chosen-here feed-first-chosen.Post
+  feed-first-chosen-returns-2 c =
+      let answered = feed-first-chosen-feed-node-before-enum-told c in
+      record {
+        each = λ due.
+            feeding-first-chosen.first-fails (feeding-choose.asked-of (feed-first-chosen-entry-before-feed-node answered .pre .1) due)
+            (first-answered answered (c .enum-told .given .1));
+      }
+
+  feed-first-chosen-same-length-8 : feed-first-chosen-lts.Need-same-length-8 calls-first-chosen first-chosen-here feed-first-chosen.Post
+  feed-first-chosen-same-length-8 c =
+      let typed = feed-first-chosen-type-node-before-enum-told2 c in
+      feeding-first-chosen.remainder-kept (feed-first-chosen-entry-before-type-node typed .pre .1) (second-typed typed (c .enum-told2 .given .1))
+
+  feed-first-chosen-returns-3 : feed-first-chosen-lts.Need-returns-3 calls-first-chosen first-chosen-here feed-first-chosen.Post
+  feed-first-chosen-returns-3 c =
+      let typed = feed-first-chosen-type-node-before-enum-told2 c in
+      record {
+        each = λ due.
+            feeding-first-chosen.second-untyped (feeding-choose.asked-of (feed-first-chosen-entry-before-type-node typed .pre .1) due)
+            (second-typed typed (c .enum-told2 .given .1));
+      }
+
+  feed-first-chosen-same-length-11 : feed-first-chosen-lts.Need-same-length-11 calls-first-chosen first-chosen-here feed-first-chosen.Post
+  feed-first-chosen-same-length-11 c =
+      let gives = feed-first-chosen-end-before-new c in
+      feeding-first-chosen.remainder-kept (feed-first-chosen-entry-before-end gives .pre .1) (second-gives gives)
+
+  feed-first-chosen-returns-4 : feed-first-chosen-lts.Need-returns-4 calls-first-chosen first-chosen-here feed-first-chosen.Post
+  feed-first-chosen-returns-4 c =
+      let gives = feed-first-chosen-end-before-new c in
+      let tested = c .before in
+      record {
+        each = λ due.
+            feeding-first-chosen.chosen-fed (feeding-choose.asked-of (feed-first-chosen-entry-before-end gives .pre .1) due) (second-gives gives)
+            (tested .before .same-types .ensures) (not-false _ (tested .if1 .left)) (c .new .ensures);
+      }
+
+  feed-first-chosen-meets : {M : Type 1} → feed-first-chosen-lts.Closed calls-first-chosen first-chosen-here feed-first-chosen.Post M
+  feed-first-chosen-meets =
+      feed-first-chosen-lts.spec calls-first-chosen first-chosen-here feed-first-chosen.Post
+      feed-first-chosen-chosen-part-requires feed-first-chosen-add-feed-node feed-first-chosen-feed-node-requires
+      (λ c. search needs) (λ c. search needs) feed-first-chosen-sub-type-node feed-first-chosen-sub-type-node (λ c. search needs)
+      feed-first-chosen-type-node-requires (λ c. search needs) (λ c. search needs) feed-first-chosen-add-stop
+      feed-first-chosen-slice-reshare-prefix-same-types feed-first-chosen-slice-aggregate-same-types feed-first-chosen-sub-same-types
+      feed-first-chosen-part-same-types-start feed-first-chosen-part-same-types-end (λ c κs. search needs)
+      (λ c. search needs) feed-first-chosen-same-length-2 (λ c. search needs) feed-first-chosen-returns
+      (λ c κs. search needs) (λ c. search needs) (λ c. search needs) (λ c. search needs) feed-first-chosen-returns-2
+      (λ c. search needs) feed-first-chosen-same-length-8 (λ c. search needs) feed-first-chosen-returns-3
+      (λ c. search needs) feed-first-chosen-same-length-11 (λ c. search needs) feed-first-chosen-returns-4
+
+  -- feed_second_chosen: what is known at each stage, as `FeedingSecondChosen` has it.
+
+  abbrev at-second-chosen : {A : Type 1} → ((types slice : List ℕ) (input : Input) (nodes : List ℕ) (from : ℕ) (out remainder given : List ℕ) → A)
+      → feed-second-chosen-lts.Start calls-second-chosen second-chosen-here feed-second-chosen.Post → A
+  at-second-chosen stage entry =
+      let a = entry .args in
+      stage (a .types .now) (a .slice .now) (a .input) (a .nodes .now) (a .from) (a .out .now) (a .remainder .now) (a .given .now)
+
+  abbrev first-typed : (c : feed-second-chosen-lts.After-type-node calls-second-chosen second-chosen-here feed-second-chosen.Post) {answer : Typed} → c .type-node .result ≡ answer
+      → at-second-chosen (λ types slice input nodes from out remainder given. feeding-second-chosen.FirstTyped types slice input nodes from remainder answer)
+      (feed-second-chosen-entry-before-type-node c)
+  first-typed c told =
+      let found = feed-second-chosen-chosen-part-before-type-node c in
+      record {
+        choice = found .chosen-part .result;
+        found = found .chosen-part .ensures;
+        spare = _;
+        spare-is = refl;
+        remainder-part = c .type-node .last .1 .1 .1 .1 .0;
+        types-node = rw told at (c .type-node .ensures);
+      }
+
+  abbrev first-gives : (c : feed-second-chosen-lts.After-next calls-second-chosen second-chosen-here feed-second-chosen.Post)
+      → at-second-chosen (λ types slice input nodes from out remainder given. feeding-second-chosen.FirstTyped types slice input nodes from remainder (Gives (c .next .given .0 .0) (c .next .given .0 .1 .0)))
+      (feed-second-chosen-entry-before-next c)
+  first-gives c = first-typed (feed-second-chosen-type-node-before-next c) (c .next .given .1)
+
+  abbrev second-answered : (c : feed-second-chosen-lts.After-feed-node calls-second-chosen second-chosen-here feed-second-chosen.Post) {answer : Stepped} → c .feed-node .result ≡ answer
+      → at-second-chosen feeding-second-chosen.SecondAnswered (feed-second-chosen-entry-before-feed-node c) answer
+  second-answered c told =
+      let gives = feed-second-chosen-next-before-feed-node c in
+      record {
+        next = gives .next .given .0 .0;
+        other = gives .next .given .0 .1 .0;
+        first = first-gives gives;
+        out-after = c .feed-node .last .1 .1 .1 .1 .1 .0;
+        front = c .feed-node .last .1 .1 .1 .1 .1 .1 .0;
+        given-after = c .feed-node .last .1 .1 .1 .1 .1 .1 .1 .0;
+        front-long = c .feed-node .kept .1 .1 .1 .1 .1 .1 .0;
+        feeds = rw told at (c .feed-node .ensures);
+      }
+
+  abbrev second-fed : (c : feed-second-chosen-lts.After-step calls-second-chosen second-chosen-here feed-second-chosen.Post)
+      → at-second-chosen feeding-second-chosen.SecondAnswered (feed-second-chosen-entry-before-step c) (Fed (c .step .given .0 .0))
+  second-fed c = second-answered (feed-second-chosen-feed-node-before-step c) (c .step .given .1)
+
+  -- Its needs, in the order of the code.
+
+  feed-second-chosen-chosen-part-requires : feed-second-chosen-lts.Need-chosen-part-requires calls-second-chosen second-chosen-here feed-second-chosen.Post
+  feed-second-chosen-chosen-part-requires c κs = feeding-second-chosen.part-due (feed-second-chosen-entry-before-slice-known3 c .pre .1)
+
+  feed-second-chosen-sub-spare : feed-second-chosen-lts.Need-sub-spare calls-second-chosen second-chosen-here feed-second-chosen.Post
+  feed-second-chosen-sub-spare c = feeding-second-chosen.room-at-end (feed-second-chosen-entry-before-chosen-part c .pre .1)
+
+  feed-second-chosen-add-type-node : feed-second-chosen-lts.Need-add-type-node calls-second-chosen second-chosen-here feed-second-chosen.Post
+  feed-second-chosen-add-type-node c = omega (arith, starts-inside (feed-second-chosen-entry-before-chosen-part c .pre .1 .due .node-at))
+
+  feed-second-chosen-sub-type-node : feed-second-chosen-lts.Need-sub-type-node calls-second-chosen second-chosen-here feed-second-chosen.Post
+  feed-second-chosen-sub-type-node c = omega arith
+
+  feed-second-chosen-type-node-requires : feed-second-chosen-lts.Need-type-node-requires calls-second-chosen second-chosen-here feed-second-chosen.Post
+  feed-second-chosen-type-node-requires c κs =
+      let found = c .before in
+      feeding-second-chosen.first-due (feed-second-chosen-entry-before-chosen-part found .pre .1) (found .chosen-part .ensures)
+
+  feed-second-chosen-slice-relend-prefix-feed-node : feed-second-chosen-lts.Need-slice-relend-prefix-feed-node calls-second-chosen second-chosen-here feed-second-chosen.Post
+  feed-second-chosen-slice-relend-prefix-feed-node c =
+      let gives = feed-second-chosen-next-before-feed-node-arg c in
+      feeding-second-chosen.spare-inside-now (feed-second-chosen-entry-before-next gives .pre .1) (first-gives gives)
+
+  feed-second-chosen-slice-aggregate-feed-node : feed-second-chosen-lts.Need-slice-aggregate-feed-node calls-second-chosen second-chosen-here feed-second-chosen.Post
+  feed-second-chosen-slice-aggregate-feed-node c =
+      let gives = feed-second-chosen-next-before-feed-node-arg2 c in
+      feeding-second-chosen.front-long (feed-second-chosen-entry-before-next gives .pre .1) (first-gives gives)
+
+  feed-second-chosen-feed-node-requires : feed-second-chosen-lts.Need-feed-node-requires calls-second-chosen second-chosen-here feed-second-chosen.Post
+  feed-second-chosen-feed-node-requires c κs =
+      let gives = feed-second-chosen-next-before-feed-node-arg3 c in
+      let entry = feed-second-chosen-entry-before-next gives in (
+        omega (arith, entry .pre .0, feeding-second-chosen.second-below (entry .pre .1) (first-gives gives)),
+        feeding-second-chosen.second-due (entry .pre .1) (first-gives gives),
+      )
+
+  feed-second-chosen-add-stop : feed-second-chosen-lts.Need-add-stop calls-second-chosen second-chosen-here feed-second-chosen.Post
+  feed-second-chosen-add-stop c =
+      let fed = c .before in
+      let entry = feed-second-chosen-entry-before-step fed in
+      omega (arith, entry .good, feeding-second-chosen.stop-inside (entry .pre .1) (second-fed fed), feeding-second-chosen.remainder-kept-on (entry .pre .1) (second-fed fed))
+
+  feed-second-chosen-slice-reshare-prefix-same-types : feed-second-chosen-lts.Need-slice-reshare-prefix-same-types calls-second-chosen second-chosen-here feed-second-chosen.Post
+  feed-second-chosen-slice-reshare-prefix-same-types c =
+      let fed = c .before in
+      feeding-second-chosen.type-inside-now (feed-second-chosen-entry-before-step fed .pre .1) (second-fed fed)
+
+  feed-second-chosen-slice-aggregate-same-types : feed-second-chosen-lts.Need-slice-aggregate-same-types calls-second-chosen second-chosen-here feed-second-chosen.Post
+  feed-second-chosen-slice-aggregate-same-types c =
+      let fed = c .before .before in
+      feeding-second-chosen.type-long (feed-second-chosen-entry-before-step fed .pre .1) (second-fed fed)
+
+  feed-second-chosen-sub-same-types : feed-second-chosen-lts.Need-sub-same-types calls-second-chosen second-chosen-here feed-second-chosen.Post
+  feed-second-chosen-sub-same-types c = omega arith
+
+  feed-second-chosen-part-same-types-start : feed-second-chosen-lts.Need-part-same-types-start calls-second-chosen second-chosen-here feed-second-chosen.Post
+  feed-second-chosen-part-same-types-start c = feeding-choose.forward _ _
+
+  feed-second-chosen-part-same-types-end : feed-second-chosen-lts.Need-part-same-types-end calls-second-chosen second-chosen-here feed-second-chosen.Post
+  feed-second-chosen-part-same-types-end c =
+      let fed = c .before .before .before in
+      feeding-second-chosen.stop-inside (feed-second-chosen-entry-before-step fed .pre .1) (second-fed fed)
+
+  feed-second-chosen-same-length-2 : feed-second-chosen-lts.Need-same-length-2 calls-second-chosen second-chosen-here feed-second-chosen.Post
+  feed-second-chosen-same-length-2 c =
+      let fed = feed-second-chosen-step-before-then1 c in
+      feeding-second-chosen.remainder-kept-on (feed-second-chosen-entry-before-step fed .pre .1) (second-fed fed)
+
+  feed-second-chosen-returns : feed-second-chosen-lts.Need-returns calls-second-chosen second-chosen-here feed-second-chosen.Post
+  feed-second-chosen-returns c =
+      let fed = feed-second-chosen-step-before-then1 c in
+      record {
+        each = λ due.
+            feeding-second-chosen.differ (feeding-choose.asked-of (feed-second-chosen-entry-before-step fed .pre .1) due) (second-fed fed)
+            (c .before .same-types .ensures) (not-true _ (c .if1 .taken));
+      }
+
+  feed-second-chosen-same-length-4 : feed-second-chosen-lts.Need-same-length-4 calls-second-chosen second-chosen-here feed-second-chosen.Post
+  feed-second-chosen-same-length-4 c =
+      let typed = feed-second-chosen-type-node-before-enum-told c in
+      feeding-second-chosen.remainder-kept (feed-second-chosen-entry-before-type-node typed .pre .1) (first-typed typed (c .enum-told .given .1))
+
+  feed-second-chosen-returns-2 : feed-second-chosen-lts.Need-returns-2 calls-second-chosen second-chosen-here feed-second-chosen.Post
+  feed-second-chosen-returns-2 c =
+      let typed = feed-second-chosen-type-node-before-enum-told c in
+      record {
+        each = λ due.
+            feeding-second-chosen.first-untyped (feeding-choose.asked-of (feed-second-chosen-entry-before-type-node typed .pre .1) due)
+            (first-typed typed (c .enum-told .given .1));
+      }
+
+  feed-second-chosen-same-length-6 : feed-second-chosen-lts.Need-same-length-6 calls-second-chosen second-chosen-here feed-second-chosen.Post
+  feed-second-chosen-same-length-6 c =
+      let answered = feed-second-chosen-feed-node-before-enum-told2 c in
+      feeding-second-chosen.remainder-kept-on (feed-second-chosen-entry-before-feed-node answered .pre .1) (second-answered answered (c .enum-told2 .given .1))
+
+  feed-second-chosen-returns-3 : feed-second-chosen-lts.Need-returns-3 calls-second-chosen second-chosen-here feed-second-chosen.Post
+  feed-second-chosen-returns-3 c =
+      let answered = feed-second-chosen-feed-node-before-enum-told2 c in
+      record {
+        each = λ due.
+            feeding-second-chosen.second-fails (feeding-choose.asked-of (feed-second-chosen-entry-before-feed-node answered .pre .1) due)
+            (second-answered answered (c .enum-told2 .given .1));
+      }
+
+  feed-second-chosen-same-length-9 : feed-second-chosen-lts.Need-same-length-9 calls-second-chosen second-chosen-here feed-second-chosen.Post
+  feed-second-chosen-same-length-9 c =
+      let fed = feed-second-chosen-step-before-else1 c in
+      feeding-second-chosen.remainder-kept-on (feed-second-chosen-entry-before-step fed .pre .1) (second-fed fed)
+
+  feed-second-chosen-returns-4 : feed-second-chosen-lts.Need-returns-4 calls-second-chosen second-chosen-here feed-second-chosen.Post
+  feed-second-chosen-returns-4 c =
+      let fed = feed-second-chosen-step-before-else1 c in
+      record {
+        each = λ due.
+            feeding-second-chosen.chosen-fed (feeding-choose.asked-of (feed-second-chosen-entry-before-step fed .pre .1) due) (second-fed fed)
+            (c .before .same-types .ensures) (not-false _ (c .if1 .left));
+      }
+
+  feed-second-chosen-meets : {M : Type 1} → feed-second-chosen-lts.Closed calls-second-chosen second-chosen-here feed-second-chosen.Post M
+  feed-second-chosen-meets =
+      feed-second-chosen-lts.spec calls-second-chosen second-chosen-here feed-second-chosen.Post
+      feed-second-chosen-chosen-part-requires feed-second-chosen-sub-spare feed-second-chosen-add-type-node
+      feed-second-chosen-sub-type-node feed-second-chosen-sub-type-node (λ c. search needs)
+      feed-second-chosen-type-node-requires (λ c. search needs) (λ c. search needs)
+      feed-second-chosen-slice-relend-prefix-feed-node feed-second-chosen-slice-aggregate-feed-node feed-second-chosen-feed-node-requires
+      (λ c. search needs) (λ c. search needs) feed-second-chosen-add-stop feed-second-chosen-slice-reshare-prefix-same-types
+      feed-second-chosen-slice-aggregate-same-types feed-second-chosen-sub-same-types feed-second-chosen-part-same-types-start
+      feed-second-chosen-part-same-types-end (λ c κs. search needs)
+      (λ c. search needs) feed-second-chosen-same-length-2 (λ c. search needs) feed-second-chosen-returns
+      feed-second-chosen-same-length-4 feed-second-chosen-returns-2
+      (λ c. search needs) feed-second-chosen-same-length-6 (λ c. search needs) feed-second-chosen-returns-3
+      (λ c. search needs) feed-second-chosen-same-length-9 (λ c. search needs) feed-second-chosen-returns-4
+
+pub +feed-both+feed-chain+feed-choose+feed-coming+feed-first-chosen+feed-node+feed-parts+feed-second-chosen+feed-then-spec : {M : Type 1} → statement M
++feed-both+feed-chain+feed-choose+feed-coming+feed-first-chosen+feed-node+feed-parts+feed-second-chosen+feed-then-spec =
+    close μ-feed-both μ-feed-chain μ-feed-choose μ-feed-coming μ-feed-first-chosen μ-feed-node μ-feed-parts μ-feed-second-chosen μ-feed-then
+    (λ t. feed-both-meets t) (λ t. feed-chain-meets t) (λ t. feed-choose-meets t) (λ t. feed-coming-meets t) (λ t. feed-first-chosen-meets t)
+    (λ t. feed-node-meets t) (λ t. feed-parts-meets t) (λ t. feed-second-chosen-meets t) (λ t. feed-then-meets t)
