@@ -1,10 +1,11 @@
--- The starred cases of document 01, 1 to 9, as one table: a call by the contents of the sections that it is handed, and what
--- comes back.
+-- The starred cases of document 01, 1 to 9, and calls on choices (document 02, M-100), each as one table: a call by the contents of
+-- the sections that it is handed, and what comes back.
 use mathlib.Core.Path.{_≡_, refl}
 use mathlib.Core.List.{List, [], _∷_, _++_, map}
 use Prim.Native.Nat.{ℕ}
 use Rattle.stream.specs.Faults.{number}
 use Rattle.stream.specs.Reading.{Result, accepted, refused, section-bytes}
+use Rattle.stream.specs.Reading.Examples.{copies}
 use Rattle.node.specs.Computing.{node-definitions}
 use Rattle.meaning.specs.Answers.{check, admit, join, feed, FedFiles}
 
@@ -74,3 +75,34 @@ table =
 pub cases : map (λ (row : Question × Answer). answered (row .0)) table ≡ map (λ (row : Question × Answer). row .1) table
 unfolding node-definitions check admit join feed
 cases = refl
+
+abbrev pub choices : List (Question × Answer)
+choices =
+    -- how long a crossed first part is follows from the choice in it, which has to be made and be complete
+    (feeding (3 ∷ 5 ∷ 1 ∷ 2 ∷ 1 ∷ []) (8 ∷ []) (6 ∷ 10 ∷ 4 ∷ 0 ∷ 7 ∷ 2 ∷ []), sends-and-leaves (2 ∷ []) (0 ∷ []) (0 ∷ []))
+    ∷ (admitting (3 ∷ 5 ∷ 1 ∷ 2 ∷ 1 ∷ []) (6 ∷ 8 ∷ 1 ∷ []), number-alone 14)
+    ∷ (admitting (3 ∷ 5 ∷ 1 ∷ 2 ∷ 1 ∷ []) (6 ∷ 9 ∷ 1 ∷ 1 ∷ []), number-alone 14)
+    -- a slice of the part that was not chosen, a byte behind 8, a kind that is not listed
+    ∷ (admitting (5 ∷ 1 ∷ 2 ∷ []) (9 ∷ 3 ∷ []), number-alone 14)
+    ∷ (admitting (5 ∷ 1 ∷ 2 ∷ []) (8 ∷ 1 ∷ []), number-alone 13)
+    ∷ (admitting (5 ∷ 1 ∷ 2 ∷ []) (15 ∷ []), number-alone 12)
+    -- joins: inside the choice, which is made once
+    ∷ (joining (5 ∷ 1 ∷ 2 ∷ []) (8 ∷ []) (10 ∷ 3 ∷ []), writes-file (10 ∷ 3 ∷ []))
+    ∷ (joining (5 ∷ 1 ∷ 2 ∷ []) (9 ∷ 1 ∷ []) (2 ∷ []), writes-file (9 ∷ 2 ∷ []))
+    ∷ (joining (5 ∷ 1 ∷ 2 ∷ []) (9 ∷ 1 ∷ []) (9 ∷ 2 ∷ []), number-alone 14)
+    -- choose on 8, on 9 and on 10; 16 and 17
+    ∷ (feeding (5 ∷ 1 ∷ 2 ∷ []) (15 ∷ 2 ∷ 2 ∷ []) (8 ∷ []), sends-and-leaves (1 ∷ []) (5 ∷ 1 ∷ 2 ∷ []) (15 ∷ 2 ∷ 2 ∷ []))
+    ∷ (feeding (5 ∷ 1 ∷ 1 ∷ []) (15 ∷ 0 ∷ 2 ∷ []) (9 ∷ 1 ∷ []), sends-and-leaves (1 ∷ []) (1 ∷ []) (0 ∷ []))
+    ∷ (feeding (5 ∷ 1 ∷ 1 ∷ []) (15 ∷ 0 ∷ 2 ∷ []) (10 ∷ 1 ∷ []), sends-and-leaves (2 ∷ []) (1 ∷ []) (1 ∷ 0 ∷ []))
+    ∷ (feeding (1 ∷ []) (16 ∷ 2 ∷ []) (1 ∷ []), sends-and-leaves (9 ∷ 1 ∷ []) (1 ∷ []) (0 ∷ []))
+    ∷ (feeding (1 ∷ []) (17 ∷ 2 ∷ []) (2 ∷ []), sends-and-leaves (10 ∷ 2 ∷ []) (0 ∷ []) (0 ∷ []))
+    -- 30, after the second part's own faults and before 4
+    ∷ (checking (5 ∷ 1 ∷ 2 ∷ []) (15 ∷ 0 ∷ 0 ∷ []), number-alone 30)
+    ∷ (checking (5 ∷ 1 ∷ 2 ∷ []) (15 ∷ 0 ∷ 5 ∷ []), number-alone 7)
+    ∷ (checking (5 ∷ 1 ∷ 2 ∷ []) (4 ∷ 1 ∷ copies 127 (4 ∷ 0 ∷ []) (0 ∷ 15 ∷ 0 ∷ 0 ∷ [])), number-alone 30)
+    ∷ (checking (5 ∷ 1 ∷ 2 ∷ []) (4 ∷ 1 ∷ copies 127 (4 ∷ 0 ∷ []) (0 ∷ 15 ∷ 2 ∷ 2 ∷ [])), number-alone 4)
+    ∷ []
+
+pub choice-cases : map (λ (row : Question × Answer). answered (row .0)) choices ≡ map (λ (row : Question × Answer). row .1) choices
+unfolding node-definitions check admit join feed
+choice-cases = refl

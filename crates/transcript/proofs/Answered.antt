@@ -16,7 +16,7 @@ use Rattle.meaning.specs.Promises.{CheckPromise, FeedPromise}
 use Rattle.stream.specs.Bounds.{type-file-limit, slice-file-limit, patch-file-limit}
 
 -- No number has more than two digits.
-pub number-short : {A : Type 0} (r : Result A) → number-of r ≤ 20
+pub number-short : {A : Type 0} (r : Result A) → number-of r ≤ 99
 number-short (accepted a) = omega arith
 number-short (refused e) = number-bounds e .1
 

@@ -10,7 +10,7 @@ use lib.ListN.{length}
 use lib.Seq.{take-append-seam}
 use borrow.Author.Tests.{le-leb}
 use Rattle.stream.specs.declared.Fault.{Fault}
-use Rattle.stream.specs.declared.Fault.the-variants.{CutShort, Unlisted, LeftOver, TypeTooLarge, TooManyNodes, NotNullable, WrongShape, SliceCutShort, SliceUnlisted, SliceLeftOver, SliceMisplaced, NoRoom}
+use Rattle.stream.specs.declared.Fault.the-variants.{CutShort, Unlisted, LeftOver, TypeTooLarge, TooManyNodes, NotNullable, WrongShape, SliceCutShort, SliceUnlisted, SliceLeftOver, SliceMisplaced, NoRoom, OutputsDiffer}
 use Rattle.stream.specs.Bounds.{type-file-limit, slice-file-limit, patch-file-limit}
 use Rattle.stream.specs.Faults.{number, type-numbers, slice-numbers, patch-numbers, Listed, contains}
 use Rattle.stream.specs.Types.{Ty, par, Small}
@@ -33,7 +33,7 @@ use Rattle.node.specs.PatchFiles.Laws.{patch-file-complete, patch-file-sound, p
 use Rattle.meaning.specs.Answers.{check, admit, left, join, FedFiles, feed, with-room, fits-both, admit-numbers, feed-numbers, first-section, fed-files}
 
 -- No refusal has the number 0, and none has more than two digits.
-pub number-bounds : (e : Fault) → (1 ≤ number e) × (number e ≤ 20)
+pub number-bounds : (e : Fault) → (1 ≤ number e) × (number e ≤ 99)
 number-bounds CutShort = (omega arith, omega arith)
 number-bounds Unlisted = (omega arith, omega arith)
 number-bounds LeftOver = (omega arith, omega arith)
@@ -46,6 +46,7 @@ number-bounds SliceUnlisted = (omega arith, omega arith)
 number-bounds SliceLeftOver = (omega arith, omega arith)
 number-bounds SliceMisplaced = (omega arith, omega arith)
 number-bounds NoRoom = (omega arith, omega arith)
+number-bounds OutputsDiffer = (omega arith, omega arith)
 
 pub number-positive : (e : Fault) → 1 ≤ number e
 number-positive e = number-bounds e .0
