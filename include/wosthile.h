@@ -1,9 +1,10 @@
 /*
  * Wosthile: patch files, type files and slice files, for C11 and C++11 on x86-64.
  *
- * A stream has a type: a tree of cues and 16-bit levels, of parts that follow one another and of parts that run side
- * by side. A slice says what has come of a stream since the slice before. A patch is a tree of nodes that takes a
- * stream of one type to a stream of another. Five operations work on the files of all three:
+ * A stream has a type: a tree of cues and 16-bit levels, of parts that follow one another, of parts that run side by
+ * side, and of parts of which one is chosen. A slice says what has come of a stream since the slice before. A patch is
+ * a tree of nodes that takes a stream of one type to a stream of another. Five operations work on the files of all
+ * three:
  *
  *   wosthile_check   is this a patch, and which type has the stream that it sends?
  *   wosthile_admit   is this a slice of that type, and has everything come?
@@ -16,11 +17,18 @@
  * (enum wosthile_type_kind, wosthile_slice_kind and wosthile_node_kind). A type file and a slice file are one section;
  * a patch file is two, the type of its input and then its nodes. All values below are decimal.
  *
- * A type is nullable if it is 0, or a 4 with both parts nullable; a sequence never is. A type has at most 255 nodes,
- * wherever it arises, and a patch at most 63; the nodes of a type that silent carries count for that type alone.
+ * A type is nullable if it is 0, or a 4 with both parts nullable; a sequence and an either never are. A type has at
+ * most 255 nodes, wherever it arises, and a patch at most 63; the nodes of a type that a node carries count for that
+ * type alone.
  *
- * A slice is complete if it is 0, 2 or 4, or a 6 whose second slice is complete, or a 7 with both complete. A first
- * part that has fully come is not crossed yet: of type 3 1 1 the slices 5 2 and 6 2 1 differ.
+ * A slice is complete if it is 0, 2 or 4, or a 6 whose second slice is complete, or a 7 with both complete, or a 9 or
+ * 10 whose slice is complete. A first part that has fully come is not crossed yet: of type 3 1 1 the slices 5 2 and
+ * 6 2 1 differ.
+ *
+ * A choice comes in the stream, once, like a cue. Of type 5 s t a slice is 8 as long as none of the two parts is
+ * chosen. The slice that chooses is 9 and a slice of s, or 10 and a slice of t; that slice may bring something at once,
+ * or be empty. The part that was not chosen is then gone, and so is the mark: of type 5 1 2 the slice 9 1 leaves type
+ * 1, so the next slice is 1 or 2, and 8, 9 and 10 are refused with 14.
  *
  * In a frame loop. Keep the type file that wosthile_check writes, and two patch buffers. The first slice is one of the
  * patch's input type, and every later one is a slice of what the slices before it leave of that type. This is always
@@ -34,8 +42,9 @@
  * the slice together, from left to right: at a cue, 2 says that it comes now and 1 that it does not; at a level, 4 and
  * two bytes or 3; at an empty part there is 0; at a sequence 5 goes on in its first part, and the second has no bytes
  * yet; 6 goes through its first part and then into the second, and what is left of the sequence is what is left of the
- * second part; at parts side by side 7 goes through both. examples/shared/lanes.c does this, and keeps which leaf of
- * the first type each one is.
+ * second part; at parts side by side 7 goes through both; at an either 8 says that none is chosen yet, and neither part
+ * has bytes; 9 goes into its first part and 10 into its second, and what is left of the either is what is left of that
+ * part. examples/shared/lanes.c does this, and keeps which leaf of the first type each one is.
  *
  * Every call ends, whatever the bytes and the lengths of the files; there is nothing to test before it.
  *
@@ -67,7 +76,7 @@
 #include <stdint.h>
 
 /* The release, for people. */
-#define WOSTHILE_RELEASE "1.0.0"
+#define WOSTHILE_RELEASE "1.1.0"
 
 /* The binary interface: changes whenever a struct or a function below asks for compiling again. See wosthile_abi. */
 #define WOSTHILE_ABI 1
@@ -94,7 +103,8 @@ enum wosthile_type_kind {
     WOSTHILE_TYPE_CUE = 1,
     WOSTHILE_TYPE_LEVEL = 2,    /* 0 to 65,535 */
     WOSTHILE_TYPE_SEQUENCE = 3, /* two types: the second part follows the first */
-    WOSTHILE_TYPE_BESIDE = 4    /* two types, side by side */
+    WOSTHILE_TYPE_BESIDE = 4,   /* two types, side by side */
+    WOSTHILE_TYPE_EITHER = 5    /* two types, of which the stream chooses one */
 };
 
 /* The kinds of slices, and of which type each is. */
@@ -106,7 +116,10 @@ enum wosthile_slice_kind {
     WOSTHILE_SLICE_LEVEL_COME = 4,    /* of level: come; then the value, two bytes, the high byte first */
     WOSTHILE_SLICE_IN_FIRST = 5,      /* of sequence: a slice of the first part */
     WOSTHILE_SLICE_CROSSED = 6,       /* of sequence: a complete slice of the first part, a slice of the second */
-    WOSTHILE_SLICE_BESIDE = 7         /* of parts side by side: a slice of each */
+    WOSTHILE_SLICE_BESIDE = 7,        /* of parts side by side: a slice of each */
+    WOSTHILE_SLICE_NONE_CHOSEN = 8,   /* of either: not chosen yet */
+    WOSTHILE_SLICE_FIRST_CHOSEN = 9,  /* of either: the first part is chosen; a slice of it */
+    WOSTHILE_SLICE_SECOND_CHOSEN = 10 /* of either: the second part is chosen; a slice of it */
 };
 
 /* The kinds of nodes, and which type each gives. What each sends and leaves is at wosthile_feed. */
@@ -125,14 +138,17 @@ enum wosthile_node_kind {
     WOSTHILE_NODE_REGROUP_RIGHT = 11, /* of 3 3 s t r gives 3 s 3 t r */
     WOSTHILE_NODE_REGROUP_LEFT = 12,  /* of 3 s 3 t r gives 3 3 s t r */
     WOSTHILE_NODE_SPREAD = 13,        /* of 3 s 4 t r gives 4 3 s t 3 s r */
-    WOSTHILE_NODE_FRONT = 14          /* of s gives 3 0 s */
+    WOSTHILE_NODE_FRONT = 14,         /* of s gives 3 0 s */
+    WOSTHILE_NODE_CHOOSE = 15,        /* two nodes, one on each part of an either: gives the one type that both give */
+    WOSTHILE_NODE_MARK_FIRST = 16,    /* then a type t: of s gives 5 s t */
+    WOSTHILE_NODE_MARK_SECOND = 17    /* then a type t: of s gives 5 t s */
 };
 
 /*
- * The number in every answer: 0, or that of a fault. 1 to 4 speak of a type or a patch, 5 to 7 of a patch alone, 11 to
- * 14 of a slice, 20 of a lent buffer. Where one place has several faults, 4 and 5 come before 1 and 1 before 2; in a
- * slice 11 comes before 12 and 12 before 14. What each says is in wosthile_sentence. The program explain finds the byte
- * at which a file is wrong; examples/shared/faults.h does it in C, with these calls alone.
+ * The number in every answer: 0, or that of a fault. 1 to 4 speak of a type or a patch, 5 to 7 and 30 of a patch alone,
+ * 11 to 14 of a slice, 20 of a lent buffer. Where one place has several faults, 4 and 5 come before 1 and 1 before 2;
+ * in a slice 11 comes before 12 and 12 before 14. What each says is in wosthile_sentence. The program explain finds the
+ * byte at which a file is wrong; examples/shared/faults.h does it in C, with these calls alone.
  */
 enum wosthile_number {
     WOSTHILE_ACCEPTED = 0,
@@ -147,7 +163,8 @@ enum wosthile_number {
     WOSTHILE_FAULT_SLICE_UNLISTED = 12,
     WOSTHILE_FAULT_SLICE_LEFT_OVER = 13,
     WOSTHILE_FAULT_SLICE_MISPLACED = 14,
-    WOSTHILE_FAULT_NO_ROOM = 20
+    WOSTHILE_FAULT_NO_ROOM = 20,
+    WOSTHILE_FAULT_OUTPUTS_DIFFER = 30
 };
 
 /* The sentence of a number, for a log or a screen. */
@@ -173,7 +190,7 @@ static inline const char *wosthile_sentence(uint32_t number)
     case WOSTHILE_FAULT_SLICE_CUT_SHORT:
         return "A slice is cut short: its section or its tree needs more bytes than there are.";
     case WOSTHILE_FAULT_SLICE_UNLISTED:
-        return "A slice has a kind above 7.";
+        return "A slice has a kind that is not listed.";
     case WOSTHILE_FAULT_SLICE_LEFT_OVER:
         return "A slice has bytes left over, in its section or after it.";
     case WOSTHILE_FAULT_SLICE_MISPLACED:
@@ -181,6 +198,8 @@ static inline const char *wosthile_sentence(uint32_t number)
                "or the first part of a crossing is not complete.";
     case WOSTHILE_FAULT_NO_ROOM:
         return "The lent buffer, or either of two, is too short for this answer; one of the greatest size never is.";
+    case WOSTHILE_FAULT_OUTPUTS_DIFFER:
+        return "The two nodes of choose give different types.";
     default:
         return "No operation answers this number.";
     }
@@ -207,10 +226,11 @@ typedef struct {
 
 /*
  * Writes to type the file of the type that the patch gives, at most WOSTHILE_TYPE_FILE_MAX bytes; the patch file may be
- * shorter than that. Refuses the patch with 1 to 7, then with 20.
+ * shorter than that. Refuses the patch with 1 to 7 or 30, then with 20.
  *
  * The whole file is read first, from left to right, and refused with 1 to 5. Then the nodes are tried in preorder: at a
- * node 7, then 6, then the faults of its parts, then 4 if the type that it gives needs a 256th node.
+ * node 7, then 6, then the faults of its parts, then 30 if it is choose and its two nodes give different types, then 4
+ * if the type that it gives needs a 256th node.
  */
 wosthile_written wosthile_check(const uint8_t *patch, size_t patch_len, uint8_t *type, size_t type_len);
 
@@ -225,10 +245,11 @@ wosthile_admitted wosthile_admit(const uint8_t *type, size_t type_len, const uin
  * type_len. Refuses as wosthile_admit does, then with 20.
  *
  *   slice 0, 2, 4   leaves empty
- *   slice 1, 3      leaves the type
+ *   slice 1, 3, 8   leaves the type
  *   slice 5         leaves a sequence of what is left of the first part and the whole second
  *   slice 6         leaves what is left of the second part
  *   slice 7         leaves both remainders side by side
+ *   slice 9, 10     leaves what is left of the chosen part
  */
 wosthile_written wosthile_left(const uint8_t *type, size_t type_len, const uint8_t *slice, size_t slice_len,
                                uint8_t *left, size_t left_len);
@@ -240,11 +261,13 @@ wosthile_written wosthile_left(const uint8_t *type, size_t type_len, const uint8
  *
  *   first      second     joined
  *   0, 2, 4    0          first
- *   1, 3       q          q
+ *   1, 3, 8    q          q
  *   5 p        5 q        5, p joined with q
  *   5 p        6 b q      6, p joined with b, q
  *   6 b p      q          6 b, p joined with q
  *   7 p r      7 q s      7, p joined with q, r joined with s
+ *   9 p        q          9, p joined with q
+ *   10 p       q          10, p joined with q
  */
 wosthile_written wosthile_join(const uint8_t *type, size_t type_len, const uint8_t *first, size_t first_len,
                                const uint8_t *second, size_t second_len, uint8_t *joined, size_t joined_len);
@@ -257,9 +280,9 @@ wosthile_written wosthile_join(const uint8_t *type, size_t type_len, const uint8
  * the six bytes 0 1 1 0 1 2, a cue node on a cue, fed 0 1 1 leave the seven 0 1 1 0 2 1 0. Only a buffer of
  * WOSTHILE_PATCH_FILE_MAX bytes is always long enough.
  *
- * Refuses the patch as wosthile_check does, with 1 to 7; then the slice with 11 to 14, against the input type of the
- * patch; then with 20 if either buffer is too short. A refusal alters neither buffer, so the next feed is handed the
- * patch that this one was handed.
+ * Refuses the patch as wosthile_check does, with 1 to 7 or 30; then the slice with 11 to 14, against the input type of
+ * the patch; then with 20 if either buffer is too short. A refusal alters neither buffer, so the next feed is handed
+ * the patch that this one was handed.
  *
  * What a node sends and leaves; b and c are complete, and p, q and r are any slices.
  *
@@ -289,9 +312,14 @@ wosthile_written wosthile_join(const uint8_t *type, size_t type_len, const uint8
  *   spread           5 p          7 5 p 5 p                                    itself
  *                    6 b 7 q r    7 6 b q 6 b r                                pass
  *   front            p            6 0 p                                        pass
+ *   choose           8            the empty slice of the type that it gives    itself
+ *                    9 p          what the first sends on p                    what the first leaves, alone
+ *                    10 p         what the second sends on p                   what the second leaves, alone
+ *   mark first       p            9 p, even if nothing has come                pass
+ *   mark second      p            10 p, even if nothing has come               pass
  *
  * The empty slice of a type says that nothing has come: 0, 1 or 3 at its leaves, 5 with the empty slice of the first
- * part, 7 with both empty.
+ * part, 7 with both empty, 8 alone.
  */
 wosthile_fed wosthile_feed(const uint8_t *patch, size_t patch_len, const uint8_t *slice, size_t slice_len,
                            uint8_t *output, size_t output_len, uint8_t *left, size_t left_len);

@@ -199,13 +199,39 @@ static bool add_plain_fault(struct text *text, struct fault fault, struct within
     return true;
 }
 
+/* Is a node of the starting type still in the type in force? */
+static bool is_in_force(const struct lanes *in_force, size_t start)
+{
+    for (size_t node = 0; node < in_force->nodes; node++) {
+        if (in_force->origin[node] == start) {
+            return true;
+        }
+    }
+    return false;
+}
+
+/* Is a node of the type in force in a part that was chosen? The either above it is then gone. */
+static bool is_chosen(const struct lanes *in_force, size_t node)
+{
+    const struct start_node *start = in_force->start, *here = &start[in_force->origin[node]];
+    for (size_t above = 0; above < in_force->origin[node]; above++) {
+        bool is_above = start[above].lanes.last >= here->lanes.last;
+        if (is_above && start[above].kind == WOSTHILE_TYPE_EITHER && !is_in_force(in_force, above)) {
+            return true;
+        }
+    }
+    return false;
+}
+
 /* Adds why a slice's kind is not the one that is due, where there is more to say of it. */
 static void add_reason(struct text *text, const struct lanes *in_force, size_t node, uint8_t kind,
                        const struct byte_set *due)
 {
     uint8_t type = in_force->type[2 + node], start = in_force->start[in_force->origin[node]].kind;
     uint8_t due_type = 0;
-    if (type == WOSTHILE_TYPE_EMPTY && start != WOSTHILE_TYPE_EMPTY) {
+    if (slice_kind(kind)->of == WOSTHILE_TYPE_EITHER && type != WOSTHILE_TYPE_EITHER && is_chosen(in_force, node)) {
+        text_add(text, "; its choice has come already");
+    } else if (type == WOSTHILE_TYPE_EMPTY && start != WOSTHILE_TYPE_EMPTY) {
         text_add(text, "; its %s has come already", type_kind(start)->name);
     } else if (kind == WOSTHILE_SLICE_NOTHING && (type == WOSTHILE_TYPE_CUE || type == WOSTHILE_TYPE_LEVEL)) {
         text_add(text, "; the slice takes it for come, and it has not come");
@@ -324,6 +350,46 @@ static void add_given_type(struct text *text, const struct type *type, uint32_t 
     text_add(text, "%s", line);
 }
 
+/* Adds the type of a section that begins at a place of it. */
+static void add_type_at(struct text *text, struct file section, size_t place)
+{
+    char line[TYPE_TEXT_BYTES];
+    type_text(line, (struct file){section.bytes + place, type_end(section, place) - place});
+    text_add(text, "%s", line);
+}
+
+/* Adds where two types that are not the same first differ, unless they do from their first nodes on. */
+static void add_difference(struct text *text, struct file one, struct file other)
+{
+    size_t place = 0, shorter = one.length < other.length ? one.length : other.length;
+    unsigned lane = 1;
+    while (place + 1 < shorter && one.bytes[place] == other.bytes[place]) {
+        lane += type_kind(one.bytes[place++])->parts == 0;
+    }
+    if (place > 0) {
+        text_add(text, "; these first differ at their lane %u: ", lane);
+        add_type_at(text, one, place);
+        text_add(text, " in the first, ");
+        add_type_at(text, other, place);
+        text_add(text, " in the second");
+    }
+}
+
+/* Adds what the parts of a node give, which is too large, or not the same. */
+static void add_given_by_parts(struct text *text, const struct patch_tree *tree, const struct patch_node *node)
+{
+    struct file given[PARTS_MAX];
+    for (unsigned part = 0; part < node_kind(node->kind)->parts; part++) {
+        const struct type *output = &tree->nodes[node->part[part]].output;
+        text_add(text, part == 0 ? "its parts give " : " and ");
+        add_given_type(text, output, node->number);
+        given[part] = section_of(type_file(output));
+    }
+    if (node->number == WOSTHILE_FAULT_OUTPUTS_DIFFER) {
+        add_difference(text, given[0], given[1]);
+    }
+}
+
 /* Adds what is wrong at a node: it does not take its input, or what it carries, or what its parts give. */
 static void add_node_fault(struct text *text, const struct patch_tree *tree, struct within within)
 {
@@ -342,10 +408,12 @@ static void add_node_fault(struct text *text, const struct patch_tree *tree, str
     } else if (kind->parts == 0) {
         text_add(text, "its input is ");
         add_given_type(text, &node->input, node->number);
-    }
-    for (unsigned part = 0; node->takes_input && part < kind->parts; part++) {
-        text_add(text, part == 0 ? "its parts give " : " and ");
-        add_given_type(text, &tree->nodes[node->part[part]].output, node->number);
+        if (kind->carries_type) {
+            text_add(text, ", and it carries ");
+            add_given_type(text, &node->carried, node->number);
+        }
+    } else {
+        add_given_by_parts(text, tree, node);
     }
 }
 

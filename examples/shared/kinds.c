@@ -9,7 +9,12 @@
     }
 
 /* The kinds of types in the shape of an input. */
-enum { ANY = WOSTHILE_TYPE_EMPTY, SEQUENCE = WOSTHILE_TYPE_SEQUENCE, BESIDE = WOSTHILE_TYPE_BESIDE };
+enum {
+    ANY = WOSTHILE_TYPE_EMPTY,
+    SEQUENCE = WOSTHILE_TYPE_SEQUENCE,
+    BESIDE = WOSTHILE_TYPE_BESIDE,
+    EITHER = WOSTHILE_TYPE_EITHER
+};
 
 /* clang-format off */
 static const struct type_kind type_kinds[] = {
@@ -18,6 +23,7 @@ static const struct type_kind type_kinds[] = {
     [WOSTHILE_TYPE_LEVEL]    = {.name = "level"},
     [WOSTHILE_TYPE_SEQUENCE] = {.name = "sequence", .parts = 2, .between = "then"},
     [WOSTHILE_TYPE_BESIDE]   = {.name = "side by side", .parts = 2, .between = "beside"},
+    [WOSTHILE_TYPE_EITHER]   = {.name = "either", .parts = 2, .between = "or"},
 };
 
 static const struct slice_kind slice_kinds[] = {
@@ -29,6 +35,9 @@ static const struct slice_kind slice_kinds[] = {
     [WOSTHILE_SLICE_IN_FIRST]      = {"in first part", WOSTHILE_TYPE_SEQUENCE, .parts = 1, .part = {0}},
     [WOSTHILE_SLICE_CROSSED]       = {"crossed", WOSTHILE_TYPE_SEQUENCE, .parts = 2, .part = {0, 1}},
     [WOSTHILE_SLICE_BESIDE]        = {"side by side", WOSTHILE_TYPE_BESIDE, .parts = 2, .part = {0, 1}},
+    [WOSTHILE_SLICE_NONE_CHOSEN]   = {"none chosen", WOSTHILE_TYPE_EITHER, .parts = 0},
+    [WOSTHILE_SLICE_FIRST_CHOSEN]  = {"first chosen", WOSTHILE_TYPE_EITHER, .parts = 1, .part = {0}},
+    [WOSTHILE_SLICE_SECOND_CHOSEN] = {"second chosen", WOSTHILE_TYPE_EITHER, .parts = 1, .part = {1}},
 };
 
 static const struct node_kind node_kinds[] = {
@@ -49,6 +58,10 @@ static const struct node_kind node_kinds[] = {
     [WOSTHILE_NODE_REGROUP_LEFT]  = {.name = "regroup left", .takes = SHAPE(SEQUENCE, ANY, SEQUENCE, ANY, ANY)},
     [WOSTHILE_NODE_SPREAD]        = {.name = "spread", .takes = SHAPE(SEQUENCE, ANY, BESIDE, ANY, ANY)},
     [WOSTHILE_NODE_FRONT]         = {.name = "front", .takes = SHAPE(ANY)},
+    [WOSTHILE_NODE_CHOOSE] = {.name = "choose", .parts = 2, .input = {INPUT_FIRST, INPUT_SECOND},
+                              .takes = SHAPE(EITHER, ANY, ANY)},
+    [WOSTHILE_NODE_MARK_FIRST]  = {.name = "mark first", .carries_type = true, .takes = SHAPE(ANY)},
+    [WOSTHILE_NODE_MARK_SECOND] = {.name = "mark second", .carries_type = true, .takes = SHAPE(ANY)},
 };
 /* clang-format on */
 

@@ -17,7 +17,7 @@ struct patch_node {
     unsigned depth;         /* 0 for the root */
     size_t part[PARTS_MAX]; /* the nodes that are its parts, node_kind(kind)->parts of them */
     unsigned value;         /* of a level node */
-    struct type carried;    /* the type that a silent node carries */
+    struct type carried;    /* the type behind silent, mark first or mark second */
     struct type input;      /* length 0 where an earlier fault leaves it open */
     struct type output;     /* length 0 where the node is refused */
     uint32_t number;        /* what wosthile_check answers for the node on its input; 0 if its input is open */

@@ -1,5 +1,5 @@
 /*
- * Calls of Check, Admit, Left and Join through the header alone, each with the answer that document 01 gives for it.
+ * Calls of Check, Admit, Left and Join through the header alone, each with the answer that documents 01 and 02 give.
  * Every file is in memory of its exact size, where a sanitizer sees a byte too many. Every lent buffer is between two
  * margins, which show a byte written beside it: the archive itself has no sanitizer in it.
  */
@@ -36,6 +36,17 @@ static const struct check_row check_rows[] = {
     {"spread of larger parts", PATCH_OF((3, 3, 1, 1, 4, 2, 4, 0, 0), (13)), 0,
      FILE_OF(4, 3, 3, 1, 1, 2, 3, 3, 1, 1, 4, 0, 0)},
     {"front", PATCH_OF((4, 1, 2), (14)), 0, FILE_OF(3, 0, 4, 1, 2)},
+    {"pass on either", PATCH_OF((5, 1, 2), (0)), 0, FILE_OF(5, 1, 2)},
+    {"choose", PATCH_OF((5, 1, 2), (15, 0, 2)), 0, FILE_OF(1)},
+    {"choose, each on its part", PATCH_OF((5, 4, 1, 2, 3, 1, 2), (15, 6, 8)), 0, FILE_OF(2)},
+    {"choose, larger outputs", PATCH_OF((5, 4, 1, 2, 4, 2, 1), (15, 0, 4, 6, 5)), 0, FILE_OF(4, 1, 2)},
+    {"choose in choose, first part", PATCH_OF((5, 5, 1, 2, 1), (15, 15, 0, 2, 0)), 0, FILE_OF(1)},
+    {"choose in choose, second part", PATCH_OF((5, 1, 5, 2, 1), (15, 0, 15, 2, 0)), 0, FILE_OF(1)},
+    {"mark first", PATCH_OF((1), (16, 2)), 0, FILE_OF(5, 1, 2)},
+    {"mark second", PATCH_OF((1), (17, 2)), 0, FILE_OF(5, 2, 1)},
+    {"mark first, larger parts", PATCH_OF((3, 1, 2), (16, 4, 0, 1)), 0, FILE_OF(5, 3, 1, 2, 4, 0, 1)},
+    {"mark second, larger parts", PATCH_OF((3, 1, 2), (17, 4, 0, 1)), 0, FILE_OF(5, 4, 0, 1, 3, 1, 2)},
+    {"a choice handed on", PATCH_OF((5, 1, 2), (15, 16, 2, 17, 1)), 0, FILE_OF(5, 1, 2)},
 
     {"no file", NONE, 1, NONE},
     {"half a count", RAW(0), 1, NONE},
@@ -56,6 +67,10 @@ static const struct check_row check_rows[] = {
     {"level without its value", PATCH_OF((1), (3)), 1, NONE},
     {"level with half its value", PATCH_OF((1), (3, 1)), 1, NONE},
     {"the section ends before the byte behind it", RAW(0, 1, 1, 0, 2, 10, 0, 0), 1, NONE},
+    {"either with one part", PATCH_OF((5, 1), (0)), 1, NONE},
+    {"choose with one part", PATCH_OF((5, 1, 1), (15, 0)), 1, NONE},
+    {"mark first without its type", PATCH_OF((1), (16)), 1, NONE},
+    {"mark second with half its type", PATCH_OF((1), (17, 5, 1)), 1, NONE},
 
     {"unlisted type kind", PATCH_OF((200), (0)), 2, NONE},
     {"unlisted type kind before the next section", RAW(0, 1, 19, 0, 9), 2, NONE},
@@ -65,6 +80,7 @@ static const struct check_row check_rows[] = {
     {"a node kind in a carried type", PATCH_OF((1), (1, 14)), 2, NONE},
     {"unlisted kind before a byte behind", RAW(0, 1, 1, 0, 1, 77, 0), 2, NONE},
     {"the first fault from the left", PATCH_OF((1), (4, 19, 3, 1)), 2, NONE},
+    {"unlisted kind in what a mark carries", PATCH_OF((1), (16, 5, 0, 19)), 2, NONE},
 
     {"bytes after the type", PATCH_OF((1, 1), (0)), 3, NONE},
     {"bytes after the type are not looked at", PATCH_OF((1, 200), (0)), 3, NONE},
@@ -72,12 +88,16 @@ static const struct check_row check_rows[] = {
     {"bytes after the nodes", PATCH_OF((1), (0, 0)), 3, NONE},
     {"bytes after the nodes are not looked at", PATCH_OF((1), (0, 200)), 3, NONE},
     {"bytes after a carried type", PATCH_OF((1), (1, 0, 0)), 3, NONE},
+    {"bytes after what a mark carries", PATCH_OF((1), (17, 2, 0)), 3, NONE},
+    {"bytes after choose", PATCH_OF((5, 1, 1), (15, 0, 0, 0)), 3, NONE},
     {"bytes after the last section", RAW(0, 1, 1, 0, 1, 0, 0), 3, NONE},
 
     {"case 9, a silent that is not nullable", PATCH_OF((1), (1, 3, 0, 0)), 6, NONE},
     {"silent cue", PATCH_OF((1), (1, 1)), 6, NONE},
     {"silent level", PATCH_OF((1), (1, 2)), 6, NONE},
     {"silent, one side not nullable", PATCH_OF((1), (1, 4, 4, 0, 0, 1)), 6, NONE},
+    {"silent either", PATCH_OF((1), (1, 5, 0, 0)), 6, NONE},
+    {"silent, one side is an either", PATCH_OF((1), (1, 4, 0, 5, 0, 0)), 6, NONE},
 
     {"case 9, left on a sequence", PATCH_OF((3, 1, 1), (5)), 7, NONE},
     {"right on a cue", PATCH_OF((1), (6)), 7, NONE},
@@ -94,6 +114,35 @@ static const struct check_row check_rows[] = {
     {"spread, the second part is a sequence", PATCH_OF((3, 1, 3, 1, 1), (13)), 7, NONE},
     {"spread, only the first part is side by side", PATCH_OF((3, 4, 1, 1, 1), (13)), 7, NONE},
     {"the second of a chain takes what the first gives", PATCH_OF((3, 1, 1), (10, 7, 7)), 7, NONE},
+    {"choose on a cue", PATCH_OF((1), (15, 0, 0)), 7, NONE},
+    {"choose on a sequence", PATCH_OF((3, 1, 1), (15, 0, 0)), 7, NONE},
+    {"choose on side by side", PATCH_OF((4, 1, 1), (15, 0, 0)), 7, NONE},
+    {"left on either", PATCH_OF((5, 1, 1), (5)), 7, NONE},
+    {"right on either", PATCH_OF((5, 1, 1), (6)), 7, NONE},
+    {"first on either", PATCH_OF((5, 1, 1), (7)), 7, NONE},
+    {"second on either", PATCH_OF((5, 1, 1), (8)), 7, NONE},
+    {"then on either", PATCH_OF((5, 1, 1), (9, 0, 0)), 7, NONE},
+    {"regroup right, the first part is an either", PATCH_OF((3, 5, 1, 1, 1), (11)), 7, NONE},
+    {"regroup left, the second part is an either", PATCH_OF((3, 1, 5, 1, 1), (12)), 7, NONE},
+    {"spread, the second part is an either", PATCH_OF((3, 1, 5, 1, 1), (13)), 7, NONE},
+
+    {"choose, a cue and a level", PATCH_OF((5, 1, 2), (15, 0, 0)), 30, NONE},
+    {"choose, outputs of one size", PATCH_OF((5, 4, 1, 2, 4, 2, 1), (15, 0, 0)), 30, NONE},
+    {"choose, the last leaf differs", PATCH_OF((5, 4, 1, 1, 4, 1, 2), (15, 0, 0)), 30, NONE},
+    {"choose, a sequence and side by side", PATCH_OF((5, 3, 1, 1, 4, 1, 1), (15, 0, 0)), 30, NONE},
+    {"choose, the same leaves in other forks", PATCH_OF((5, 4, 4, 1, 1, 1, 4, 1, 4, 1, 1), (15, 0, 0)), 30, NONE},
+    {"choose, one output begins as the other", PATCH_OF((5, 1, 1), (15, 0, 4, 0, 0)), 30, NONE},
+    {"choose, the sides of a mark", PATCH_OF((5, 1, 2), (15, 16, 2, 16, 1)), 30, NONE},
+    {"choose, a fork of each kind", PATCH_OF((5, 1, 2), (15, 16, 2, 4, 2, 0)), 30, NONE},
+    {"reading before typing, 30", RAW(0, 3, 5, 1, 2, 0, 3, 15, 0, 0, 0), 3, NONE},
+    {"7 of the second before 30", PATCH_OF((5, 1, 2), (15, 0, 5)), 7, NONE},
+    {"6 of the second before 30", PATCH_OF((5, 1, 2), (15, 0, 1, 1)), 6, NONE},
+    {"30 of the second before 30", PATCH_OF((5, 1, 5, 1, 2), (15, 0, 15, 0, 0)), 30, NONE},
+    {"7 of choose before 6 of its first", PATCH_OF((4, 1, 1), (15, 1, 1, 0)), 7, NONE},
+    {"6 of the first before 7 of the second", PATCH_OF((5, 1, 1), (15, 1, 1, 5)), 6, NONE},
+    {"30 of the first before 7 of the second", PATCH_OF((5, 5, 1, 2, 1), (15, 15, 0, 0, 5)), 30, NONE},
+    {"30 of the first before 6 of a chain's second", PATCH_OF((5, 1, 2), (10, 15, 0, 0, 1, 1)), 30, NONE},
+    {"30 of the second of both", PATCH_OF((5, 1, 2), (4, 0, 15, 0, 0)), 30, NONE},
 
     {"reading before typing, 1", PATCH_OF((1), (10, 5)), 1, NONE},
     {"reading before typing, 2", PATCH_OF((1), (10, 5, 99)), 2, NONE},
@@ -129,6 +178,23 @@ static const struct admit_row admit_rows[] = {
     {"empty crossed to empty", FILE_OF(3, 0, 0), FILE_OF(6, 0, 0), {0, 1}},
     {"one side has come", FILE_OF(4, 1, 2), FILE_OF(7, 2, 3), {0, 0}},
     {"both sides have come", FILE_OF(4, 1, 2), FILE_OF(7, 2, 4, 1, 0), {0, 1}},
+    {"none chosen", FILE_OF(5, 1, 2), FILE_OF(8), {0, 0}},
+    {"first chosen, nothing has come", FILE_OF(5, 1, 2), FILE_OF(9, 1), {0, 0}},
+    {"first chosen, and it has come", FILE_OF(5, 1, 2), FILE_OF(9, 2), {0, 1}},
+    {"second chosen, nothing has come", FILE_OF(5, 1, 2), FILE_OF(10, 3), {0, 0}},
+    {"second chosen, and it has come", FILE_OF(5, 1, 2), FILE_OF(10, 4, 0, 0), {0, 1}},
+    {"either of empty and empty still owes its choice", FILE_OF(5, 0, 0), FILE_OF(8), {0, 0}},
+    {"empty chosen", FILE_OF(5, 0, 0), FILE_OF(9, 0), {0, 1}},
+    {"the other empty chosen", FILE_OF(5, 0, 0), FILE_OF(10, 0), {0, 1}},
+    {"a choice in a choice", FILE_OF(5, 5, 1, 2, 1), FILE_OF(9, 10, 4, 1, 1), {0, 1}},
+    {"none chosen in a choice", FILE_OF(5, 5, 1, 2, 1), FILE_OF(9, 8), {0, 0}},
+    {"the part behind a larger one is chosen", FILE_OF(5, 3, 4, 1, 2, 1, 2), FILE_OF(10, 3), {0, 0}},
+    {"a crossing in a choice", FILE_OF(5, 3, 1, 1, 2), FILE_OF(9, 6, 2, 2), {0, 1}},
+    {"a choice in a crossed first part", FILE_OF(3, 5, 1, 2, 1), FILE_OF(6, 9, 2, 1), {0, 0}},
+    {"a choice in a crossed first part, all has come", FILE_OF(3, 5, 1, 2, 1), FILE_OF(6, 10, 4, 0, 7, 2), {0, 1}},
+    {"none chosen in a crossed second part", FILE_OF(3, 1, 5, 1, 2), FILE_OF(6, 2, 8), {0, 0}},
+    {"one side chosen", FILE_OF(4, 5, 1, 2, 5, 1, 2), FILE_OF(7, 9, 2, 8), {0, 0}},
+    {"both sides chosen", FILE_OF(4, 5, 1, 2, 5, 1, 2), FILE_OF(7, 9, 2, 10, 4, 8, 9), {0, 1}},
 
     {"no type file", NONE, FILE_OF(1), {1, 0}},
     {"type file of one byte", RAW(0), FILE_OF(1), {1, 0}},
@@ -151,11 +217,17 @@ static const struct admit_row admit_rows[] = {
     {"slice tree cut short", FILE_OF(4, 1, 1), FILE_OF(7, 2), {11, 0}},
     {"level without its value", FILE_OF(2), FILE_OF(4), {11, 0}},
     {"level with half its value", FILE_OF(2), FILE_OF(4, 1), {11, 0}},
+    {"first chosen without its slice", FILE_OF(5, 1, 2), FILE_OF(9), {11, 0}},
+    {"second chosen without its slice", FILE_OF(5, 1, 2), FILE_OF(10), {11, 0}},
+    {"second chosen with half a value", FILE_OF(5, 1, 2), FILE_OF(10, 4, 1), {11, 0}},
     {"unlisted slice kind", FILE_OF(1), FILE_OF(200), {12, 0}},
     {"unlisted slice kind in a crossed first part", FILE_OF(3, 1, 1), FILE_OF(6, 15), {12, 0}},
+    {"unlisted slice kind of an either", FILE_OF(5, 1, 2), FILE_OF(15), {12, 0}},
+    {"unlisted slice kind of a chosen part", FILE_OF(5, 1, 2), FILE_OF(9, 15), {12, 0}},
     {"bytes after the slice", FILE_OF(1), FILE_OF(2, 1), {13, 0}},
     {"bytes after the slice are not looked at", FILE_OF(1), FILE_OF(2, 200), {13, 0}},
     {"bytes after the slice section", FILE_OF(1), RAW(0, 1, 2, 0), {13, 0}},
+    {"bytes after none chosen", FILE_OF(5, 1, 2), FILE_OF(8, 1), {13, 0}},
     {"case 7, a crossed first part that has not come", FILE_OF(3, 1, 1), FILE_OF(6, 1, 1), {14, 0}},
     {"level not yet in a crossed first part", FILE_OF(3, 2, 1), FILE_OF(6, 3, 1), {14, 0}},
     {"uncrossed in a crossed first part", FILE_OF(3, 3, 1, 1, 1), FILE_OF(6, 5, 2, 1), {14, 0}},
@@ -166,6 +238,18 @@ static const struct admit_row admit_rows[] = {
     {"a kind of another type", FILE_OF(1), FILE_OF(3), {14, 0}},
     {"the kind before its value", FILE_OF(1), FILE_OF(4, 1), {14, 0}},
     {"side by side on a sequence", FILE_OF(3, 1, 1), FILE_OF(7, 2, 1), {14, 0}},
+    {"none chosen of a cue", FILE_OF(1), FILE_OF(8), {14, 0}},
+    {"first chosen of empty", FILE_OF(0), FILE_OF(9, 0), {14, 0}},
+    {"second chosen of side by side", FILE_OF(4, 1, 1), FILE_OF(10, 1), {14, 0}},
+    {"in the first part of an either", FILE_OF(5, 1, 1), FILE_OF(5, 1), {14, 0}},
+    {"side by side on an either", FILE_OF(5, 1, 1), FILE_OF(7, 1, 1), {14, 0}},
+    {"a slice of a part without its mark", FILE_OF(5, 1, 1), FILE_OF(1), {14, 0}},
+    {"first chosen with a slice of the second", FILE_OF(5, 1, 2), FILE_OF(9, 3), {14, 0}},
+    {"second chosen with a slice of the first", FILE_OF(5, 1, 2), FILE_OF(10, 1), {14, 0}},
+    {"none chosen in a crossed first part", FILE_OF(3, 5, 1, 2, 1), FILE_OF(6, 8, 1), {14, 0}},
+    {"a choice alone in a crossed first part", FILE_OF(3, 5, 1, 2, 1), FILE_OF(6, 9, 1, 1), {14, 0}},
+    {"none chosen of empty in a crossed first part", FILE_OF(3, 5, 0, 0, 1), FILE_OF(6, 8, 1), {14, 0}},
+    {"none chosen at the byte, before the cut", FILE_OF(3, 5, 1, 2, 1), FILE_OF(6, 8), {14, 0}},
 };
 
 /* An operation that writes: Check of a patch, Left of a type and a slice, Join of a type and two slices. */
@@ -191,6 +275,25 @@ static const struct writing_row left_rows[] = {
     {"empty in sequence with empty", FILE_OF(3, 0, 0), FILE_OF(5, 0), NONE, 0, FILE_OF(3, 0, 0)},
     {"empty crossed to empty", FILE_OF(3, 0, 0), FILE_OF(6, 0, 0), NONE, 0, FILE_OF(0)},
     {"all has come side by side", FILE_OF(4, 1, 2), FILE_OF(7, 2, 4, 1, 0), NONE, 0, FILE_OF(4, 0, 0)},
+    {"none chosen", FILE_OF(5, 1, 2), FILE_OF(8), NONE, 0, FILE_OF(5, 1, 2)},
+    {"none of larger parts chosen", FILE_OF(5, 3, 1, 1, 4, 5, 1, 2, 0), FILE_OF(8), NONE, 0,
+     FILE_OF(5, 3, 1, 1, 4, 5, 1, 2, 0)},
+    {"first chosen", FILE_OF(5, 1, 2), FILE_OF(9, 1), NONE, 0, FILE_OF(1)},
+    {"first chosen, and it has come", FILE_OF(5, 1, 2), FILE_OF(9, 2), NONE, 0, FILE_OF(0)},
+    {"second chosen", FILE_OF(5, 1, 2), FILE_OF(10, 3), NONE, 0, FILE_OF(2)},
+    {"second chosen, and it has come", FILE_OF(5, 1, 2), FILE_OF(10, 4, 9, 9), NONE, 0, FILE_OF(0)},
+    {"first of larger parts", FILE_OF(5, 4, 1, 2, 3, 1, 1), FILE_OF(9, 7, 2, 3), NONE, 0, FILE_OF(4, 0, 2)},
+    {"second of larger parts", FILE_OF(5, 4, 1, 2, 3, 1, 1), FILE_OF(10, 5, 2), NONE, 0, FILE_OF(3, 0, 1)},
+    {"a choice in a choice", FILE_OF(5, 5, 1, 2, 1), FILE_OF(9, 10, 3), NONE, 0, FILE_OF(2)},
+    {"none chosen in a choice", FILE_OF(5, 1, 5, 1, 2), FILE_OF(10, 8), NONE, 0, FILE_OF(5, 1, 2)},
+    {"none chosen in a first part", FILE_OF(3, 5, 1, 2, 1), FILE_OF(5, 8), NONE, 0, FILE_OF(3, 5, 1, 2, 1)},
+    {"a choice in a first part", FILE_OF(3, 5, 1, 2, 1), FILE_OF(5, 9, 1), NONE, 0, FILE_OF(3, 1, 1)},
+    {"none chosen in a second part", FILE_OF(3, 1, 5, 4, 1, 2, 1), FILE_OF(6, 2, 8), NONE, 0, FILE_OF(5, 4, 1, 2, 1)},
+    {"a choice in a crossed first part", FILE_OF(3, 5, 1, 2, 4, 1, 1), FILE_OF(6, 10, 4, 0, 7, 7, 2, 1), NONE, 0,
+     FILE_OF(4, 0, 1)},
+    {"sides of which one is chosen", FILE_OF(4, 5, 1, 2, 5, 2, 1), FILE_OF(7, 8, 10, 1), NONE, 0,
+     FILE_OF(4, 5, 1, 2, 1)},
+    {"first chosen of a cue", FILE_OF(1), FILE_OF(9, 1), NONE, 14, NONE},
     {"type cut short", FILE_OF(3, 1), FILE_OF(5, 2), NONE, 1, NONE},
     {"unlisted type kind", FILE_OF(19), FILE_OF(1), NONE, 2, NONE},
     {"bytes after the type", FILE_OF(1, 0), FILE_OF(1), NONE, 3, NONE},
@@ -217,6 +320,22 @@ static const struct writing_row join_rows[] = {
     {"the crossing of empty", FILE_OF(3, 0, 0), FILE_OF(5, 0), FILE_OF(6, 0, 0), 0, FILE_OF(6, 0, 0)},
     {"crossed inside the first part", FILE_OF(3, 3, 1, 1, 2), FILE_OF(5, 6, 2, 1), FILE_OF(6, 2, 4, 7, 8), 0,
      FILE_OF(6, 6, 2, 2, 4, 7, 8)},
+    {"8 with 8", FILE_OF(5, 1, 2), FILE_OF(8), FILE_OF(8), 0, FILE_OF(8)},
+    {"8 with 9", FILE_OF(5, 1, 2), FILE_OF(8), FILE_OF(9, 1), 0, FILE_OF(9, 1)},
+    {"8 with 10", FILE_OF(5, 1, 2), FILE_OF(8), FILE_OF(10, 4, 1, 2), 0, FILE_OF(10, 4, 1, 2)},
+    {"9 with what follows", FILE_OF(5, 1, 2), FILE_OF(9, 1), FILE_OF(2), 0, FILE_OF(9, 2)},
+    {"9 with nothing new", FILE_OF(5, 1, 2), FILE_OF(9, 2), FILE_OF(0), 0, FILE_OF(9, 2)},
+    {"10 with what follows", FILE_OF(5, 1, 2), FILE_OF(10, 3), FILE_OF(4, 1, 2), 0, FILE_OF(10, 4, 1, 2)},
+    {"9 of a sequence", FILE_OF(5, 3, 1, 1, 2), FILE_OF(9, 5, 1), FILE_OF(6, 2, 1), 0, FILE_OF(9, 6, 2, 1)},
+    {"10 of a choice", FILE_OF(5, 1, 5, 1, 2), FILE_OF(10, 8), FILE_OF(10, 3), 0, FILE_OF(10, 10, 3)},
+    {"10 of 9 with what follows", FILE_OF(5, 1, 5, 1, 2), FILE_OF(10, 9, 1), FILE_OF(2), 0, FILE_OF(10, 9, 2)},
+    {"8 in a crossed first part", FILE_OF(3, 5, 1, 2, 1), FILE_OF(5, 8), FILE_OF(6, 10, 4, 0, 7, 1), 0,
+     FILE_OF(6, 10, 4, 0, 7, 1)},
+    {"9 in a crossed first part", FILE_OF(3, 5, 1, 2, 1), FILE_OF(5, 9, 1), FILE_OF(6, 2, 2), 0, FILE_OF(6, 9, 2, 2)},
+    {"8 in a second part", FILE_OF(3, 1, 5, 1, 2), FILE_OF(6, 2, 8), FILE_OF(9, 2), 0, FILE_OF(6, 2, 9, 2)},
+    {"9 in a second part", FILE_OF(3, 1, 5, 1, 2), FILE_OF(6, 2, 9, 1), FILE_OF(2), 0, FILE_OF(6, 2, 9, 2)},
+    {"8 and 9 side by side", FILE_OF(4, 5, 1, 2, 5, 1, 2), FILE_OF(7, 8, 9, 1), FILE_OF(7, 10, 3, 2), 0,
+     FILE_OF(7, 10, 3, 9, 2)},
     {"type too short", NONE, FILE_OF(1), FILE_OF(1), 1, NONE},
     {"unlisted type kind", FILE_OF(200), FILE_OF(1), FILE_OF(1), 2, NONE},
     {"bytes after the type section", RAW(0, 1, 1, 1), FILE_OF(1), FILE_OF(1), 3, NONE},
@@ -229,6 +348,11 @@ static const struct writing_row join_rows[] = {
     {"second slice is of what is left", FILE_OF(3, 1, 1), FILE_OF(5, 2), FILE_OF(6, 2, 1), 14, NONE},
     {"nothing of the first part is left", FILE_OF(3, 1, 1), FILE_OF(6, 2, 1), FILE_OF(6, 0, 1), 14, NONE},
     {"a cue comes once", FILE_OF(1), FILE_OF(2), FILE_OF(2), 14, NONE},
+    {"a choice comes once", FILE_OF(5, 1, 2), FILE_OF(9, 1), FILE_OF(9, 2), 14, NONE},
+    {"a choice does not change", FILE_OF(5, 1, 2), FILE_OF(9, 1), FILE_OF(10, 3), 14, NONE},
+    {"a choice is not taken back", FILE_OF(5, 1, 2), FILE_OF(10, 3), FILE_OF(8), 14, NONE},
+    {"after 8 a part needs its mark", FILE_OF(5, 1, 2), FILE_OF(8), FILE_OF(2), 14, NONE},
+    {"an unlisted kind after a choice", FILE_OF(5, 1, 2), FILE_OF(9, 1), FILE_OF(15), 12, NONE},
 };
 
 static void check_admit(const struct admit_row *row)
@@ -399,6 +523,42 @@ static const struct limit_row limit_rows[] = {
     {"4 of both inside before 6 of the second", LANES(127), SECTION(4, 4, 0, 0, 1, 1), 4, NO_SECTION},
     {"7 of the second before 4 of then", {RAW(3, 1), RAW(4, 1), 126, RAW(1)}, SECTION(9, 14, 7), 7, NO_SECTION},
     {"7 of then before 4 of its part", LANES(127), SECTION(9, 14, 0), 7, NO_SECTION},
+
+    {"63 nodes of choose", {NONE, RAW(5, 1), 31, RAW(1)}, {NONE, RAW(15, 0), 31, RAW(0)}, 0, SECTION(1)},
+    {"65 nodes of choose", {NONE, RAW(5, 1), 32, RAW(1)}, {NONE, RAW(15, 0), 32, RAW(0)}, 5, NO_SECTION},
+    {"30 of the deepest choose", {NONE, RAW(5, 1), 31, RAW(2)}, {NONE, RAW(15, 0), 31, RAW(0)}, 30, NO_SECTION},
+    {"either of 255", {NONE, RAW(5, 1), 127, RAW(1)}, SECTION(0), 0, {NONE, RAW(5, 1), 127, RAW(1)}},
+    {"either of 257", {NONE, RAW(5, 1), 128, RAW(1)}, SECTION(0), 4, NO_SECTION},
+    {"mark first gives 255", LANES(126), SECTION(16, 1), 0, {RAW(5), RAW(4, 1), 126, RAW(1, 1)}},
+    {"mark first gives 257", LANES(127), SECTION(16, 1), 4, NO_SECTION},
+    {"mark second gives 255", LANES(126), SECTION(17, 1), 0, {RAW(5, 1), RAW(4, 1), 126, RAW(1)}},
+    {"mark second gives 257", LANES(127), SECTION(17, 1), 4, NO_SECTION},
+    {"a mark carries 253", SECTION(1), {RAW(17), RAW(4, 1), 126, RAW(1)}, 0, {RAW(5), RAW(4, 1), 126, RAW(1, 1)}},
+    {"a mark carries 255", SECTION(1), {RAW(16), RAW(4, 1), 127, RAW(1)}, 4, NO_SECTION},
+    {"a mark carries 257", SECTION(1), {RAW(16), RAW(4, 1), 128, RAW(1)}, 4, NO_SECTION},
+    {"what a mark carries needs a 256th", SECTION(1), {RAW(17), RAW(4, 1), 127, RAW(4)}, 4, NO_SECTION},
+    {"what a mark carries is read before 30",
+     SECTION(5, 1, 2),
+     {RAW(4, 15, 0, 0, 16), RAW(4, 1), 128, RAW(1)},
+     4,
+     NO_SECTION},
+    {"30 before 4 of both", SECTION(5, 1, 2), {RAW(4, 1), RAW(4, 0), 127, RAW(0, 15, 0, 0)}, 30, NO_SECTION},
+    {"4 of both, above choose", SECTION(5, 1, 2), {RAW(4, 1), RAW(4, 0), 127, RAW(0, 15, 2, 2)}, 4, NO_SECTION},
+    {"4 of the first of choose before 7 of the second",
+     {RAW(5), RAW(4, 1), 126, RAW(1, 1)},
+     SECTION(15, 4, 0, 0, 5),
+     4,
+     NO_SECTION},
+    {"4 of the second of choose before 30",
+     {RAW(5, 1), RAW(4, 1), 126, RAW(1)},
+     SECTION(15, 0, 4, 0, 0),
+     4,
+     NO_SECTION},
+    {"4 of both inside choose, equal outputs",
+     {RAW(5), RAW(4, 1), 126, RAW(1, 1)},
+     SECTION(15, 10, 4, 0, 0, 2, 0),
+     4,
+     NO_SECTION},
 };
 
 /* Check of the patch with these two sections; releases both, and the answer. */
@@ -433,6 +593,20 @@ static void check_longest_patch(void)
     check_sections("the longest patch file", type, nodes, 0, repeated(empty_lane, 127, empty));
     check_sections("a silent too many", repeated(lane, 127, cue), repeated(each, 32, end), 5, none);
     struct bytes files[] = {link, last};
+    release(files, sizeof files / sizeof files[0]);
+}
+
+/* Choose with two marks, each of which carries 253 nodes that end in this leaf, so that both outputs have 255. */
+static void check_large_outputs(const char *name, struct bytes first_leaf, struct bytes second_leaf, uint32_t number)
+{
+    const struct bytes choose_mark = RAW(15, 16), mark = RAW(16), lane = RAW(4, 1), type = FILE_OF(5, 1, 1);
+    const struct bytes either_cue = RAW(5, 1), none = NONE;
+    struct bytes first = file_of((struct section){choose_mark, lane, 126, first_leaf});
+    struct bytes second = file_of((struct section){mark, lane, 126, second_leaf});
+    const struct bytes front = {first.at + 2, first.count - 2}, back = {second.at + 2, second.count - 2};
+    struct bytes answer = number == 0 ? file_of((struct section){either_cue, lane, 126, first_leaf}) : none;
+    check_sections(name, lengthened(type, type.count), file_of((struct section){front, none, 0, back}), number, answer);
+    struct bytes files[] = {first, second};
     release(files, sizeof files / sizeof files[0]);
 }
 
@@ -525,6 +699,9 @@ int main(void)
     for (size_t row = 0; row < sizeof join_rows / sizeof join_rows[0]; row++) {
         check_writing(JOIN, &join_rows[row]);
     }
+    const struct bytes cue = RAW(1), level = RAW(2);
+    check_large_outputs("choose, both give 255 nodes", level, level, 0);
+    check_large_outputs("choose, the last of 255 nodes differs", cue, level, 30);
     check_longest_patch();
     check_long_patches();
     check_limit();

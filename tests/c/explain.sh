@@ -70,9 +70,9 @@ explains_each_number() {
         refused 1 'byte 3: the patch ends where a section is due' --patch '0 1 1' &&
         refused 1 'byte 3: the count promises 2 bytes, and 1 follows' --patch '0 1 1 0 2 0' &&
         refused 1 'byte 7: the section ends, and its tree of nodes needs another byte' --patch '0 1 1 0 2 4 0' &&
-        refused 2 'byte 4, behind lane 1: kind 7 is not listed here; 0 to 4 are' --patch '0 3 3 1 7 0 1 0' &&
-        refused 2 'byte 6: kind 99 is not listed here; 0 to 14 are' --patch '0 1 1 0 3 4 99 0' &&
-        refused 2 'byte 7: kind 5 is not listed here; 0 to 4 are' --patch '0 1 1 0 4 1 4 5 0' &&
+        refused 2 'byte 4, behind lane 1: kind 77 is not listed here; 0 to 5 are' --patch '0 3 3 1 77 0 1 0' &&
+        refused 2 'byte 6: kind 99 is not listed here; 0 to 17 are' --patch '0 1 1 0 3 4 99 0' &&
+        refused 2 'byte 7: kind 55 is not listed here; 0 to 5 are' --patch '0 1 1 0 4 1 4 55 0' &&
         refused 3 'byte 3, behind lane 1: the tree is whole, and 2 bytes of its section follow it' --type '0 3 1 1 1' &&
         refused 3 'byte 3: the last section ends, and 1 byte follows it' --type '0 1 1 1' &&
         refused 3 'byte 6: the tree is whole, and 1 byte of its section follows it' --patch '0 1 1 0 2 5 0' &&
@@ -86,7 +86,33 @@ explains_each_number() {
         refused 6 'byte 6, node silent: it carries empty then empty' --patch '0 1 1 0 6 4 1 3 0 0 0' &&
         refused 7 'byte 9, node left: it takes s beside t, and its input is cue' --patch '0 3 3 1 1 0 3 9 0 5' &&
         refused 7 'byte 5, node spread: it takes s then (t beside r), and its input is cue' --patch '0 1 1 0 1 13' &&
-        explains_each_slice_number
+        explains_each_slice_number && explains_choices
+}
+
+# The two types of choose, and where they first differ; the type that a mark carries; choices in slices.
+explains_choices() {
+    local type='0 5 3 5 1 2 1' # a cue or a level, and then a cue
+    refused 30 'byte 7, node choose: its parts give cue and level' --patch '0 3 5 1 2 0 3 15 0 0' &&
+        refused 30 'byte 14, node choose: its parts give cue beside level and cue beside (cue then cue); these first differ at their lane 2: level in the first, cue then cue in the second' \
+            --patch '0 9 5 4 1 2 4 1 3 1 1 0 5 10 15 0 0 0' &&
+        refused 7 'byte 5, node choose: it takes s or t, and its input is cue' --patch '0 1 1 0 3 15 0 0' &&
+        refused 4 'byte 5, node mark first: its input is a type of 1 node, and it carries a type of 255 nodes' \
+            --patch "0 1 1 1 0 16 $(times 127 '4 1') 1" &&
+        refused 12 'byte 3, lanes 1 to 2: kind 99 (not listed) where 8 to 10 (either) is due' --slice "$type" '0 3 5 99 1' &&
+        refused 14 'byte 3, lanes 1 to 2: kind 8 (none chosen) where 9 or 10 (either) is due; the first part of a crossing has to be complete' \
+            --slice "$type" '0 3 6 8 1' &&
+        refused 14 'byte 4, lane 1: kind 3 (level awaited) where 1 or 2 (cue) is due' --slice "$type" '0 3 5 9 3' &&
+        refused 14 'byte 2, lane 1: kind 8 (none chosen) where 1 or 2 (cue) is due' --slice '0 1 1' '0 1 8' &&
+        explains 0 --slice "$type" '0 5 5 10 4 1 44' && grep -qx ' *3    10 second chosen  *lanes 1 to 2' "$folder/out" &&
+        explains 0 --patch '0 1 1 0 2 17 2' && grep -qx ' *carries level' "$folder/out" &&
+        grep -qx ' *gives level or cue' "$folder/out" && explains_second_choice
+}
+
+# A show that chooses twice: in its second frame the choice has come already.
+explains_second_choice() {
+    printf '\0\10\0\3\5\1\2\0\1\0\0\4\0\2\11\1\0\4\0\2\12\3' >"$folder/twice.show"
+    explains 1 "$folder/twice.show" &&
+        grep -qF 'kind 10 (second chosen) where 1 or 2 (cue) is due; its choice has come already' "$folder/out"
 }
 
 explains_each_slice_number() {
@@ -107,7 +133,7 @@ explains_each_slice_number() {
         refused 14 "byte 5, lane 2: kind 0 (nothing) where 4 (level come) is due; $not_come" --slice "$type" '0 5 7 1 6 0 1' &&
         refused 14 'byte 4, lanes 2 to 3: kind 0 (nothing) where 5 or 6 (sequence) is due' --slice "$type" '0 3 7 1 0' &&
         refused 14 'byte 2, lanes 1 to 3: kind 5 (in first part) where 7 (side by side) is due' --slice "$type" '0 2 5 1' &&
-        refused 2 'byte 2: kind 9 is not listed here; 0 to 4 are' --slice '0 1 9' '0 1 0'
+        refused 2 'byte 2: kind 99 is not listed here; 0 to 5 are' --slice '0 1 99' '0 1 0'
 }
 
 # Where a count in a show is wrong, its file's length may be, and is told with its place. Each show is a patch of a cue

@@ -322,7 +322,7 @@ static void try_one_byte(struct subject subject)
 {
     static struct patch_tree tree;
     size_t length = subject.file.length - subject.begins - 2, place = subject.begins + 2 + draw((unsigned)length);
-    subject.file.bytes[place] = (uint8_t)(draw(2) == 0 ? draw(256) : draw(16));
+    subject.file.bytes[place] = (uint8_t)(draw(2) == 0 ? draw(256) : draw(20));
     struct fault fault = fault_of(&subject, &tree);
     bool reading = fault.number != WOSTHILE_ACCEPTED && fault.at != AT_NODE;
     expect(!reading || (fault.byte >= place && fault.section == subject.begins), "a fault before the damage",
@@ -369,9 +369,12 @@ struct repeated {
 static const struct repeated large_trees[] = {
     {TYPE, {WOSTHILE_TYPE_BESIDE, WOSTHILE_TYPE_CUE}, 2, 200},
     {TYPE, {WOSTHILE_TYPE_SEQUENCE}, 1, 300},
+    {TYPE, {WOSTHILE_TYPE_EITHER, WOSTHILE_TYPE_CUE}, 2, 200},
     {NODES, {WOSTHILE_NODE_SILENT, WOSTHILE_TYPE_BESIDE}, 2, 1},
+    {NODES, {WOSTHILE_NODE_MARK_FIRST, WOSTHILE_TYPE_EITHER}, 2, 1},
     {NODES, {WOSTHILE_NODE_CHAIN, WOSTHILE_NODE_PASS}, 2, 40},
     {NODES, {WOSTHILE_NODE_BOTH}, 1, 70},
+    {NODES, {WOSTHILE_NODE_CHOOSE}, 1, 70},
     {NODES, {WOSTHILE_NODE_CHAIN, WOSTHILE_NODE_BOTH, WOSTHILE_NODE_PASS, WOSTHILE_NODE_PASS}, 4, 9},
     {NODES, {WOSTHILE_NODE_CHAIN, WOSTHILE_NODE_FRONT, WOSTHILE_NODE_BOTH, WOSTHILE_NODE_PASS}, 4, 9},
 };
@@ -413,7 +416,7 @@ static void expect_met(const char *what, const size_t *met, const uint8_t *due, 
 
 static void expect_all_met(void)
 {
-    static const uint8_t numbers[] = {0, 1, 2, 3, 4, 5, 6, 7, 11, 12, 13, 14};
+    static const uint8_t numbers[] = {0, 1, 2, 3, 4, 5, 6, 7, 11, 12, 13, 14, 30};
     static const uint8_t places[] = {AT_CUT_COUNT, AT_LARGE_COUNT, AT_SECTION_END, AT_BYTE, AT_BEHIND, AT_NODE};
     expect_met("a number was not met", met_numbers, numbers, sizeof numbers);
     expect_met("a place was not met", met_places, places, sizeof places);

@@ -1,7 +1,7 @@
 /*
- * Calls of Feed through the header alone, each with the answer that document 01 gives for it: single feeds with every
- * length of either buffer, and a run of feeds with two patch buffers. Files and buffers are as in cases.c: in memory
- * of their exact size, and between margins.
+ * Calls of Feed through the header alone, each with the answer that documents 01 and 02 give for it: single feeds with
+ * every length of either buffer, and runs of feeds with two patch buffers. Files and buffers are as in cases.c: in
+ * memory of their exact size, and between margins.
  */
 #include "bytes.h"
 
@@ -77,6 +77,79 @@ static const struct feed_row node_rows[] = {
     {"front", PATCH_OF((4, 1, 2), (14)), FILE_OF(7, 2, 3), 0, FILE_OF(6, 0, 7, 2, 3), PATCH_OF((4, 0, 2), (0))},
 };
 
+/* The same where there is a choice, in the type or in what is sent. */
+static const struct feed_row choice_rows[] = {
+    {"choose, none chosen", PATCH_OF((5, 1, 2), (15, 0, 2)), FILE_OF(8), 0, FILE_OF(1),
+     PATCH_OF((5, 1, 2), (15, 0, 2))},
+    {"choose, first chosen", PATCH_OF((5, 1, 2), (15, 0, 2)), FILE_OF(9, 1), 0, FILE_OF(1), PATCH_OF((1), (0))},
+    {"choose, first chosen and come", PATCH_OF((5, 1, 2), (15, 0, 2)), FILE_OF(9, 2), 0, FILE_OF(2),
+     PATCH_OF((0), (0))},
+    {"choose, second chosen", PATCH_OF((5, 1, 2), (15, 0, 2)), FILE_OF(10, 3), 0, FILE_OF(2), PATCH_OF((2), (1, 0))},
+    {"choose, none of larger parts chosen", PATCH_OF((5, 4, 1, 2, 4, 2, 1), (15, 0, 4, 6, 5)), FILE_OF(8), 0,
+     FILE_OF(7, 1, 3), PATCH_OF((5, 4, 1, 2, 4, 2, 1), (15, 0, 4, 6, 5))},
+    {"choose, first of larger parts", PATCH_OF((5, 4, 1, 2, 4, 2, 1), (15, 0, 4, 6, 5)), FILE_OF(9, 7, 2, 3), 0,
+     FILE_OF(7, 2, 3), PATCH_OF((4, 0, 2), (0))},
+    {"choose, second of larger parts", PATCH_OF((5, 4, 1, 2, 4, 2, 1), (15, 0, 4, 6, 5)), FILE_OF(10, 7, 4, 1, 2, 1), 0,
+     FILE_OF(7, 1, 4, 1, 2), PATCH_OF((4, 0, 1), (4, 6, 5))},
+    {"choose, none chosen, a sequence is due", PATCH_OF((5, 1, 1), (15, 14, 14)), FILE_OF(8), 0, FILE_OF(5, 0),
+     PATCH_OF((5, 1, 1), (15, 14, 14))},
+    {"choose, none chosen, nothing is due", PATCH_OF((5, 1, 2), (15, 1, 4, 0, 0, 1, 4, 0, 0)), FILE_OF(8), 0,
+     FILE_OF(7, 0, 0), PATCH_OF((5, 1, 2), (15, 1, 4, 0, 0, 1, 4, 0, 0))},
+    {"choose, a node that has not been fed", PATCH_OF((5, 1, 1), (15, 2, 0)), FILE_OF(8), 0, FILE_OF(1),
+     PATCH_OF((5, 1, 1), (15, 2, 0))},
+    {"choose in choose, none chosen", PATCH_OF((5, 5, 1, 2, 1), (15, 15, 0, 2, 0)), FILE_OF(9, 8), 0, FILE_OF(1),
+     PATCH_OF((5, 1, 2), (15, 0, 2))},
+    {"choose in choose, chosen", PATCH_OF((5, 1, 5, 1, 2), (15, 0, 15, 0, 2)), FILE_OF(10, 10, 3), 0, FILE_OF(2),
+     PATCH_OF((2), (1, 0))},
+    {"mark first, nothing has come", PATCH_OF((1), (16, 2)), FILE_OF(1), 0, FILE_OF(9, 1), PATCH_OF((1), (0))},
+    {"mark first", PATCH_OF((1), (16, 2)), FILE_OF(2), 0, FILE_OF(9, 2), PATCH_OF((0), (0))},
+    {"mark second, nothing has come", PATCH_OF((1), (17, 2)), FILE_OF(1), 0, FILE_OF(10, 1), PATCH_OF((1), (0))},
+    {"mark second of larger parts", PATCH_OF((4, 1, 2), (17, 3, 1, 1)), FILE_OF(7, 2, 3), 0, FILE_OF(10, 7, 2, 3),
+     PATCH_OF((4, 0, 2), (0))},
+    {"mark of a choice", PATCH_OF((5, 1, 2), (16, 0)), FILE_OF(8), 0, FILE_OF(9, 8), PATCH_OF((5, 1, 2), (0))},
+    {"a choice handed on, none chosen", PATCH_OF((5, 1, 2), (15, 16, 2, 17, 1)), FILE_OF(8), 0, FILE_OF(8),
+     PATCH_OF((5, 1, 2), (15, 16, 2, 17, 1))},
+    {"a choice handed on, first chosen", PATCH_OF((5, 1, 2), (15, 16, 2, 17, 1)), FILE_OF(9, 2), 0, FILE_OF(9, 2),
+     PATCH_OF((0), (0))},
+    {"a choice handed on, second chosen", PATCH_OF((5, 1, 2), (15, 16, 2, 17, 1)), FILE_OF(10, 3), 0, FILE_OF(10, 3),
+     PATCH_OF((2), (0))},
+
+    {"pass, none chosen", PATCH_OF((5, 1, 2), (0)), FILE_OF(8), 0, FILE_OF(8), PATCH_OF((5, 1, 2), (0))},
+    {"pass, second chosen", PATCH_OF((5, 1, 2), (0)), FILE_OF(10, 3), 0, FILE_OF(10, 3), PATCH_OF((2), (0))},
+    {"cue, none chosen", PATCH_OF((5, 1, 2), (2)), FILE_OF(8), 0, FILE_OF(2), PATCH_OF((5, 1, 2), (1, 0))},
+    {"both, each on the choice", PATCH_OF((5, 1, 2), (4, 15, 0, 2, 0)), FILE_OF(9, 2), 0, FILE_OF(7, 2, 9, 2),
+     PATCH_OF((0), (4, 0, 0))},
+    {"left of a choice", PATCH_OF((4, 5, 1, 2, 1), (5)), FILE_OF(7, 9, 1, 2), 0, FILE_OF(9, 1),
+     PATCH_OF((4, 1, 0), (5))},
+    {"right beside a choice", PATCH_OF((4, 5, 1, 2, 1), (6)), FILE_OF(7, 10, 4, 1, 2, 2), 0, FILE_OF(2),
+     PATCH_OF((4, 0, 0), (6))},
+    {"first, a choice that is crossed", PATCH_OF((3, 5, 4, 1, 1, 2, 1), (7)), FILE_OF(6, 9, 7, 2, 2, 1), 0,
+     FILE_OF(9, 7, 2, 2), PATCH_OF((1), (1, 4, 0, 0))},
+    {"second waits for a choice", PATCH_OF((3, 1, 5, 1, 2), (8)), FILE_OF(5, 2), 0, FILE_OF(8),
+     PATCH_OF((3, 0, 5, 1, 2), (8))},
+    {"second, a choice that is crossed", PATCH_OF((3, 5, 1, 2, 1), (8)), FILE_OF(6, 10, 4, 0, 7, 2), 0, FILE_OF(2),
+     PATCH_OF((0), (0))},
+    {"then, crossed, none chosen", PATCH_OF((3, 1, 5, 1, 2), (9, 0, 15, 0, 2)), FILE_OF(6, 2, 8), 0, FILE_OF(6, 2, 1),
+     PATCH_OF((5, 1, 2), (15, 0, 2))},
+    {"then, crossed and chosen", PATCH_OF((3, 1, 5, 1, 2), (9, 0, 15, 0, 2)), FILE_OF(6, 2, 10, 3), 0, FILE_OF(6, 2, 2),
+     PATCH_OF((2), (1, 0))},
+    {"then, chosen in its first part", PATCH_OF((3, 5, 1, 2, 1), (9, 15, 0, 2, 0)), FILE_OF(5, 10, 3), 0, FILE_OF(5, 2),
+     PATCH_OF((3, 2, 1), (9, 1, 0, 0))},
+    {"chain, a mark is chosen", PATCH_OF((1), (10, 16, 2, 15, 0, 2)), FILE_OF(1), 0, FILE_OF(1),
+     PATCH_OF((1), (10, 0, 0))},
+    {"chain, the other mark is chosen", PATCH_OF((1), (10, 17, 2, 15, 2, 0)), FILE_OF(2), 0, FILE_OF(2),
+     PATCH_OF((0), (10, 0, 0))},
+    {"chain behind choose, none chosen", PATCH_OF((5, 1, 1), (10, 15, 14, 14, 8)), FILE_OF(8), 0, FILE_OF(1),
+     PATCH_OF((5, 1, 1), (10, 15, 14, 14, 8))},
+    {"regroup right, choices", PATCH_OF((3, 3, 5, 1, 2, 1, 5, 1, 2), (11)), FILE_OF(6, 6, 9, 2, 2, 8), 0,
+     FILE_OF(6, 9, 2, 6, 2, 8), PATCH_OF((5, 1, 2), (0))},
+    {"regroup left, choices", PATCH_OF((3, 5, 1, 2, 3, 1, 1), (12)), FILE_OF(6, 10, 4, 1, 2, 5, 1), 0,
+     FILE_OF(5, 6, 10, 4, 1, 2, 1), PATCH_OF((3, 1, 1), (0))},
+    {"spread, choices", PATCH_OF((3, 5, 1, 2, 4, 5, 1, 2, 1), (13)), FILE_OF(6, 9, 2, 7, 10, 3, 1), 0,
+     FILE_OF(7, 6, 9, 2, 10, 3, 6, 9, 2, 1), PATCH_OF((4, 2, 1), (0))},
+    {"front of a choice", PATCH_OF((5, 1, 2), (14)), FILE_OF(9, 1), 0, FILE_OF(6, 0, 9, 1), PATCH_OF((1), (0))},
+};
+
 /* Every number of a refusal, and which comes first. */
 static const struct feed_row refused_rows[] = {
     {"no patch", NONE, FILE_OF(1), 1, NONE, NONE},
@@ -98,11 +171,21 @@ static const struct feed_row refused_rows[] = {
     {"a cue comes once", PATCH_OF((0), (10, 0, 0)), FILE_OF(2), 14, NONE, NONE},
     {"case 7, a crossed first part that has not come", PATCH_OF((3, 1, 1), (0)), FILE_OF(6, 1, 1), 14, NONE, NONE},
     {"a slice that silent does not look at", PATCH_OF((3, 1, 1), (1, 0)), FILE_OF(7, 1, 1), 14, NONE, NONE},
+    {"choose on a sequence", PATCH_OF((3, 1, 1), (15, 0, 0)), FILE_OF(5, 1), 7, NONE, NONE},
+    {"choose's outputs differ", PATCH_OF((5, 1, 2), (15, 0, 0)), FILE_OF(8), 30, NONE, NONE},
+    {"choose's outputs differ, first chosen", PATCH_OF((5, 1, 2), (15, 0, 0)), FILE_OF(9, 1), 30, NONE, NONE},
+    {"outputs differ where the slice does not reach", PATCH_OF((3, 1, 5, 1, 2), (9, 0, 15, 0, 0)), FILE_OF(5, 1), 30,
+     NONE, NONE},
+    {"the part that is not chosen has a wrong shape", PATCH_OF((5, 1, 1), (15, 0, 5)), FILE_OF(9, 1), 7, NONE, NONE},
+    {"a slice of a part without its mark", PATCH_OF((5, 1, 2), (15, 0, 2)), FILE_OF(1), 14, NONE, NONE},
+    {"a choice comes once", PATCH_OF((1), (0)), FILE_OF(9, 1), 14, NONE, NONE},
+    {"an unlisted kind of an either", PATCH_OF((5, 1, 2), (15, 0, 2)), FILE_OF(15), 12, NONE, NONE},
 
     {"reading the patch before the slice", PATCH_OF((1), (19)), FILE_OF(200), 2, NONE, NONE},
     {"typing the patch before the slice, 7", PATCH_OF((1), (5)), FILE_OF(200), 7, NONE, NONE},
     {"typing the patch before the slice, 6", PATCH_OF((1), (1, 1)), NONE, 6, NONE, NONE},
     {"the patch before no slice", PATCH_OF((1), (0, 0)), NONE, 3, NONE, NONE},
+    {"typing the patch before the slice, 30", PATCH_OF((5, 1, 2), (15, 0, 0)), FILE_OF(200), 30, NONE, NONE},
     {"the first fault of the slice, 14 and then 12", PATCH_OF((4, 1, 1), (0)), FILE_OF(7, 5, 200), 14, NONE, NONE},
     {"the first fault of the slice, 12 and then 14", PATCH_OF((4, 1, 1), (0)), FILE_OF(7, 200, 5), 12, NONE, NONE},
     {"the first fault of the slice, 14 and then 13", PATCH_OF((1), (0)), FILE_OF(3, 1), 14, NONE, NONE},
@@ -196,6 +279,32 @@ static void check_longest(void)
     release(files, sizeof files / sizeof files[0]);
 }
 
+/* The deepest choices: as many parts chosen as a type can have below one another, and as many nodes. */
+static void check_choices(void)
+{
+    const struct bytes lane = RAW(5, 1), level = RAW(2), pass = RAW(0), none = NONE, chosen = RAW(10),
+                       first = RAW(9, 1);
+    const struct bytes not_chosen = RAW(8), come = RAW(4, 1, 2), node = RAW(15, 0), cue = RAW(1), cue_come = RAW(2);
+    check_large("127 choices at once", patch_of(repeated(lane, 127, level), repeated(none, 0, pass)),
+                repeated(chosen, 127, come), 0, repeated(chosen, 127, come),
+                patch_of(repeated(none, 0, pass), repeated(none, 0, pass)));
+    check_large("126 choices, and one that has not come", patch_of(repeated(lane, 127, level), repeated(none, 0, pass)),
+                repeated(chosen, 126, not_chosen), 0, repeated(chosen, 126, not_chosen),
+                patch_of(repeated(lane, 1, level), repeated(none, 0, pass)));
+    check_large("31 times choose, all chosen", patch_of(repeated(lane, 31, cue), repeated(node, 31, pass)),
+                repeated(chosen, 31, cue_come), 0, repeated(none, 0, cue_come),
+                patch_of(repeated(none, 0, pass), repeated(none, 0, pass)));
+    check_large("31 times choose, 30 chosen", patch_of(repeated(lane, 31, cue), repeated(node, 31, pass)),
+                repeated(chosen, 30, not_chosen), 0, repeated(none, 0, cue),
+                patch_of(repeated(lane, 1, cue), repeated(node, 1, pass)));
+    check_large("31 times choose, the outermost chosen", patch_of(repeated(lane, 31, cue), repeated(node, 31, pass)),
+                repeated(none, 0, first), 0, repeated(none, 0, cue),
+                patch_of(repeated(none, 0, cue), repeated(none, 0, pass)));
+    check_large("31 times choose, none chosen", patch_of(repeated(lane, 31, cue), repeated(node, 31, pass)),
+                repeated(none, 0, not_chosen), 0, repeated(none, 0, cue),
+                patch_of(repeated(lane, 31, cue), repeated(node, 31, pass)));
+}
+
 /* Refusals of large files; the fault in the slice and the short buffers come after the limits of the patch. */
 static void check_limits(void)
 {
@@ -237,20 +346,37 @@ static const struct run_step run_steps[] = {
     {FILE_OF(7, 0, 0), 8482, 0, FILE_OF(7, 0, 0), PATCH_OF((4, 0, 0), (10, 0, 0))},
 };
 
+/* A welcome, then one of two skies: a comet, or a lamp in place of which the patch sends a cue. */
+static const struct bytes choice_start = PATCH_OF((3, 1, 5, 1, 2), (9, 0, 15, 0, 2));
+
+static const struct run_step choice_steps[] = {
+    {FILE_OF(8), 8482, 14, NONE, NONE},
+    {FILE_OF(6, 2, 8), 8482, 0, FILE_OF(6, 2, 1), PATCH_OF((5, 1, 2), (15, 0, 2))},
+    {FILE_OF(8), 8482, 0, FILE_OF(1), PATCH_OF((5, 1, 2), (15, 0, 2))},
+    {FILE_OF(9, 3), 8482, 14, NONE, NONE},
+    {FILE_OF(15), 8482, 12, NONE, NONE},
+    {FILE_OF(9, 1), 5, 20, NONE, NONE},
+    {FILE_OF(9, 1), 6, 0, FILE_OF(1), PATCH_OF((1), (0))},
+    {FILE_OF(8), 8482, 14, NONE, NONE},
+    {FILE_OF(9, 2), 8482, 14, NONE, NONE},
+    {FILE_OF(10, 3), 8482, 14, NONE, NONE},
+    {FILE_OF(2), 8482, 0, FILE_OF(2), PATCH_OF((0), (0))},
+};
+
 /* Two patch buffers: each feed is handed the one, and writes the other; they are swapped if it was accepted. */
-static void check_run(void)
+static void check_run(const char *name, struct bytes start, const struct run_step *steps, size_t number)
 {
     static uint8_t buffers[2][WOSTHILE_PATCH_FILE_MAX], output[WOSTHILE_SLICE_FILE_MAX];
     uint8_t *patch = buffers[0], *left = buffers[1];
-    size_t length = run_start.count;
-    append(patch, run_start);
-    for (size_t index = 0; index < sizeof run_steps / sizeof run_steps[0]; index++) {
-        const struct run_step *step = &run_steps[index];
+    size_t length = start.count;
+    append(patch, start);
+    for (size_t index = 0; index < number; index++) {
+        const struct run_step *step = &steps[index];
         wosthile_fed fed =
             wosthile_feed(patch, length, step->slice.at, step->slice.count, output, sizeof output, left, step->room);
         bool right = fed.number == step->number && fed.output == step->output.count && fed.patch == step->left.count;
         right = right && unaltered(output, step->output) && unaltered(left, step->left);
-        count(right, "Feed", "a run of feeds, step", index);
+        count(right, "Feed", name, index);
         if (fed.number == WOSTHILE_ACCEPTED) {
             uint8_t *fed_patch = patch;
             patch = left;
@@ -288,12 +414,17 @@ int main(void)
     for (size_t row = 0; row < sizeof node_rows / sizeof node_rows[0]; row++) {
         check_feed(&node_rows[row]);
     }
+    for (size_t row = 0; row < sizeof choice_rows / sizeof choice_rows[0]; row++) {
+        check_feed(&choice_rows[row]);
+    }
     for (size_t row = 0; row < sizeof refused_rows / sizeof refused_rows[0]; row++) {
         check_feed(&refused_rows[row]);
     }
     check_longest();
+    check_choices();
     check_limits();
-    check_run();
+    check_run("a run of feeds, step", run_start, run_steps, sizeof run_steps / sizeof run_steps[0]);
+    check_run("a run with a choice, step", choice_start, choice_steps, sizeof choice_steps / sizeof choice_steps[0]);
     check_shared_memory();
     printf("%d passed, %d failed\n", passed, failed);
     return failed != 0;

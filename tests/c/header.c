@@ -18,6 +18,7 @@ static const struct example type_examples[] = {
     [WOSTHILE_TYPE_LEVEL] = {PATCH_OF((WOSTHILE_TYPE_LEVEL), (0)), FILE_OF(3)},
     [WOSTHILE_TYPE_SEQUENCE] = {PATCH_OF((WOSTHILE_TYPE_SEQUENCE, 1, 2), (0)), FILE_OF(5, 1)},
     [WOSTHILE_TYPE_BESIDE] = {PATCH_OF((WOSTHILE_TYPE_BESIDE, 1, 2), (0)), FILE_OF(7, 1, 3)},
+    [WOSTHILE_TYPE_EITHER] = {PATCH_OF((WOSTHILE_TYPE_EITHER, 1, 2), (0)), FILE_OF(8)},
 };
 
 static const struct example slice_examples[] = {
@@ -29,6 +30,9 @@ static const struct example slice_examples[] = {
     [WOSTHILE_SLICE_IN_FIRST] = {PATCH_OF((3, 1, 2), (0)), FILE_OF(WOSTHILE_SLICE_IN_FIRST, 1)},
     [WOSTHILE_SLICE_CROSSED] = {PATCH_OF((3, 1, 2), (0)), FILE_OF(WOSTHILE_SLICE_CROSSED, 2, 3)},
     [WOSTHILE_SLICE_BESIDE] = {PATCH_OF((4, 1, 2), (0)), FILE_OF(WOSTHILE_SLICE_BESIDE, 2, 3)},
+    [WOSTHILE_SLICE_NONE_CHOSEN] = {PATCH_OF((5, 1, 2), (0)), FILE_OF(WOSTHILE_SLICE_NONE_CHOSEN)},
+    [WOSTHILE_SLICE_FIRST_CHOSEN] = {PATCH_OF((5, 1, 2), (0)), FILE_OF(WOSTHILE_SLICE_FIRST_CHOSEN, 1)},
+    [WOSTHILE_SLICE_SECOND_CHOSEN] = {PATCH_OF((5, 1, 2), (0)), FILE_OF(WOSTHILE_SLICE_SECOND_CHOSEN, 3)},
 };
 
 static const struct example node_examples[] = {
@@ -47,9 +51,12 @@ static const struct example node_examples[] = {
     [WOSTHILE_NODE_REGROUP_LEFT] = {PATCH_OF((3, 1, 3, 1, 1), (WOSTHILE_NODE_REGROUP_LEFT)), FILE_OF(5, 1)},
     [WOSTHILE_NODE_SPREAD] = {PATCH_OF((3, 1, 4, 1, 1), (WOSTHILE_NODE_SPREAD)), FILE_OF(5, 1)},
     [WOSTHILE_NODE_FRONT] = {PATCH_OF((1), (WOSTHILE_NODE_FRONT)), FILE_OF(1)},
+    [WOSTHILE_NODE_CHOOSE] = {PATCH_OF((5, 1, 1), (WOSTHILE_NODE_CHOOSE, 0, 0)), FILE_OF(8)},
+    [WOSTHILE_NODE_MARK_FIRST] = {PATCH_OF((1), (WOSTHILE_NODE_MARK_FIRST, 2)), FILE_OF(1)},
+    [WOSTHILE_NODE_MARK_SECOND] = {PATCH_OF((1), (WOSTHILE_NODE_MARK_SECOND, 2)), FILE_OF(1)},
 };
 
-/* A feed with each number as its answer; for the last the buffers are too short. */
+/* A feed with each number as its answer; where there is to be no room the buffers are too short. */
 static const struct example number_examples[] = {
     [WOSTHILE_ACCEPTED] = {PATCH_OF((1), (0)), FILE_OF(1)},
     [WOSTHILE_FAULT_CUT_SHORT] = {PATCH_OF((1), (4, 0)), FILE_OF(1)},
@@ -65,6 +72,7 @@ static const struct example number_examples[] = {
     [WOSTHILE_FAULT_SLICE_LEFT_OVER] = {PATCH_OF((1), (0)), FILE_OF(1, 1)},
     [WOSTHILE_FAULT_SLICE_MISPLACED] = {PATCH_OF((1), (0)), FILE_OF(3)},
     [WOSTHILE_FAULT_NO_ROOM] = {PATCH_OF((1), (0)), FILE_OF(1)},
+    [WOSTHILE_FAULT_OUTPUTS_DIFFER] = {PATCH_OF((5, 1, 2), (15, 0, 0)), FILE_OF(8)},
 };
 
 /*
@@ -79,6 +87,7 @@ static bool names_type_kind(unsigned byte)
     case WOSTHILE_TYPE_LEVEL:
     case WOSTHILE_TYPE_SEQUENCE:
     case WOSTHILE_TYPE_BESIDE:
+    case WOSTHILE_TYPE_EITHER:
         return true;
     }
     return false;
@@ -95,6 +104,9 @@ static bool names_slice_kind(unsigned byte)
     case WOSTHILE_SLICE_IN_FIRST:
     case WOSTHILE_SLICE_CROSSED:
     case WOSTHILE_SLICE_BESIDE:
+    case WOSTHILE_SLICE_NONE_CHOSEN:
+    case WOSTHILE_SLICE_FIRST_CHOSEN:
+    case WOSTHILE_SLICE_SECOND_CHOSEN:
         return true;
     }
     return false;
@@ -118,6 +130,9 @@ static bool names_node_kind(unsigned byte)
     case WOSTHILE_NODE_REGROUP_LEFT:
     case WOSTHILE_NODE_SPREAD:
     case WOSTHILE_NODE_FRONT:
+    case WOSTHILE_NODE_CHOOSE:
+    case WOSTHILE_NODE_MARK_FIRST:
+    case WOSTHILE_NODE_MARK_SECOND:
         return true;
     }
     return false;
@@ -139,6 +154,7 @@ static bool names_number(unsigned number)
     case WOSTHILE_FAULT_SLICE_LEFT_OVER:
     case WOSTHILE_FAULT_SLICE_MISPLACED:
     case WOSTHILE_FAULT_NO_ROOM:
+    case WOSTHILE_FAULT_OUTPUTS_DIFFER:
         return true;
     }
     return false;

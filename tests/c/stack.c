@@ -1,8 +1,9 @@
 /*
  * How much stack the calls need. Each is made on a stack that was painted before, with the deepest files there are:
  * types of 127 forks, nested in the first parts or in the second, and slices that go all the way down; patches of 31
- * forks, nested likewise, that give types of 255 nodes, and for Feed have at their deepest node the deepest stream. The
- * most that any call has used, beside an empty thread, is held to WOSTHILE_STACK_MAX.
+ * forks, nested likewise, that give types of 255 nodes, and for Feed have at their deepest node the deepest stream; and
+ * patches of choose and chain, of which a slice chooses the nested side, the other one or none. The most that any call
+ * has used, beside an empty thread, is held to WOSTHILE_STACK_MAX.
  */
 #define _XOPEN_SOURCE 700 /* for pthread_attr_setstack */
 #include <pthread.h>
@@ -125,6 +126,34 @@ static void make_crossings(struct files *files)
     put_section(&files->second, 0, 0, LEAF(2), FIRST_PARTS);
 }
 
+/* So many choices of the nested side. */
+static void put_chosen(struct file *slice, int times, enum side side)
+{
+    for (int count = 0; count < times; count++) {
+        put(slice, side == FIRST_PARTS ? 9 : 10);
+    }
+}
+
+/* Eithers, all chosen at once, down to a leaf that is awaited. */
+static void make_choices(struct files *files, enum side side)
+{
+    put_section(&files->whole, TYPE_FORKS, 5, LEAF(2), side);
+    size_t contents = begin(&files->first);
+    put_chosen(&files->first, TYPE_FORKS, side);
+    put(&files->first, 3);
+    end(&files->first, contents);
+    put_section(&files->second, 0, 0, LEAF(3), FIRST_PARTS);
+}
+
+/* The same, none chosen at first; the second slice chooses all. */
+static void make_late_choices(struct files *files, enum side side)
+{
+    make_choices(files, side);
+    files->second = files->first;
+    files->first.length = 0;
+    put_section(&files->first, 0, 0, LEAF(8), FIRST_PARTS);
+}
+
 /* Chains of pass. The deepest node is spread, on a cue and then lanes, and gives 255 nodes; these go up through all. */
 static void make_chains(struct file *patch, enum side side)
 {
@@ -153,21 +182,35 @@ static void make_thens(struct file *patch, enum side side)
     put_section(patch, NODE_FORKS, 9, LEAF(0), side);
 }
 
-/* A stream for Feed: sequences or lanes of cues, nested on one side; and the side on which the nodes are nested. */
+/* A stream for Feed: sequences, lanes or eithers of cues, nested on one side; and the side on which nodes are nested.
+ */
 struct depth {
     int fork;
     enum side stream, nodes;
 };
+
+enum { DEPTHS = 12 };
+
+static struct depth depth_of(int which)
+{
+    return (struct depth){3 + which / 4, which & 1 ? FIRST_PARTS : SECOND_PARTS,
+                          which & 2 ? FIRST_PARTS : SECOND_PARTS};
+}
 
 static void put_type(struct file *file, int forks, struct depth depth)
 {
     put_deep(file, forks, depth.fork, LEAF(1), depth.stream);
 }
 
-/* The slice in which all of that type has come. */
+/* The slice in which all of that type has come; of eithers the nested side is chosen. */
 static void put_complete(struct file *file, int forks, struct depth depth)
 {
-    put_deep(file, forks, depth.fork == 3 ? 6 : 7, LEAF(2), depth.stream);
+    if (depth.fork == 5) {
+        put_chosen(file, forks, depth.stream);
+        put(file, 2);
+    } else {
+        put_deep(file, forks, depth.fork == 3 ? 6 : 7, LEAF(2), depth.stream);
+    }
 }
 
 /* Forks of one kind above one node, with other leaves beside it. */
@@ -262,16 +305,26 @@ static void make_waiting_in_thens(struct files *files, struct depth depth)
     end(&files->first, contents);
 }
 
-/* The largest patch file: every leaf is silent with a type of 255 nodes, nested as the stream is. */
+/* A node that carries a type. */
+static struct leaf carrying(int node, int forks, int fork, struct leaf leaf, enum side side)
+{
+    struct file made = {{0}, 0};
+    struct leaf carrying;
+    put(&made, node);
+    put_deep(&made, forks, fork, leaf, side);
+    memcpy(carrying.bytes, made.bytes, made.length);
+    carrying.length = made.length;
+    return carrying;
+}
+
+/* Silent with a type of 255 nodes, nested as the stream is. */
+static struct leaf large_silent(struct depth depth) { return carrying(1, TYPE_FORKS, 4, LEAF(0), depth.stream); }
+
+/* The largest patch file: every leaf is silent with a type of 255 nodes. */
 static void make_silents(struct files *files, struct depth depth)
 {
     struct depth lanes = {4, depth.stream, depth.nodes};
-    struct file carried = {{0}, 0};
-    struct leaf silent;
-    put(&carried, 1);
-    put_deep(&carried, TYPE_FORKS, 4, LEAF(0), depth.stream);
-    memcpy(silent.bytes, carried.bytes, carried.length);
-    silent.length = carried.length;
+    struct leaf silent = large_silent(depth);
     size_t contents = begin(&files->whole);
     put_type(&files->whole, TYPE_FORKS, lanes);
     end(&files->whole, contents);
@@ -286,6 +339,92 @@ static void (*const feeds[])(struct files *, struct depth) = {
     make_passing, make_waiting_in_chains,  make_waiting_in_pairs,    make_waiting_in_thens,
     make_silents, make_crossing_in_chains, make_spreading_in_chains,
 };
+
+/* How choose and chain are nested above the deepest node. */
+enum nest { CHOICES, CHOICES_ABOVE_CHAINS, CHAINS_ABOVE_CHOICES, CHOICES_BETWEEN_CHAINS, NESTS };
+
+/* What gives the output: silent nodes with the largest type, or marks that hand the choice of the deepest stream on. */
+enum outputs { SILENTS, MARKS, OUTPUTS };
+
+/* A slice chooses the nested side everywhere; or so often as its way says, and then none or the other side. */
+enum { WAYS = 7, ALL_THE_WAY = WAYS - 1 };
+
+struct choosing {
+    enum nest nest;
+    enum outputs outputs;
+    int way;
+};
+
+static int is_choice(enum nest nest, int level)
+{
+    switch (nest) {
+    case CHOICES_ABOVE_CHAINS:
+        return level < NODE_FORKS / 2;
+    case CHAINS_ABOVE_CHOICES:
+        return level >= NODE_FORKS / 2;
+    case CHOICES_BETWEEN_CHAINS:
+        return level % 2 == 0;
+    default:
+        return 1;
+    }
+}
+
+static int choices_in(enum nest nest)
+{
+    int choices = 0;
+    for (int level = 0; level < NODE_FORKS; level++) {
+        choices += is_choice(nest, level);
+    }
+    return choices;
+}
+
+/* The nodes: beside is the other node of every choose, and pass that of every chain. */
+static void put_choosing_nodes(struct file *patch, enum nest nest, struct leaf beside, struct leaf deepest,
+                               enum side side)
+{
+    size_t contents = begin(patch);
+    for (int level = 0; level < NODE_FORKS; level++) {
+        put_above(patch, 1, is_choice(nest, level) ? 15 : 10, is_choice(nest, level) ? beside : LEAF(0), side);
+    }
+    put_leaf(patch, deepest);
+    for (int level = NODE_FORKS - 1; level >= 0; level--) {
+        put_behind(patch, 1, is_choice(nest, level) ? beside : LEAF(0), side);
+    }
+    end(patch, contents);
+}
+
+/* The slice of so many eithers with a stream below. */
+static void put_choosing_slice(struct file *slice, int choices, int way, struct depth depth)
+{
+    size_t contents = begin(slice);
+    put_chosen(slice, way == ALL_THE_WAY ? choices : (choices - 1) * (way / 2) / 2, depth.nodes);
+    if (way == ALL_THE_WAY) {
+        put_complete(slice, TYPE_FORKS - choices, depth);
+    } else if (way % 2 == 0) {
+        put(slice, 8);
+    } else {
+        put_leaf(slice, depth.nodes == FIRST_PARTS ? LEAF(10, 1) : LEAF(9, 1));
+    }
+    end(slice, contents);
+}
+
+/* Eithers, each of a cue and the next; in the deepest one is a stream of as many forks as there is room for. */
+static void make_choosing(struct files *files, struct choosing choosing, struct depth depth)
+{
+    int choices = choices_in(choosing.nest), forks = TYPE_FORKS - choices;
+    size_t contents = begin(&files->whole);
+    put_above(&files->whole, choices, 5, LEAF(1), depth.nodes);
+    put_type(&files->whole, forks, depth);
+    put_behind(&files->whole, choices, LEAF(1), depth.nodes);
+    end(&files->whole, contents);
+    if (choosing.outputs == SILENTS) {
+        put_choosing_nodes(&files->whole, choosing.nest, large_silent(depth), large_silent(depth), depth.nodes);
+    } else {
+        struct leaf mark = carrying(16, forks, depth.fork, LEAF(1), depth.stream);
+        put_choosing_nodes(&files->whole, choosing.nest, mark, LEAF(17, 1), depth.nodes);
+    }
+    put_choosing_slice(&files->first, choices, choosing.way, depth);
+}
 
 enum operation { NOTHING, CHECK, ADMIT, LEFT, JOIN, FEED };
 
@@ -370,11 +509,9 @@ static size_t most_of_feed(void)
     static struct files files;
     size_t greatest = 0;
     for (size_t feed = 0; feed < sizeof feeds / sizeof feeds[0]; feed++) {
-        for (int which = 0; which < 8; which++) {
-            struct depth depth = {which & 1 ? 3 : 4, which & 2 ? FIRST_PARTS : SECOND_PARTS,
-                                  which & 4 ? FIRST_PARTS : SECOND_PARTS};
+        for (int which = 0; which < DEPTHS; which++) {
             files = (struct files){0};
-            feeds[feed](&files, depth);
+            feeds[feed](&files, depth_of(which));
             size_t need = most(FEED, &files, 1);
             greatest = need > greatest ? need : greatest;
         }
@@ -382,21 +519,37 @@ static size_t most_of_feed(void)
     return greatest;
 }
 
-static size_t need_of(enum operation operation, const struct files streams[4], const struct files patches[6])
+/* The most that Check or Feed uses on any of the patches of choose and chain, at any depth and for any slice. */
+static size_t most_of_choosing(enum operation operation)
 {
-    switch (operation) {
-    case CHECK:
-        return most(operation, patches, 6);
-    case FEED:
-        return most_of_feed();
-    default:
-        return most(operation, streams, 4);
+    static struct files files;
+    size_t greatest = 0;
+    for (int which = 0; which < NESTS * OUTPUTS * WAYS * DEPTHS; which++) {
+        int nest = which / (OUTPUTS * WAYS * DEPTHS), outputs = which / (WAYS * DEPTHS) % OUTPUTS;
+        struct choosing choosing = {nest, outputs, which / DEPTHS % WAYS};
+        files = (struct files){0};
+        make_choosing(&files, choosing, depth_of(which % DEPTHS));
+        size_t need = most(operation, &files, 1);
+        greatest = need > greatest ? need : greatest;
     }
+    return greatest;
+}
+
+enum { STREAMS = 8, PATCHES = 6 };
+
+static size_t need_of(enum operation operation, const struct files *streams, const struct files *patches)
+{
+    if (operation != CHECK && operation != FEED) {
+        return most(operation, streams, STREAMS);
+    }
+    size_t others = operation == CHECK ? most(operation, patches, PATCHES) : most_of_feed();
+    size_t choosing = most_of_choosing(operation);
+    return choosing > others ? choosing : others;
 }
 
 int main(void)
 {
-    static struct files streams[4], patches[6];
+    static struct files streams[STREAMS], patches[PATCHES];
     static const char *const names[] = {"", "Check", "Admit", "Left", "Join", "Feed"};
     int fits = 1;
     make_lanes(&streams[0], FIRST_PARTS);
@@ -404,6 +557,8 @@ int main(void)
     make_first_parts(&streams[2]);
     make_crossings(&streams[3]);
     for (int side = FIRST_PARTS; side <= SECOND_PARTS; side++) {
+        make_choices(&streams[4 + side], side);
+        make_late_choices(&streams[6 + side], side);
         make_chains(&patches[side].whole, side);
         make_pairs(&patches[2 + side].whole, side);
         make_thens(&patches[4 + side].whole, side);
