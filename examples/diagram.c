@@ -19,16 +19,25 @@ static const char help[] =
     "A node is a box; one with two parts is a frame around them, and a chain is a row. Every cue and level of the "
     "input\n"
     "is a line that runs from its name at the left, through the nodes, to its name at the right; where a stream has\n"
-    "more than 40 lanes, streams are ribbons. A pointer that rests on a box shows the types that it takes and gives.\n"
+    "more than 40 lanes, streams are ribbons. In the frame of choose each part stands below the choice that feeds it,\n"
+    "and what they send goes the same way on. A pointer that rests on a box shows the types that it takes and gives.\n"
     "\n"
     "Exit status: 0 drawn; 1 the patch is refused; 2 words or files that cannot be used.\n";
 
 /* All lengths are in pixels. */
-enum { MARGIN = SVG_MARGIN, HEADER_HEIGHT = 104, NAME_HEIGHT = 17, NAMES_WIDTH_MAX = 420, PAGE_WIDTH_MIN = 720 };
+enum {
+    MARGIN = SVG_MARGIN,
+    HEADER_HEIGHT = 104,
+    LEGEND_ROW_HEIGHT = 22,
+    NAME_HEIGHT = 17,
+    NAMES_WIDTH_MAX = 420,
+    PAGE_WIDTH_MIN = 720
+};
 enum {
     BOX_WIDTH_MIN = 64,
     BOX_HEAD = 20,
     FRAME_HEAD = 22,
+    CHOICE_HEAD = 14,
     FRAME_FOOT = 10,
     PARTS_GAP = 22,
     FORK_WIDTH_MIN = 40,
@@ -57,6 +66,7 @@ struct diagram {
     const struct patch_tree *tree;
     struct block blocks[WOSTHILE_PATCH_NODES_MAX];
     bool ribbons;
+    bool choices; /* does a node choose, mark a choice, or hand one on? */
     double pitch; /* between two lanes of a stream */
 };
 
@@ -106,6 +116,11 @@ static void node_words(char words[NODE_WORDS_BYTES], const struct patch_node *no
     snprintf(words, NODE_WORDS_BYTES, value ? "%s %u" : "%s", node_kind(node->kind)->name, node->value);
 }
 
+/* Does a node choose, between the parts of an either, or mark what is chosen? */
+static bool chooses(uint8_t kind) { return node_kind(kind)->takes.bytes[0] == WOSTHILE_TYPE_EITHER; }
+
+static bool marks_choice(uint8_t kind) { return kind == WOSTHILE_NODE_MARK_FIRST || kind == WOSTHILE_NODE_MARK_SECOND; }
+
 /* A type in a few words: what it is if that is short, else how many lanes it has. */
 static void stream_words(char words[TYPE_TEXT_BYTES], const struct type *type)
 {
@@ -113,6 +128,20 @@ static void stream_words(char words[TYPE_TEXT_BYTES], const struct type *type)
     type_text(words, section_of(type_file(type)));
     if (strlen(words) > SHORT) {
         snprintf(words, TYPE_TEXT_BYTES, "%u lanes", stream_of(type).count);
+    }
+}
+
+/* The type that a mark carries, in words below its name; for other nodes there are none. */
+enum { CARRIED_WORDS_BYTES = TYPE_TEXT_BYTES + 8 };
+
+static void carried_words(char words[CARRIED_WORDS_BYTES], const struct patch_node *node)
+{
+    char carried[TYPE_TEXT_BYTES];
+    bool second = node->kind == WOSTHILE_NODE_MARK_SECOND;
+    words[0] = '\0';
+    if (marks_choice(node->kind)) {
+        stream_words(carried, &node->carried);
+        snprintf(words, CARRIED_WORDS_BYTES, second ? "%s or" : "or %s", carried);
     }
 }
 
@@ -134,6 +163,33 @@ static double fork_width(const struct block *block)
     return width < FORK_WIDTH_MAX ? width : FORK_WIDTH_MAX;
 }
 
+static double box_width(const struct patch_node *node)
+{
+    char words[NODE_WORDS_BYTES], carried[CARRIED_WORDS_BYTES];
+    node_words(words, node);
+    carried_words(carried, node);
+    double width = larger(svg_text_width(TEXT_HEADING, words) * 1.1, svg_text_width(TEXT_SMALL, carried));
+    return larger(BOX_WIDTH_MIN, width + 16);
+}
+
+/* The choice for which a part of choose is fed. */
+static const char *choice_words(unsigned part)
+{
+    return slice_kind(part == 0 ? WOSTHILE_SLICE_FIRST_CHOSEN : WOSTHILE_SLICE_SECOND_CHOSEN)->name;
+}
+
+/* The room above the first part of a frame; in that of choose the choice stands there too. */
+static double head_height(const struct patch_node *node)
+{
+    return FRAME_HEAD + (chooses(node->kind) ? CHOICE_HEAD : 0);
+}
+
+/* The room that the words between the parts of a frame need. */
+static double words_width(const struct patch_node *node)
+{
+    return chooses(node->kind) ? svg_text_width(TEXT_CHOICE, choice_words(1)) * 1.1 : 0;
+}
+
 /* Finds how large a node is; its parts have been measured. */
 static void measure(struct diagram *diagram, size_t index)
 {
@@ -143,17 +199,15 @@ static void measure(struct diagram *diagram, size_t index)
     block->in = stream_of(&node->input);
     block->out = stream_of(&node->output);
     double lanes = block->in.count > block->out.count ? block->in.count : block->out.count;
-    char words[NODE_WORDS_BYTES];
-    node_words(words, node);
     if (node_kind(node->kind)->parts == 0) {
-        block->width = larger(BOX_WIDTH_MIN, svg_text_width(TEXT_HEADING, words) * 1.1 + 16);
+        block->width = box_width(node);
         block->height = lanes * diagram->pitch + 2 * BOX_HEAD;
     } else if (in_a_row(node)) {
         block->width = first->width + chain_gap(diagram, node) + second->width;
         block->height = larger(first->height, second->height);
     } else {
-        block->height = FRAME_HEAD + first->height + PARTS_GAP + second->height + FRAME_FOOT;
-        block->width = larger(first->width, second->width) + 2 * fork_width(block);
+        block->height = head_height(node) + first->height + PARTS_GAP + second->height + FRAME_FOOT;
+        block->width = larger(larger(first->width, second->width), words_width(node)) + 2 * fork_width(block);
     }
 }
 
@@ -168,11 +222,26 @@ static unsigned widest_stream(const struct patch_tree *tree)
     return (unsigned)widest;
 }
 
+/* Is there a choice in the input of a node, or in its output? */
+static bool has_choices(const struct patch_tree *tree)
+{
+    for (size_t index = 0; index < tree->count; index++) {
+        const struct patch_node *node = &tree->nodes[index];
+        struct file in = section_of(type_file(&node->input)), out = section_of(type_file(&node->output));
+        if (memchr(in.bytes, WOSTHILE_TYPE_EITHER, in.length) != NULL ||
+            memchr(out.bytes, WOSTHILE_TYPE_EITHER, out.length) != NULL) {
+            return true;
+        }
+    }
+    return false;
+}
+
 static void lay_out(struct diagram *diagram, const struct patch_tree *tree)
 {
     unsigned widest = widest_stream(tree);
     diagram->tree = tree;
     diagram->ribbons = widest > LINES_MAX;
+    diagram->choices = has_choices(tree);
     diagram->pitch = diagram->ribbons ? 1.2 : widest > 16 ? 6 : 8;
     for (size_t index = tree->count; index > 0; index--) { /* parts come behind their node */
         measure(diagram, index - 1);
@@ -234,7 +303,11 @@ static size_t runs_of(const struct patch_node *node, const struct block *block, 
         runs[0] = (struct run){in - out, 0, out};
         return 1;
     case WOSTHILE_NODE_FRONT:
+    case WOSTHILE_NODE_MARK_SECOND:
         runs[0] = (struct run){0, out - in, in};
+        return 1;
+    case WOSTHILE_NODE_MARK_FIRST:
+        runs[0] = (struct run){0, 0, in};
         return 1;
     case WOSTHILE_NODE_SPREAD: {
         unsigned shared = lanes_at(type, type_part(type, 0, 0));
@@ -275,6 +348,14 @@ static void draw_begin(const struct ports *out, unsigned lane)
     }
 }
 
+/* A lane of the part that a mark rules out: nothing ever comes in it. */
+static void draw_ruled_out(const struct ports *out, unsigned lane)
+{
+    double x = out->x - 2 * STUB_WIDTH, y = lane_middle(out, lane);
+    svg_dashes(x, y, out->x, lane_colour(out->stream->kinds[lane]));
+    svg_dot(x, y, 2.2, "#fff", lane_colour(out->stream->kinds[lane]));
+}
+
 /* Which lanes of the input and of the output have a run. */
 struct lanes_run {
     bool in[LANES_MAX], out[LANES_MAX];
@@ -299,10 +380,12 @@ static void draw_ends(const struct diagram *diagram, const struct ports *in, con
     }
 }
 
-static void draw_begins(const struct ports *out, const bool *has_run)
+static void draw_begins(const struct ports *out, const bool *has_run, bool ruled_out)
 {
     for (unsigned lane = 0; lane < out->stream->count; lane++) {
-        if (!has_run[lane]) {
+        if (!has_run[lane] && ruled_out) {
+            draw_ruled_out(out, lane);
+        } else if (!has_run[lane]) {
             draw_begin(out, lane);
         }
     }
@@ -340,15 +423,19 @@ static void draw_box(const struct diagram *diagram, size_t index, double x, doub
     struct run runs[RUNS_MAX];
     size_t count = runs_of(node, block, runs);
     struct lanes_run lanes = lanes_run(runs, count);
-    char words[NODE_WORDS_BYTES];
+    char words[NODE_WORDS_BYTES], carried[CARRIED_WORDS_BYTES];
     node_words(words, node);
-    svg_box(x, y, block->width, block->height, "#f7f9fb", GREY_COLOUR);
+    carried_words(carried, node);
+    svg_box(x, y, block->width, block->height, "#f7f9fb", marks_choice(node->kind) ? CHOICE_COLOUR : GREY_COLOUR);
     svg_text(x + block->width / 2, y + 14, TEXT_CENTRED, TEXT_HEADING, "%s", words);
+    if (carried[0] != '\0') {
+        svg_text(x + block->width / 2, y + block->height - 6, TEXT_CENTRED, TEXT_SMALL, "%s", carried);
+    }
     for (size_t run = 0; run < count; run++) {
         draw_run(diagram, &in, &out, runs[run]);
     }
     draw_ends(diagram, &in, lanes.in);
-    draw_begins(&out, lanes.out);
+    draw_begins(&out, lanes.out, marks_choice(node->kind));
 }
 
 static void draw_node(const struct diagram *diagram, size_t index, double x, double y);
@@ -384,6 +471,13 @@ static void draw_crossing(double x, double y, double width)
     svg_text(x + width / 2, y + 3.5, TEXT_CENTRED, TEXT_FAULT, "crossing");
 }
 
+/* Above each part of choose, the choice for which it is fed. */
+static void draw_chosen(double x, double y, double width, unsigned part)
+{
+    svg_line(x, y, x + width, y, CHOICE_COLOUR, 1);
+    svg_text(x + width / 2, y + 3.5, TEXT_CENTRED, TEXT_CHOICE, "%s", choice_words(part));
+}
+
 /*
  * A node with parts that are fed beside one another: a frame with one part below the other. Streams bend at the edges
  * of the frame and are straight between, so that none meets the other part.
@@ -394,8 +488,10 @@ static void draw_stack(const struct diagram *diagram, size_t index, double x, do
     const struct block *block = &diagram->blocks[index];
     const enum part_input *input = node_kind(node->kind)->input;
     struct ports in = ports_in(diagram, index, x, y), out = ports_out(diagram, index, x, y);
-    double part_y = y + FRAME_HEAD, inner_x = x + fork_width(block), inner_end = x + block->width - fork_width(block);
-    unsigned sent = 0;
+    double part_y = y + head_height(node), inner_x = x + fork_width(block),
+           inner_end = x + block->width - fork_width(block);
+    unsigned sent = 0; /* lanes before those of the part; the parts of choose send to the same lanes */
+    bool choice = chooses(node->kind);
     svg_box(x, y, block->width, block->height, node->depth % 2 == 0 ? "#fdfdf6" : "#fff", "#c5ccd4");
     svg_text(x + 8, y + 14, TEXT_STARTS, TEXT_HEADING, "%s", node_kind(node->kind)->name);
     for (unsigned part = 0; part < node_kind(node->kind)->parts; part++) {
@@ -404,7 +500,9 @@ static void draw_stack(const struct diagram *diagram, size_t index, double x, do
         struct ports part_in = ports_in(diagram, node->part[part], part_x, part_y), fork = moved(part_in, inner_x);
         struct ports part_out = ports_out(diagram, node->part[part], part_x, part_y), meet = moved(part_out, inner_end);
         unsigned share = input[part] == INPUT_SECOND ? block->in.count - below->in.count : 0;
-        if (input[part] == INPUT_SECOND) {
+        if (choice) {
+            draw_chosen(inner_x, part_y - PARTS_GAP / 2.0, inner_end - inner_x, part);
+        } else if (input[part] == INPUT_SECOND) {
             draw_crossing(inner_x, part_y - PARTS_GAP / 2.0, inner_end - inner_x);
         }
         draw_run(diagram, &in, &fork, (struct run){share, 0, below->in.count});
@@ -412,7 +510,7 @@ static void draw_stack(const struct diagram *diagram, size_t index, double x, do
         draw_node(diagram, node->part[part], part_x, part_y);
         draw_run(diagram, &part_out, &meet, (struct run){0, 0, below->out.count});
         draw_run(diagram, &meet, &out, (struct run){0, sent, below->out.count});
-        sent += below->out.count;
+        sent += choice ? 0 : below->out.count;
         part_y += below->height + PARTS_GAP;
     }
 }
@@ -436,7 +534,7 @@ struct column {
     const char *heading;
     const struct side_names *names;
     struct stream stream;
-    struct sequence_parts parts;
+    struct numbered_parts parts;
     bool listed;
     double names_width, width, height; /* the width has the bands of the parts too */
 };
@@ -513,19 +611,30 @@ static void sign_end(double x, double y)
 
 static void sign_ribbon(double x, double y) { svg_rectangle(x, y - 5, 22, 10, STREAM_COLOUR, 0.45); }
 
+static void sign_ruled_out(double x, double y)
+{
+    svg_dashes(x + 2, y, x + 22, CUE_COLOUR);
+    svg_dot(x + 2, y, 2.2, "#fff", CUE_COLOUR);
+}
+
 static void draw_legend(const struct diagram *diagram, double y)
 {
     static const struct svg_sign lines[] = {{sign_cue, 22, "a cue"},
                                             {sign_level, 22, "a level"},
                                             {sign_empty, 22, "an empty part"},
                                             {sign_end, 22, "goes no further"},
-                                            {parts_sign, 14, "parts of a sequence, one after the other"}};
+                                            {sequence_sign, 14, "parts of a sequence, one after the other"}};
     static const struct svg_sign ribbons[] = {{sign_ribbon, 22, "a stream, as high as it has lanes"},
-                                              {parts_sign, 14, "parts of a sequence, one after the other"}};
+                                              {sequence_sign, 14, "parts of a sequence, one after the other"}};
+    static const struct svg_sign choices[] = {{choice_sign, 14, "parts of a choice, one or the other"},
+                                              {sign_ruled_out, 22, "never comes: the other part is marked"}};
     if (diagram->ribbons) {
         svg_legend(MARGIN, y, ribbons, sizeof ribbons / sizeof ribbons[0]);
     } else {
         svg_legend(MARGIN, y, lines, sizeof lines / sizeof lines[0]);
+    }
+    if (diagram->choices) {
+        svg_legend(MARGIN, y + LEGEND_ROW_HEIGHT, choices, sizeof choices / sizeof choices[0]);
     }
 }
 
@@ -534,12 +643,13 @@ static void draw(const struct diagram *diagram, const char *path, const struct c
     const struct block *root = &diagram->blocks[0];
     double body = larger(root->height, larger(in->height, out->height) + 2 * NAME_HEIGHT);
     double width = 2 * MARGIN + in->width + out->width + 2 * NAMES_GAP + root->width;
-    svg_begin(larger(width, PAGE_WIDTH_MIN), HEADER_HEIGHT + body + MARGIN, path, ": the patch");
+    double header = HEADER_HEIGHT + (diagram->choices ? LEGEND_ROW_HEIGHT : 0);
+    svg_begin(larger(width, PAGE_WIDTH_MIN), header + body + MARGIN, path, ": the patch");
     svg_text(MARGIN, 50, TEXT_STARTS, TEXT_PLAIN,
              "%zu node%s. Lanes come in from the left and are sent on at the right.", diagram->tree->count,
              diagram->tree->count == 1 ? "" : "s");
     draw_legend(diagram, 74);
-    draw_page(diagram, in, out, HEADER_HEIGHT + body / 2);
+    draw_page(diagram, in, out, header + body / 2);
     svg_end();
 }
 

@@ -18,7 +18,8 @@
 static const char help[] =
     "frame_loop SHOW [--seed N] [--frames-per-second N | --fast]\n"
     "\n"
-    "Plays a show file and prints what is sent on in each frame, in the words of its lanes.\n"
+    "Plays a show file and prints what is sent on in each frame, in the words of its lanes, and before it what is\n"
+    "chosen in the input.\n"
     "\n"
     "  --seed N               slices are late as the number N says, 0 to 18446744073709551615; with 0, and without\n"
     "                         this word, none is late\n"
@@ -212,16 +213,37 @@ static void *produce(void *argument)
     return NULL;
 }
 
+static size_t count_choices(const struct lane_events *events)
+{
+    size_t choices = 0;
+    for (size_t index = 0; index < events->count; index++) {
+        choices += is_choice(&events->list[index]);
+    }
+    return choices;
+}
+
+/* The choices that came in; whoever made them wants to see that they have come. */
+static void print_choices(const struct lane_events *events, const struct side_names *names)
+{
+    for (size_t index = 0; index < events->count; index++) {
+        if (is_choice(&events->list[index])) {
+            char words[EVENT_TEXT_BYTES];
+            lane_event_text(words, &events->list[index], names);
+            printf("    came in, %s\n", words);
+        }
+    }
+}
+
 /*
  * Sends on what a frame gave: here it is printed in the words of the lanes; a box sends it to the lamps. A frame that
- * gave nothing new prints nothing.
+ * gave nothing new, and in which nothing was chosen, prints nothing.
  */
 static void send_on(struct opened_show *opened, size_t frame, const struct joined *taken, struct file output)
 {
-    struct lane_events events;
-    follow(&opened->in, joined_file(taken), &events);
-    follow(&opened->out, output, &events);
-    if (events.count == 0) {
+    struct lane_events come, sent;
+    follow(&opened->in, joined_file(taken), &come);
+    follow(&opened->out, output, &sent);
+    if (sent.count == 0 && count_choices(&come) == 0) {
         return;
     }
     printf("frame %zu", frame);
@@ -229,8 +251,9 @@ static void send_on(struct opened_show *opened, size_t frame, const struct joine
         printf(", %zu slices as one", taken->count);
     }
     printf("\n");
-    for (size_t index = 0; index < events.count; index++) {
-        lane_event_print(&events.list[index], &opened->names.out);
+    print_choices(&come, &opened->names.in);
+    for (size_t index = 0; index < sent.count; index++) {
+        lane_event_print(&sent.list[index], &opened->names.out);
     }
     program_flush();
 }

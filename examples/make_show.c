@@ -40,15 +40,18 @@ static const char help[] =
     "      120 cue \"Saturn\"\n"
     "      120 level \"dome lamp\" 30000\n"
     "\n"
-    "type    what can come: cue, level and empty, each with a name if you like; then and beside between two parts,\n"
-    "        and parentheses. 'a then b then c' is 'a then (b then c)'; so is beside.\n"
+    "type    what can come: cue, level and empty, each with a name if you like; then, beside and or between two "
+    "parts,\n"
+    "        and parentheses. 'a then b then c' is 'a then (b then c)'; so are beside and or.\n"
     "patch   what is sent on: a node, then its parts, as listed below. Parentheses go around one node with its "
     "parts.\n"
     "out     the name of a lane of the output, which the patch makes.\n"
     "frames  how many, 60 a second; then what comes, frame by frame, a line each. A lane is said by its name or by "
     "its\n"
-    "        number, from left to right; 'cross to' says the first lane of a second part. Lines of one frame come one\n"
-    "        after the other in one slice. '10 bytes 0 2 5 2' records these bytes in place of a slice, good or not.\n"
+    "        number, from left to right; 'cross to' says the first lane of a second part, and '90 choose \"comet\"' "
+    "the\n"
+    "        first lane of a part that 'or' offers. Lines of one frame come one after the other in one slice.\n"
+    "        '10 bytes 0 2 5 2' records these bytes in place of a slice, good or not.\n"
     "cut 1   at the end: so many bytes are missing of the last slice, as if the recording was broken off.\n"
     "#       the rest of the line is a comment.\n"
     "\n"
@@ -67,6 +70,9 @@ static const char help[] =
     "  regroup left   of s then (t then r) gives (s then t) then r\n"
     "  spread         of s then (t beside r) gives (s then t) beside (s then r)\n"
     "  front          of s gives empty then s\n"
+    "  choose A B     of s or t: the first on s or the second on t, as it is chosen; both have to give the same type\n"
+    "  mark first t   of s gives s or t, and says with the first slice that the first is chosen\n"
+    "  mark second t  of s gives t or s, and says with the first slice that the second is chosen\n"
     "\n"
     "Status: 0 the show is written; 1 the patch is refused, or a line says what cannot come at that time; 2 the words\n"
     "or a file cannot be used, or a line cannot be read.\n";
@@ -111,11 +117,13 @@ static uint8_t come_kind(uint8_t type)
     return found;
 }
 
+/* Is there anything that comes at a node of this type, apart from its parts? */
+static bool has_event(uint8_t kind) { return awaited_kind(kind) != come_kind(kind); }
+
 /* Of a type that can come in a lane. */
 static const char *coming_words(uint8_t kind)
 {
-    bool comes = type_kind(kind)->parts == 0 && awaited_kind(kind) != come_kind(kind);
-    return comes ? type_words(kind) : NULL;
+    return type_kind(kind)->parts == 0 && has_event(kind) ? type_words(kind) : NULL;
 }
 
 /* The bytes of a tree, and the line of the score that each is from. */
@@ -140,9 +148,10 @@ struct score {
     unsigned lanes;       /* of the type, as far as it is read */
     bool name_may_follow; /* behind the part of a type that was read last */
     struct lane_names names;
-    size_t frames, frame; /* how many there are, and the one that is being made */
-    struct joined coming; /* what comes in it so far */
-    size_t last_length;   /* the bytes of the frame before it, with their length */
+    bool gone[LANES_MAX + 1]; /* the lanes of the input that are in a part that was not chosen */
+    size_t frames, frame;     /* how many there are, and the one that is being made */
+    struct joined coming;     /* what comes in it so far */
+    size_t last_length;       /* the bytes of the frame before it, with their length */
     size_t cut;
     struct memory_file show_file, lanes_file;
 };
@@ -427,14 +436,21 @@ static void make_slice(struct slice *slice, const struct lanes *lanes, const str
     put_value(slice->bytes, slice->length - 2, 2);
 }
 
-/* Adds a lane, or a crossing by the lane that it leads to; the node is one of the type at the start. */
+/* Adds a lane, a crossing by the lane that it leads to, or a choice; the node is one of the type at the start. */
 static void add_thing(struct text *text, const struct score *score, size_t node)
 {
     const struct start_node *start = score->in.start;
-    bool crossing = type_kind(start[node].kind)->parts > 0;
-    unsigned lane = start[crossing ? start[node].second : node].lanes.first;
-    text_add(text, crossing ? "the crossing to " : "");
-    lane_range_text(text, (struct lane_range){lane, lane}, &score->names.in);
+    const struct side_names *names = &score->names.in;
+    bool fork = type_kind(start[node].kind)->parts > 0;
+    unsigned lane = start[fork ? start[node].second : node].lanes.first, first = start[node].lanes.first;
+    if (start[node].kind == WOSTHILE_TYPE_EITHER) {
+        text_add(text, "the choice between ");
+        lane_range_text(text, (struct lane_range){first, first}, names);
+        text_add(text, " and ");
+    } else if (fork) {
+        text_add(text, "the crossing to ");
+    }
+    lane_range_text(text, (struct lane_range){lane, lane}, names);
 }
 
 static bool is_within(struct lane_range inner, struct lane_range outer)
@@ -442,32 +458,53 @@ static bool is_within(struct lane_range inner, struct lane_range outer)
     return inner.first >= outer.first && inner.last <= outer.last;
 }
 
-/* The first crossing that has to come before anything at a node of the start: it leads to a part with that node. */
-static size_t crossing_before(const struct lanes *lanes, size_t node)
+/*
+ * The first crossing or choice that has to come before anything at a node of the start: a crossing leads to a part with
+ * that node, a choice is between parts of which one has it. The node itself if there is none.
+ */
+static size_t step_before(const struct lanes *lanes, size_t node)
 {
     const struct start_node *start = lanes->start;
     for (size_t place = 0; place < lanes->nodes; place++) {
         size_t origin = lanes->origin[place];
-        if (is_awaited(lanes, place, origin) && start[origin].kind == WOSTHILE_TYPE_SEQUENCE &&
-            is_within(start[node].lanes, start[start[origin].second].lanes)) {
+        bool either = start[origin].kind == WOSTHILE_TYPE_EITHER;
+        bool step = is_awaited(lanes, place, origin) && (either || start[origin].kind == WOSTHILE_TYPE_SEQUENCE);
+        size_t opened = either ? origin : start[origin].second;
+        if (step && is_within(start[node].lanes, start[opened].lanes)) {
             return origin;
         }
     }
     return node;
 }
 
-/* What is still owed in a range of lanes, as a node of the start: the first lane or, if none is, the first crossing. */
+/*
+ * What is still owed in a range of lanes, as a node of the start: the first lane or, if none is, the first crossing or
+ * choice. Before the choice the parts of an either owe nothing themselves.
+ */
 static size_t owed_within(const struct lanes *lanes, struct lane_range range)
 {
-    size_t lane = SIZE_MAX, crossing = SIZE_MAX;
-    for (size_t place = lanes->nodes; place > 0; place--) {
-        size_t origin = lanes->origin[place - 1];
-        uint8_t kind = lanes->type[2 + place - 1];
-        bool within = is_within(lanes->start[origin].lanes, range);
-        lane = within && coming_words(kind) != NULL ? origin : lane;
-        crossing = within && kind == WOSTHILE_TYPE_SEQUENCE ? origin : crossing;
+    struct file type = {lanes->type + 2, lanes->nodes};
+    size_t lane = SIZE_MAX, step = SIZE_MAX, next;
+    for (size_t place = 0; place < type.length; place = next) {
+        uint8_t kind = type.bytes[place];
+        size_t origin = lanes->origin[place], *found = type_kind(kind)->parts == 0 ? &lane : &step;
+        next = kind == WOSTHILE_TYPE_EITHER ? type_end(type, place) : place + 1;
+        if (*found == SIZE_MAX && has_event(kind) && is_within(lanes->start[origin].lanes, range)) {
+            *found = origin;
+        }
     }
-    return lane != SIZE_MAX ? lane : crossing;
+    return lane != SIZE_MAX ? lane : step;
+}
+
+/* Is a node of the start in a part that was not chosen? */
+static bool is_gone(const struct score *score, size_t node)
+{
+    struct lane_range lanes = score->in.start[node].lanes;
+    unsigned lane = lanes.first;
+    while (lane <= lanes.last && score->gone[lane]) {
+        lane++;
+    }
+    return lane > lanes.last;
 }
 
 /* Tells why an event cannot come now. If it has a place, it is a crossing from a part that is not complete. */
@@ -476,7 +513,7 @@ static noreturn void refuse_event(const struct score *score, const struct event 
     char why[MESSAGE_BYTES];
     struct text text = text_begin(why, sizeof why);
     const struct lanes *lanes = &score->in;
-    size_t before = crossing_before(lanes, event->node);
+    size_t before = step_before(lanes, event->node);
     add_thing(&text, score, event->node);
     if (placed) {
         text_add(&text, " has to wait for ");
@@ -487,20 +524,34 @@ static noreturn void refuse_event(const struct score *score, const struct event 
         add_thing(&text, score, before);
         text_add(&text, ", which has not come");
     } else {
-        text_add(&text, " has come already");
+        text_add(&text, is_gone(score, event->node) ? " is gone: the other part was chosen" : " has come already");
     }
     refuse_at(score, event->line, why);
+}
+
+/* Moves on behind a slice, and notes which lanes are gone with it. */
+static uint32_t follow(struct score *score, struct file slice)
+{
+    struct lane_events events;
+    uint32_t number = lanes_follow(&score->in, slice, &events);
+    for (size_t index = 0; index < events.count; index++) {
+        const struct lane_event *event = &events.list[index];
+        struct lane_range gone = lanes_gone(event);
+        for (unsigned lane = gone.first; is_choice(event) && lane <= gone.last; lane++) {
+            score->gone[lane] = true;
+        }
+    }
+    return number;
 }
 
 /* Adds a slice, with an event or with nothing, to what comes in the frame that is being made. */
 static void add_slice(struct score *score, const struct event *event)
 {
     struct slice slice;
-    struct lane_events events;
     make_slice(&slice, &score->in, event);
     struct file file = {slice.bytes, slice.length};
     bool placed = event == NULL || slice.placed;
-    if (!placed || lanes_follow(&score->in, file, &events) != WOSTHILE_ACCEPTED) {
+    if (!placed || follow(score, file) != WOSTHILE_ACCEPTED) {
         refuse_event(score, event, placed);
     }
     if (joined_add(&score->coming, patch_input_type(&score->patch), file) != WOSTHILE_ACCEPTED) {
@@ -587,13 +638,42 @@ static size_t lane_node(const struct lanes *lanes, unsigned lane)
     return node;
 }
 
+/* Does the part at a node of the start begin with a lane? An either begins as each of its parts does. */
+static bool begins_with(const struct start_node *start, size_t node, unsigned lane)
+{
+    if (type_kind(start[node].kind)->parts == 0) {
+        return start[node].lanes.first == lane;
+    }
+    bool either = start[node].kind == WOSTHILE_TYPE_EITHER;
+    return begins_with(start, node + 1, lane) || (either && begins_with(start, start[node].second, lane));
+}
+
 /* The sequence of the start whose second part begins with a lane; the number of nodes if there is none. */
 static size_t crossing_node(const struct lanes *lanes, unsigned lane)
 {
     const struct start_node *start = lanes->start;
     size_t node = 0;
     while (node < lanes->start_nodes &&
-           (start[node].kind != WOSTHILE_TYPE_SEQUENCE || start[start[node].second].lanes.first != lane)) {
+           (start[node].kind != WOSTHILE_TYPE_SEQUENCE || !begins_with(start, start[node].second, lane))) {
+        node++;
+    }
+    return node;
+}
+
+/*
+ * The either of the start with a part that begins with a lane; the number of nodes if there is none. Several that lie
+ * in one another may begin with it: the outermost of which no part is chosen yet, else the outermost.
+ */
+static size_t choice_node(const struct lanes *lanes, unsigned lane)
+{
+    const struct start_node *start = lanes->start;
+    for (size_t place = 0; place < lanes->nodes; place++) {
+        if (lanes->type[2 + place] == WOSTHILE_TYPE_EITHER && begins_with(start, lanes->origin[place], lane)) {
+            return lanes->origin[place];
+        }
+    }
+    size_t node = 0;
+    while (node < lanes->start_nodes && (start[node].kind != WOSTHILE_TYPE_EITHER || !begins_with(start, node, lane))) {
         node++;
     }
     return node;
@@ -611,6 +691,18 @@ static void read_crossing(struct score *score, struct event *event)
     if (event->node == score->in.start_nodes) {
         stop_for_lane(score, lane, event->line, "is not the first lane of a second part, so no crossing leads to it");
     }
+}
+
+/* Reads `choose LANE`, behind its first word. */
+static void read_choice(struct score *score, struct event *event)
+{
+    unsigned lane = take_lane(score);
+    event->node = choice_node(&score->in, lane);
+    if (event->node == score->in.start_nodes) {
+        stop_for_lane(score, lane, event->line, "is not the first lane of a part that can be chosen");
+    }
+    bool first = begins_with(score->in.start, event->node + 1, lane);
+    event->kind = first ? WOSTHILE_SLICE_FIRST_CHOSEN : WOSTHILE_SLICE_SECOND_CHOSEN;
 }
 
 /* Reads `cue LANE` or `level LANE VALUE`, behind its first word, which is a kind of type. */
@@ -634,7 +726,6 @@ static void read_coming(struct score *score, struct event *event, uint8_t type)
 static void read_bytes(struct score *score, size_t line)
 {
     struct memory_file made;
-    struct lane_events events;
     if (score->coming.count > 0) {
         stop_at(&score->reader, line, "frame %zu has other lines, and bytes are all of a frame", score->frame);
     }
@@ -647,7 +738,7 @@ static void read_bytes(struct score *score, size_t line)
         stop_at(&score->reader, line, "a slice has at most %d bytes", SLICE_BYTES_MAX);
     }
     end_line(&score->reader);
-    lanes_follow(&score->in, slice, &events);
+    follow(score, slice);
     record_frame(score, slice);
     free(made.bytes);
 }
@@ -669,10 +760,12 @@ static void read_frame_line(struct score *score)
     }
     if (take_words(reader, "cross")) {
         read_crossing(score, &event);
+    } else if (take_words(reader, "choose")) {
+        read_choice(score, &event);
     } else if (take_kind(reader, coming_words, &type)) {
         read_coming(score, &event, type);
     } else {
-        stop_for_kind(reader, coming_words, ", \"cross\" or \"bytes\"");
+        stop_for_kind(reader, coming_words, ", \"cross\", \"choose\" or \"bytes\"");
     }
     end_line(reader);
     add_slice(score, &event);

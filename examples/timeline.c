@@ -14,7 +14,8 @@ static const char help[] =
     "At most 16 seeds. --frames draws a part of the show larger. Refused slices have marks with their numbers; those\n"
     "that would lie on one another have one mark, with a count. A pointer that rests on such a mark shows what is\n"
     "wrong; on the mark of a cue or a level it shows in which frame it came, and how late. The first 12 refused\n"
-    "slices are put in words below the panels; so is a show file that ends inside a slice.\n"
+    "slices are put in words below the panels; so is a show file that ends inside a slice. A pointer on the line of a\n"
+    "choice shows what was chosen.\n"
     "\n"
     "Exit status: 0 drawn, even if slices are refused; 1 the patch is refused; 2 words or files that cannot be used.\n";
 
@@ -30,6 +31,7 @@ enum { PANELS_MAX = 16, LISTED_MAX = 12, LISTED_LINES_MAX = 48, FRAMES_A_SECOND 
 enum { WORDS_BYTES = MESSAGE_BYTES + 64, COLUMN_WORDS_BYTES = WORDS_BYTES + 128, LABEL_BYTES = 48 };
 
 #define LANE_COLOUR "#e9eff6"
+#define OFFERED_COLOUR "#dff3ec" /* of a lane that may be chosen */
 #define JOINED_COLOUR "#ffd23f"
 
 /* The part of the show that is drawn. Of a show without frames it has none: from 1 to 0. */
@@ -48,6 +50,7 @@ struct drawing {
     double frames_left; /* where the first frame begins */
     double frame_width, lane_height;
     bool faults;      /* is there a row for refused slices? */
+    bool choices;     /* is there a choice on either side? */
     bool empty_lanes; /* is there a lane in which nothing ever comes? */
 };
 
@@ -58,9 +61,13 @@ struct rows {
     double top;
 };
 
-/* From when to when a lane is open: from the crossing that opens it to the one that ends it. */
+/*
+ * From when to when a lane is open: from the crossing that opens it to the one that ends it, or to the choice of other
+ * lanes. A lane in a part that may be chosen waits for that.
+ */
 struct life {
-    size_t open, close; /* frames: 0 before the first, NEVER for a crossing that does not come */
+    size_t open, close; /* frames: 0 before the first, NEVER for a crossing or a choice that does not come */
+    size_t chosen;      /* the frame of the last choice that it waits for; 0 if there is none */
     bool empty;         /* the lane of an empty part, in which nothing comes */
 };
 
@@ -88,24 +95,42 @@ static double top_of(const struct drawing *drawing, const struct rows *rows, uns
     return rows->top + (lane - 1.0) * drawing->lane_height;
 }
 
-/* The frame in which the sequence was crossed whose second part begins with a lane; every lane begins one at most. */
-static size_t crossing_frame(const struct side *side, unsigned lane)
+/* The mark of an event at a fork of the type, if it came; no other fork has a second part that begins with that lane.
+ */
+static const struct mark *mark_of_fork(const struct side *side, enum lane_event_kind kind, unsigned lane)
 {
-    struct lane_event crossing = {.kind = EVENT_CROSSING, .to = {lane, lane}};
-    const struct mark *mark = mark_of_event(side, &crossing);
-    return mark == NULL ? NEVER : mark->frame;
+    struct lane_event event = {.kind = kind, .second = {lane, lane}};
+    return mark_of_event(side, &event);
 }
 
+static size_t earlier(size_t one, size_t other) { return one < other ? one : other; }
+
+static size_t later(size_t one, size_t other) { return one > other ? one : other; }
+
 /* Shortens the lives of the lanes of a sequence: the first part closes at its crossing, and the second one opens. */
-static void cross_lives(struct life *lives, struct lane_range from, struct lane_range to, size_t crossed)
+static void cross_lives(struct life *lives, const struct side *side, struct lane_range first, struct lane_range second)
 {
-    for (unsigned lane = from.first; lane <= to.last; lane++) {
-        struct life *life = &lives[lane];
-        if (lane <= from.last) {
-            life->close = crossed < life->close ? crossed : life->close;
-        } else {
-            life->open = crossed > life->open ? crossed : life->open;
-        }
+    const struct mark *mark = mark_of_fork(side, EVENT_CROSSING, second.first);
+    size_t crossed = mark == NULL ? NEVER : mark->frame;
+    for (unsigned lane = first.first; lane <= first.last; lane++) {
+        lives[lane].close = earlier(lives[lane].close, crossed);
+    }
+    for (unsigned lane = second.first; lane <= second.last; lane++) {
+        lives[lane].open = later(lives[lane].open, crossed);
+    }
+}
+
+/* The lanes of an either wait for the choice; those that are not chosen close at it. */
+static void choose_lives(struct life *lives, const struct side *side, struct lane_range first, struct lane_range second)
+{
+    const struct mark *one = mark_of_fork(side, EVENT_FIRST_CHOSEN, second.first);
+    const struct mark *mark = one != NULL ? one : mark_of_fork(side, EVENT_SECOND_CHOSEN, second.first);
+    for (unsigned lane = first.first; lane <= second.last; lane++) {
+        lives[lane].chosen = later(lives[lane].chosen, mark == NULL ? NEVER : mark->frame);
+    }
+    struct lane_range gone = mark == NULL ? (struct lane_range){1, 0} : lanes_gone(&mark->event);
+    for (unsigned lane = gone.first; lane <= gone.last; lane++) {
+        lives[lane].close = earlier(lives[lane].close, mark->frame);
     }
 }
 
@@ -114,26 +139,23 @@ static void find_lives(const struct side *side, struct life lives[LANES_MAX + 1]
 {
     const struct start_node *start = side->lanes.start;
     for (unsigned lane = 0; lane <= side->lanes.count; lane++) {
-        lives[lane] = (struct life){0, NEVER, false};
+        lives[lane] = (struct life){0, NEVER, 0, false};
     }
     for (size_t node = 0; node < side->lanes.start_nodes; node++) {
         if (start[node].kind == WOSTHILE_TYPE_SEQUENCE) {
-            struct lane_range from = start[node + 1].lanes, to = start[start[node].second].lanes;
-            cross_lives(lives, from, to, crossing_frame(side, to.first));
+            cross_lives(lives, side, start[node + 1].lanes, start[start[node].second].lanes);
+        } else if (start[node].kind == WOSTHILE_TYPE_EITHER) {
+            choose_lives(lives, side, start[node + 1].lanes, start[start[node].second].lanes);
         } else if (start[node].kind == WOSTHILE_TYPE_EMPTY) {
             lives[start[node].lanes.first].empty = true;
         }
     }
 }
 
-static bool has_empty_lanes(const struct lanes *lanes)
+/* Is there a node of a kind on a side of the show? */
+static bool has_kind(const struct opened_show *opened, uint8_t kind)
 {
-    for (size_t node = 0; node < lanes->start_nodes; node++) {
-        if (lanes->start[node].kind == WOSTHILE_TYPE_EMPTY) {
-            return true;
-        }
-    }
-    return false;
+    return lanes_have_kind(&opened->in, kind) || lanes_have_kind(&opened->out, kind);
 }
 
 /* The line of a lane, and the band that says when it is open; an empty one has none, since nothing is awaited in it. */
@@ -142,18 +164,22 @@ static void draw_lane(const struct drawing *drawing, struct life life, double to
     double bottom = top + drawing->lane_height;
     svg_line(drawing->left, bottom, drawing->right, bottom, LINE_COLOUR, 1);
     double open = middle_of(drawing, life.open), close = middle_of(drawing, life.close);
+    double chosen = middle_of(drawing, later(life.open, earlier(life.chosen, life.close)));
+    if (chosen > open) {
+        svg_rectangle(open, top + 1, chosen - open, drawing->lane_height - 2, OFFERED_COLOUR, 1);
+    }
     if (close > open && life.empty) {
         svg_dashes(open, top + drawing->lane_height / 2, close, GREY_COLOUR);
-    } else if (close > open) {
-        svg_rectangle(open, top + 1, close - open, drawing->lane_height - 2, LANE_COLOUR, 1);
+    } else if (close > chosen) {
+        svg_rectangle(chosen, top + 1, close - chosen, drawing->lane_height - 2, LANE_COLOUR, 1);
     }
 }
 
-/* The lanes of a side one below the other, with their names and the parts of sequences. */
+/* The lanes of a side one below the other, with their names and the parts of sequences and choices. */
 static void draw_lanes(const struct drawing *drawing, const struct rows *rows)
 {
     struct life lives[LANES_MAX + 1];
-    struct sequence_parts parts;
+    struct numbered_parts parts;
     find_lives(rows->side, lives);
     parts_find(&parts, &rows->side->lanes);
     double names_end = drawing->left - 6 - parts_width(&parts);
@@ -285,48 +311,86 @@ static void draw_earlier_level(const struct drawing *drawing, const struct rows 
     }
 }
 
-/*
- * A line through the lanes of a sequence: a bar where a lane ends, an arrow to the line where one opens. How late it is
- * is in a badge on the line between the two parts, so that it is not taken for a lane's; no other crossing has a badge
- * there, since a lane begins the second part of one sequence at most.
- */
-static void draw_crossing(const struct drawing *drawing, const struct rows *rows, const struct mark *mark,
-                          const struct life *lives)
+static const char *step_colour(const struct mark *mark)
 {
-    struct lane_range from = mark->event.from, to = mark->event.to;
+    return is_choice(&mark->event) ? CHOICE_COLOUR : CROSSING_COLOUR;
+}
+
+/* A line through the lanes of a crossing or a choice: a bar where a lane ends, an arrow to the line where one opens. */
+static void draw_step(const struct drawing *drawing, const struct rows *rows, const struct mark *mark,
+                      const struct life *lives)
+{
+    struct lane_range first = mark->event.first, second = mark->event.second;
+    bool choice = is_choice(&mark->event);
+    struct lane_range opened = choice ? lanes_chosen(&mark->event) : second;
+    const char *colour = step_colour(mark);
     double x = middle_of(drawing, mark->frame), height = drawing->lane_height;
-    svg_line(x, top_of(drawing, rows, from.first), x, top_of(drawing, rows, to.last + 1), CROSSING_COLOUR, 1.5);
-    for (unsigned lane = from.first; lane <= to.last; lane++) {
+    svg_line(x, top_of(drawing, rows, first.first), x, top_of(drawing, rows, second.last + 1), colour, 1.5);
+    for (unsigned lane = first.first; lane <= second.last; lane++) {
         double top = top_of(drawing, rows, lane);
-        if (lane <= from.last && lives[lane].close == mark->frame) {
-            svg_line(x, top + 2, x, top + height - 2, CROSSING_COLOUR, 4);
-        } else if (lane >= to.first && lives[lane].open == mark->frame) {
-            svg_arrow(x, top + height / 2);
+        struct life life = lives[lane];
+        size_t begin = choice ? life.chosen : life.open;
+        bool opens = lane >= opened.first && lane <= opened.last;
+        if (opens && begin == mark->frame && life.open <= mark->frame) {
+            svg_arrow(x, top + height / 2, colour);
+        } else if (!opens && life.close == mark->frame && life.open <= mark->frame) {
+            svg_line(x, top + 2, x, top + height - 2, colour, 4);
         }
     }
+}
+
+/*
+ * How late a crossing or a choice is, in a badge on its line between the two parts, so that it is not taken for a
+ * lane's; no other one has a badge there, since a lane begins the second part of one fork at most.
+ */
+static void draw_badge(const struct drawing *drawing, const struct rows *rows, const struct mark *mark)
+{
     size_t late = lateness(rows, mark);
     if (late > 0) {
         char words[24];
         snprintf(words, sizeof words, "+%zu", late);
-        svg_badge(x, top_of(drawing, rows, to.first), words);
+        svg_badge(middle_of(drawing, mark->frame), top_of(drawing, rows, mark->event.second.first), step_colour(mark),
+                  words);
     }
 }
 
-/* The marks in the lanes, in three layers: what stays lies behind the crossings, and the moments lie on top. */
+/* A choice, and what a pointer shows on it. */
+static void draw_choice(const struct drawing *drawing, const struct rows *rows, const struct mark *mark,
+                        const struct life *lives)
+{
+    char event[EVENT_TEXT_BYTES], words[WORDS_BYTES];
+    lane_event_text(event, &mark->event, rows->names);
+    snprintf(words, sizeof words, "frame %zu: %s", mark->frame, event);
+    svg_group_begin("choice", words);
+    draw_step(drawing, rows, mark, lives);
+    svg_group_end();
+}
+
+/* Is it in a lane, as no crossing and no choice is? */
+static bool is_in_lane(const struct lane_event *event)
+{
+    return event->kind == EVENT_CUE || event->kind == EVENT_LEVEL;
+}
+
+/* The marks in the lanes, in layers: what stays lies behind the crossings and choices, the moments lie on top. */
 static void draw_marks(const struct drawing *drawing, const struct rows *rows)
 {
-    enum { STAYS, CROSSINGS, MOMENTS, LAYERS };
+    enum { STAYS, STEPS, BADGES, MOMENTS, LAYERS };
     struct life lives[LANES_MAX + 1];
     find_lives(rows->side, lives);
     for (size_t index = 0; index < LAYERS * rows->side->count; index++) {
         size_t layer = index / rows->side->count;
         const struct mark *mark = &rows->side->marks[index % rows->side->count];
-        bool crossing = mark->event.kind == EVENT_CROSSING;
-        if (layer == STAYS && !crossing) {
+        bool in_lane = is_in_lane(&mark->event), seen = visible(drawing, mark->frame);
+        if (layer == STAYS && in_lane) {
             draw_stay(drawing, mark, lives[mark->event.lane], top_of(drawing, rows, mark->event.lane));
-        } else if (layer == CROSSINGS && crossing && visible(drawing, mark->frame)) {
-            draw_crossing(drawing, rows, mark, lives);
-        } else if (layer == MOMENTS && !crossing && visible(drawing, mark->frame)) {
+        } else if (layer == STEPS && seen && mark->event.kind == EVENT_CROSSING) {
+            draw_step(drawing, rows, mark, lives);
+        } else if (layer == STEPS && seen && is_choice(&mark->event)) {
+            draw_choice(drawing, rows, mark, lives);
+        } else if (layer == BADGES && seen && !in_lane) {
+            draw_badge(drawing, rows, mark);
+        } else if (layer == MOMENTS && in_lane && seen) {
             draw_mark(drawing, rows, mark, lives[mark->event.lane]);
         } else if (layer == MOMENTS && mark->event.kind == EVENT_LEVEL) {
             draw_earlier_level(drawing, rows, mark, lives[mark->event.lane]);
@@ -601,7 +665,7 @@ static void sign_level(double x, double y)
 static void sign_crossing(double x, double y)
 {
     svg_line(x + 11, y - 9, x + 11, y + 9, CROSSING_COLOUR, 1.5);
-    svg_arrow(x + 11, y);
+    svg_arrow(x + 11, y, CROSSING_COLOUR);
 }
 
 static void sign_joined(double x, double y) { svg_rectangle(x, y - 7, 8, 15, JOINED_COLOUR, 0.55); }
@@ -611,29 +675,42 @@ static void sign_late(double x, double y) { svg_text(x, y + 4, TEXT_STARTS, TEXT
 static void sign_late_crossing(double x, double y)
 {
     svg_line(x + 8, y - 9, x + 8, y + 9, CROSSING_COLOUR, 1.5);
-    svg_badge(x + 8, y, "+2");
+    svg_badge(x + 8, y, CROSSING_COLOUR, "+2");
 }
 
-/* The marks and what they mean, in two rows, and a third one if there are empty lanes. */
-static void draw_legend(double y, bool empty_lanes)
+static void sign_offered(double x, double y) { svg_rectangle(x, y - 7, 26, 15, OFFERED_COLOUR, 1); }
+
+static void sign_choice(double x, double y)
+{
+    svg_line(x + 11, y - 9, x + 11, y + 9, CHOICE_COLOUR, 1.5);
+    svg_arrow(x + 11, y - 4, CHOICE_COLOUR);
+    svg_line(x + 11, y + 2, x + 11, y + 8, CHOICE_COLOUR, 4);
+}
+
+/* The marks and what they mean, in two rows, a third one if there are choices, and another if there are empty lanes. */
+static void draw_legend(double y, const struct drawing *drawing)
 {
     static const struct svg_sign lanes[] = {{sign_open, 26, "lane is open"},
                                             {sign_cue, 26, "cue comes, and stays"},
                                             {sign_level, 26, "level comes, and stays"},
-                                            {parts_sign, 14, "parts of a sequence, one after the other"}};
+                                            {sequence_sign, 14, "parts of a sequence, one after the other"}};
     static const struct svg_sign frames[] = {{sign_crossing, 12, "crossing: one part ends, the next opens"},
                                              {sign_joined, 8, "brought by slices that came as one"},
                                              {sign_late, 12, "frames later than recorded"},
                                              {sign_late_crossing, 16, "the same, of a crossing"}};
+    static const struct svg_sign choices[] = {{sign_offered, 26, "lane may be chosen"},
+                                              {sign_choice, 14, "choice: one part goes on, the other ends"},
+                                              {choice_sign, 14, "parts of a choice, one or the other"}};
     static const struct svg_sign empty = {sign_empty, 26, "an empty part: nothing comes"};
     svg_legend(MARGIN, y, lanes, sizeof lanes / sizeof lanes[0]);
     svg_legend(MARGIN, y + LEGEND_ROW_HEIGHT, frames, sizeof frames / sizeof frames[0]);
-    svg_legend(MARGIN, y + 2 * LEGEND_ROW_HEIGHT, &empty, empty_lanes ? 1 : 0);
+    svg_legend(MARGIN, y + 2 * LEGEND_ROW_HEIGHT, choices, drawing->choices ? sizeof choices / sizeof choices[0] : 0);
+    svg_legend(MARGIN, y + (drawing->choices ? 3 : 2) * LEGEND_ROW_HEIGHT, &empty, drawing->empty_lanes ? 1 : 0);
 }
 
 static double header_height(const struct drawing *drawing)
 {
-    return HEADER_HEIGHT + (drawing->empty_lanes ? LEGEND_ROW_HEIGHT : 0);
+    return HEADER_HEIGHT + (drawing->choices + drawing->empty_lanes) * LEGEND_ROW_HEIGHT;
 }
 
 static void draw_header(const char *path, const struct drawing *drawing, double height)
@@ -649,7 +726,7 @@ static void draw_header(const char *path, const struct drawing *drawing, double 
     svg_text(MARGIN, 50, TEXT_STARTS, TEXT_PLAIN,
              "Frames run to the right. Each lane %sis for one cue or one level; it comes once, while the lane is open.",
              drawing->empty_lanes ? "that is no empty part " : "");
-    draw_legend(70, drawing->empty_lanes);
+    draw_legend(70, drawing);
 }
 
 /* What is wrong with the recording, in lines that fit on the page. */
@@ -705,7 +782,7 @@ static void draw_list(const struct fault_list *list, double top)
 /* The room that the names of a side need with the bands beside them. */
 static double names_width(const struct lanes *lanes, const struct side_names *names)
 {
-    struct sequence_parts parts;
+    struct numbered_parts parts;
     double widest = svg_text_width(TEXT_SMALL, "slices in a frame");
     parts_find(&parts, lanes);
     for (unsigned lane = 1; lane <= lanes->count; lane++) {
@@ -732,7 +809,8 @@ static struct drawing lay_out(const struct opened_show *opened, const struct pan
         .frame_width = frames == 0 ? 0 : (right - left - ROOM_BEFORE_FRAMES) / (double)frames,
         .lane_height = opened->in.count + opened->out.count <= 64 ? 17 : 14,
         .faults = recorded->refused > 0 || recorded->broken_off > 0,
-        .empty_lanes = has_empty_lanes(&opened->in) || has_empty_lanes(&opened->out),
+        .choices = has_kind(opened, WOSTHILE_TYPE_EITHER),
+        .empty_lanes = has_kind(opened, WOSTHILE_TYPE_EMPTY),
     };
 }
 

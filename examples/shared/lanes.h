@@ -17,17 +17,22 @@ struct lane_range {
     unsigned first, last;
 };
 
-/* What a slice brings: a cue or a level in a lane, or the crossing of a sequence from its first part to its second. */
+/*
+ * What a slice brings: a cue or a level in a lane, the crossing of a sequence from its first part to its second, or the
+ * choice of one part of an either, with which the other part and its lanes are gone.
+ */
+enum lane_event_kind { EVENT_CUE, EVENT_LEVEL, EVENT_CROSSING, EVENT_FIRST_CHOSEN, EVENT_SECOND_CHOSEN };
+
 struct lane_event {
-    enum { EVENT_CUE, EVENT_LEVEL, EVENT_CROSSING } kind;
-    unsigned lane;              /* of a cue or a level */
-    unsigned value;             /* of a level */
-    struct lane_range from, to; /* of a crossing: the lanes of the first part, and of the second */
+    enum lane_event_kind kind;
+    unsigned lane;                   /* of a cue or a level */
+    unsigned value;                  /* of a level */
+    struct lane_range first, second; /* of a crossing or a choice: the lanes of the first part, and of the second */
 };
 
 /*
- * In the order in which a stream brings them: a crossing comes behind its first part and before its second. Each node
- * of the type brings one at most in the whole show.
+ * In the order in which a stream brings them: a crossing comes behind its first part and before its second, a choice
+ * before the part that is chosen. Each node of the type brings one at most in the whole show.
  */
 struct lane_events {
     size_t count;
@@ -53,16 +58,31 @@ struct lanes {
 /* Begins with a type file; false if it is not one, or is cut or too large. */
 bool lanes_start(struct lanes *lanes, struct file type);
 
+/* Has the type at the start a node of a kind? */
+bool lanes_have_kind(const struct lanes *lanes, uint8_t kind);
+
 /*
  * Tells what a slice brings, and moves on to what it leaves. The answer is 0, or the number for which wosthile_admit
  * refuses the slice; then there are no events, and nothing moves.
  */
 uint32_t lanes_follow(struct lanes *lanes, struct file slice, struct lane_events *events);
 
-/* Prints an event in words, with the names of its side, on a line of its own. */
+/* Is it a choice? Then these are the lanes of the part that is chosen, and those that are gone. */
+bool is_choice(const struct lane_event *event);
+struct lane_range lanes_chosen(const struct lane_event *event);
+struct lane_range lanes_gone(const struct lane_event *event);
+
+/* An event in words, with the names of its side; there is room for the longest names. */
+enum { EVENT_TEXT_BYTES = 512 };
+void lane_event_text(char to[EVENT_TEXT_BYTES], const struct lane_event *event, const struct side_names *names);
+
+/* Prints these words on a line of their own. */
 void lane_event_print(const struct lane_event *event, const struct side_names *names);
 
-/* Says on a line what is left of the type: the lanes in which something has still to come, and how many crossings. */
+/*
+ * Says on a line what is left of the type: the lanes in which something has still to come, and how many crossings and
+ * choices. What an either owes is its choice, as long as that has not come.
+ */
 void lanes_print_owed(const struct lanes *lanes, const struct side_names *names);
 
 #endif

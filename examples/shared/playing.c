@@ -113,7 +113,7 @@ const struct mark *mark_of_event(const struct side *side, const struct lane_even
 {
     for (size_t index = 0; index < side->count; index++) {
         const struct lane_event *other = &side->marks[index].event;
-        if (other->kind == event->kind && other->lane == event->lane && other->to.first == event->to.first) {
+        if (other->kind == event->kind && other->lane == event->lane && other->second.first == event->second.first) {
             return &side->marks[index];
         }
     }

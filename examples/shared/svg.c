@@ -23,6 +23,9 @@ static const struct look looks[] = {
     [TEXT_LATE] = {"late", 9, "fill:#6b2fa0;paint-order:stroke;stroke:#fff;stroke-width:2px"},
     [TEXT_BADGE] = {"badge", 8.5, "font-weight:bold;fill:#fff"},
     [TEXT_PART] = {"part", 8.5, "font-weight:bold;fill:" CROSSING_COLOUR},
+    [TEXT_SIDE] = {"side", 8.5, "font-weight:bold;fill:" CHOICE_COLOUR},
+    [TEXT_CHOICE] = {"choice-name", 10,
+                     "font-weight:bold;fill:" CHOICE_COLOUR ";paint-order:stroke;stroke:#fff;stroke-width:2px"},
     [TEXT_FAULT] = {"fault", 10,
                     "font-weight:bold;fill:" CROSSING_COLOUR ";paint-order:stroke;stroke:#fff;stroke-width:2px"},
 };
@@ -108,9 +111,9 @@ void svg_diamond(double x, double y)
            y - 5.5);
 }
 
-void svg_arrow(double x, double y)
+void svg_arrow(double x, double y, const char *colour)
 {
-    printf("<path d=\"M%.1f %.1fl-11 -4v8z\" fill=\"" CROSSING_COLOUR "\"/>\n", x, y);
+    printf("<path d=\"M%.1f %.1fl-11 -4v8z\" fill=\"%s\"/>\n", x, y, colour);
 }
 
 void svg_curve(double x1, double y1, double x2, double y2, const char *colour, double width)
@@ -165,10 +168,10 @@ void svg_text(double x, double y, enum text_anchor anchor, enum text_look look, 
     printf("</text>\n");
 }
 
-void svg_badge(double x, double y, const char *words)
+void svg_badge(double x, double y, const char *colour, const char *words)
 {
     double width = svg_text_width(TEXT_BADGE, words) + 6, height = looks[TEXT_BADGE].size + 2;
-    svg_box(x - width / 2, y - height / 2, width, height, CROSSING_COLOUR, "#fff");
+    svg_box(x - width / 2, y - height / 2, width, height, colour, "#fff");
     svg_text(x, y + 3, TEXT_CENTRED, TEXT_BADGE, "%s", words);
 }
 

@@ -20,6 +20,8 @@ enum text_look {
     TEXT_LATE,  /* likewise, smaller */
     TEXT_BADGE, /* white, in a badge */
     TEXT_PART,  /* the number of a part of a sequence */
+    TEXT_SIDE,  /* the number of a part of a choice */
+    TEXT_CHOICE,
     TEXT_FAULT
 };
 
@@ -31,6 +33,7 @@ enum text_anchor { TEXT_STARTS, TEXT_CENTRED, TEXT_ENDS };
 #define LEVEL_COLOUR "#f0b03f"
 #define LEVEL_EDGE_COLOUR "#8a5a00"
 #define CROSSING_COLOUR "#a4123f"
+#define CHOICE_COLOUR "#0b7261"
 #define LINE_COLOUR "#dde2e8"
 #define GREY_COLOUR "#7b8794"
 
@@ -56,10 +59,10 @@ void svg_dashes(double x1, double y, double x2, const char *colour);
 void svg_diamond(double x, double y);
 
 /*
- * The mark of a crossing where a lane opens: an arrow that ends at a point. It is longer than half a diamond, so it is
- * seen also where a cue comes with the crossing.
+ * The mark of a crossing or a choice where a lane opens: an arrow that ends at a point. It is longer than half a
+ * diamond, so it is seen also where a cue comes with the crossing.
  */
-void svg_arrow(double x, double y);
+void svg_arrow(double x, double y, const char *colour);
 
 /* A curve that leaves one point and reaches another from the left to the right. */
 void svg_curve(double x1, double y1, double x2, double y2, const char *colour, double width);
@@ -84,8 +87,8 @@ void svg_zigzag(double x, double top, double bottom, const char *colour);
 void svg_text(double x, double y, enum text_anchor anchor, enum text_look look, const char *format, ...)
     __attribute__((format(printf, 5, 6)));
 
-/* Words about a crossing, in a box of the crossing's colour around a point. */
-void svg_badge(double x, double y, const char *words);
+/* Words about a crossing or a choice, in a box of its colour around a point. */
+void svg_badge(double x, double y, const char *colour, const char *words);
 
 /* A group of shapes; a browser shows the words at a pointer that rests on one of them. */
 void svg_group_begin(const char *class, const char *words);

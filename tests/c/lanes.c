@@ -4,6 +4,7 @@
  * the type has to be what the library leaves.
  */
 #include "arrivals.h"
+#include "kinds.h"
 #include "lanes.h"
 
 #include <stdio.h>
@@ -14,9 +15,10 @@ enum { SHOWS = 400, SLICES = 60 };
 
 struct part {
     uint8_t kind;
-    bool done; /* a leaf has come, a sequence is crossed */
+    bool done; /* a leaf has come, a sequence is crossed, a part of an either is chosen */
     struct lane_range lanes;
     size_t second;
+    size_t chosen; /* of an either, if it is done */
 };
 
 struct trial {
@@ -28,14 +30,17 @@ struct trial {
     uint8_t slice[WOSTHILE_SLICE_FILE_MAX];
     size_t length;
     struct lane_events expected;
+    size_t choices; /* in all slices so far */
 };
 
 static unsigned draw(struct trial *trial, unsigned below) { return (unsigned)(next_random(&trial->random) % below); }
 
-/* Draws a part with a number of leaves; sequences and parts side by side are as likely. */
+/* Draws a part with a number of leaves. Each either takes a part of the show away, so there are fewer of them. */
 static void draw_part(struct trial *trial, unsigned leaves)
 {
     static const uint8_t leaf_kinds[3] = {WOSTHILE_TYPE_EMPTY, WOSTHILE_TYPE_CUE, WOSTHILE_TYPE_LEVEL};
+    static const uint8_t fork_kinds[5] = {WOSTHILE_TYPE_SEQUENCE, WOSTHILE_TYPE_BESIDE, WOSTHILE_TYPE_SEQUENCE,
+                                          WOSTHILE_TYPE_BESIDE, WOSTHILE_TYPE_EITHER};
     struct part *part = &trial->parts[trial->count++];
     *part = (struct part){.kind = leaf_kinds[draw(trial, 3)], .lanes = {trial->lanes + 1, trial->lanes + leaves}};
     if (leaves == 1) {
@@ -43,7 +48,7 @@ static void draw_part(struct trial *trial, unsigned leaves)
         return;
     }
     unsigned first = 1 + draw(trial, leaves - 1);
-    part->kind = draw(trial, 2) == 0 ? WOSTHILE_TYPE_SEQUENCE : WOSTHILE_TYPE_BESIDE;
+    part->kind = fork_kinds[draw(trial, 5)];
     draw_part(trial, first);
     part->second = trial->count;
     draw_part(trial, leaves - first);
@@ -82,36 +87,82 @@ static void draw_leaf(struct trial *trial, struct part *part)
 static bool is_complete(const struct trial *trial, size_t at)
 {
     const struct part *part = &trial->parts[at];
-    if (part->kind < WOSTHILE_TYPE_SEQUENCE) {
+    if (type_kind(part->kind)->parts == 0) {
         return part->kind == WOSTHILE_TYPE_EMPTY || part->done;
+    }
+    if (part->kind == WOSTHILE_TYPE_EITHER) {
+        return part->done && is_complete(trial, part->chosen);
     }
     bool first = part->kind == WOSTHILE_TYPE_SEQUENCE ? part->done : is_complete(trial, at + 1);
     return first && is_complete(trial, part->second);
+}
+
+static void draw_slice(struct trial *trial, size_t at);
+
+/* Expects a crossing or a choice. */
+static void expect_of_fork(struct trial *trial, enum lane_event_kind kind, size_t at)
+{
+    struct lane_range first = trial->parts[at + 1].lanes, second = trial->parts[trial->parts[at].second].lanes;
+    expect(trial, (struct lane_event){.kind = kind, .first = first, .second = second});
+}
+
+static void draw_either(struct trial *trial, size_t at)
+{
+    struct part *part = &trial->parts[at];
+    if (!part->done && !comes(trial)) {
+        put(trial, WOSTHILE_SLICE_NONE_CHOSEN);
+        return;
+    }
+    if (!part->done) {
+        bool first = draw(trial, 2) == 0;
+        part->done = true;
+        part->chosen = first ? at + 1 : part->second;
+        put(trial, first ? WOSTHILE_SLICE_FIRST_CHOSEN : WOSTHILE_SLICE_SECOND_CHOSEN);
+        expect_of_fork(trial, first ? EVENT_FIRST_CHOSEN : EVENT_SECOND_CHOSEN, at);
+        trial->choices++;
+    }
+    draw_slice(trial, part->chosen);
+}
+
+static void draw_sequence(struct trial *trial, size_t at)
+{
+    struct part *part = &trial->parts[at];
+    size_t kind_at = trial->length;
+    bool crossed = part->done;
+    if (!crossed) {
+        put(trial, WOSTHILE_SLICE_IN_FIRST);
+        draw_slice(trial, at + 1);
+    }
+    if (!crossed && is_complete(trial, at + 1) && comes(trial)) {
+        part->done = true;
+        trial->slice[kind_at] = WOSTHILE_SLICE_CROSSED;
+        expect_of_fork(trial, EVENT_CROSSING, at);
+    }
+    if (part->done) {
+        draw_slice(trial, part->second);
+    }
 }
 
 /* Draws a slice of what is still to come of a part. */
 static void draw_slice(struct trial *trial, size_t at)
 {
     struct part *part = &trial->parts[at];
-    if (part->kind < WOSTHILE_TYPE_SEQUENCE) {
+    if (type_kind(part->kind)->parts == 0) {
         draw_leaf(trial, part);
-        return;
-    }
-    size_t kind_at = trial->length;
-    bool sequence = part->kind == WOSTHILE_TYPE_SEQUENCE, crossed = sequence && part->done;
-    if (!crossed) {
-        put(trial, sequence ? WOSTHILE_SLICE_IN_FIRST : WOSTHILE_SLICE_BESIDE);
+    } else if (part->kind == WOSTHILE_TYPE_SEQUENCE) {
+        draw_sequence(trial, at);
+    } else if (part->kind == WOSTHILE_TYPE_EITHER) {
+        draw_either(trial, at);
+    } else {
+        put(trial, WOSTHILE_SLICE_BESIDE);
         draw_slice(trial, at + 1);
-    }
-    if (sequence && !crossed && is_complete(trial, at + 1) && comes(trial)) {
-        part->done = true;
-        trial->slice[kind_at] = WOSTHILE_SLICE_CROSSED;
-        struct lane_range from = trial->parts[at + 1].lanes, to = trial->parts[part->second].lanes;
-        expect(trial, (struct lane_event){.kind = EVENT_CROSSING, .from = from, .to = to});
-    }
-    if (!sequence || part->done) {
         draw_slice(trial, part->second);
     }
+}
+
+static bool same_range(struct lane_range one, struct lane_range other)
+{
+    return one.first == other.first && one.last == other.last;
 }
 
 static bool same_events(const struct lane_events *one, const struct lane_events *other)
@@ -119,8 +170,8 @@ static bool same_events(const struct lane_events *one, const struct lane_events 
     bool same = one->count == other->count;
     for (size_t index = 0; same && index < one->count; index++) {
         const struct lane_event *a = &one->list[index], *b = &other->list[index];
-        same = a->kind == b->kind && a->lane == b->lane && a->value == b->value && a->from.first == b->from.first &&
-               a->from.last == b->from.last && a->to.first == b->to.first && a->to.last == b->to.last;
+        same = a->kind == b->kind && a->lane == b->lane && a->value == b->value && same_range(a->first, b->first) &&
+               same_range(a->second, b->second);
     }
     return same;
 }
@@ -132,7 +183,7 @@ static bool agrees_on_any_bytes(struct trial *trial, const struct lanes *lanes)
     struct lanes tried = *lanes;
     struct lane_events events;
     for (size_t place = 2; place < sizeof bytes; place++) {
-        bytes[place] = (uint8_t)draw(trial, WOSTHILE_SLICE_BESIDE + 1);
+        bytes[place] = (uint8_t)draw(trial, WOSTHILE_SLICE_SECOND_CHOSEN + 1);
     }
     size_t length = draw(trial, sizeof bytes + 1);
     wosthile_admitted admitted = wosthile_admit(lanes->type, 2 + lanes->nodes, bytes, length);
@@ -159,8 +210,12 @@ static bool follows(struct trial *trial, struct lanes *lanes)
            memcmp(left, lanes->type, written.written) == 0;
 }
 
+struct tally {
+    size_t events, choices;
+};
+
 /* A type, and slices of it until most has come. */
-static bool try_show(uint64_t seed, size_t *events)
+static bool try_show(uint64_t seed, struct tally *tally)
 {
     struct trial trial = {.random = seed};
     draw_part(&trial, seed % 5 == 0 ? LANES_MAX : 1 + draw(&trial, 24));
@@ -180,20 +235,22 @@ static bool try_show(uint64_t seed, size_t *events)
         if (!agrees_on_any_bytes(&trial, &lanes) || !follows(&trial, &lanes)) {
             return false;
         }
-        *events += trial.expected.count;
+        tally->events += trial.expected.count;
     }
+    tally->choices += trial.choices;
     return true;
 }
 
 int main(void)
 {
-    size_t events = 0;
+    struct tally tally = {0};
     for (uint64_t seed = 1; seed <= SHOWS; seed++) {
-        if (!try_show(seed, &events)) {
+        if (!try_show(seed, &tally)) {
             printf("seed %llu: FAILED\n", (unsigned long long)seed);
             return 1;
         }
     }
-    printf("%d shows of %d slices, %zu events in their lanes\n", SHOWS, SLICES, events);
-    return 0;
+    printf("%d shows of %d slices, %zu events in their lanes, %zu of them choices\n", SHOWS, SLICES, tally.events,
+           tally.choices);
+    return tally.choices > SHOWS ? 0 : 1;
 }

@@ -4,6 +4,7 @@
  *
  *   crossing   the interpreter of old: a slice that crosses, and brings something before that, is not crossed
  *   behind     what is behind a crossing, in a slice that brings something before it, has not come
+ *   choice     what comes in one slice with the choice of its part has not come
  *   patch      sends all, but after such a slice leaves a patch with two nodes more
  *
  * Without it the feed is that of the library.
@@ -18,7 +19,7 @@ wosthile_fed __real_wosthile_feed(const uint8_t *patch, size_t patch_len, const 
 wosthile_fed __wrap_wosthile_feed(const uint8_t *patch, size_t patch_len, const uint8_t *slice, size_t slice_len,
                                   uint8_t *output, size_t output_len, uint8_t *left, size_t left_len);
 
-enum loss { NOTHING, CROSSING, BEHIND, PATCH };
+enum loss { NOTHING, CROSSING, BEHIND, CHOICE, PATCH };
 
 /* An accepted slice as it is read, and as it is written anew. */
 struct copy {
@@ -27,7 +28,7 @@ struct copy {
     size_t read;
     uint8_t to[WOSTHILE_SLICE_FILE_MAX];
     size_t written;
-    bool lost; /* there was a crossing with something before it */
+    bool lost; /* there was a crossing with something before it, or a choice with something of its part */
 };
 
 static void put(struct copy *copy, uint8_t byte) { copy->to[copy->written++] = byte; }
@@ -54,6 +55,18 @@ static bool copy_crossed(struct copy *copy, bool emptied)
     return true;
 }
 
+/* In a slice of which nothing has come nothing is chosen, and the part is not written. */
+static bool copy_choice(struct copy *copy, uint8_t kind, bool emptied)
+{
+    bool loses = !emptied && copy->loss == CHOICE;
+    put(copy, emptied ? WOSTHILE_SLICE_NONE_CHOSEN : kind);
+    size_t part = copy->written;
+    bool brings = copy_slice(copy, emptied || loses);
+    copy->lost = copy->lost || (loses && brings);
+    copy->written = emptied ? part : copy->written;
+    return true;
+}
+
 static bool copy_slice(struct copy *copy, bool emptied)
 {
     uint8_t kind = copy->from[copy->read++];
@@ -74,6 +87,9 @@ static bool copy_slice(struct copy *copy, bool emptied)
         return copy_slice(copy, emptied);
     case WOSTHILE_SLICE_CROSSED:
         return copy_crossed(copy, emptied);
+    case WOSTHILE_SLICE_FIRST_CHOSEN:
+    case WOSTHILE_SLICE_SECOND_CHOSEN:
+        return copy_choice(copy, kind, emptied);
     case WOSTHILE_SLICE_BESIDE: {
         put(copy, kind);
         bool left = copy_slice(copy, emptied);
@@ -87,11 +103,14 @@ static bool copy_slice(struct copy *copy, bool emptied)
 
 static enum loss chosen_loss(void)
 {
+    static const char *const words[] = {
+        [CROSSING] = "crossing", [BEHIND] = "behind", [CHOICE] = "choice", [PATCH] = "patch"};
     const char *word = getenv("LOSING");
-    if (word == NULL) {
-        return NOTHING;
+    enum loss loss = word == NULL ? NOTHING : CROSSING;
+    while (loss != NOTHING && loss < PATCH && strcmp(word, words[loss]) != 0) {
+        loss++;
     }
-    return strcmp(word, "crossing") == 0 ? CROSSING : strcmp(word, "behind") == 0 ? BEHIND : PATCH;
+    return loss;
 }
 
 /* Puts `chain pass` before the nodes of a patch: it sends the same, and is another patch. */

@@ -77,7 +77,7 @@ static inline void damage(struct made *made)
 {
     size_t place = draw((unsigned)made->length), behind = made->length - place - 1;
     unsigned way = draw(4);
-    uint8_t byte = (uint8_t)(draw(2) == 0 ? draw(256) : draw(16));
+    uint8_t byte = (uint8_t)(draw(2) == 0 ? draw(256) : draw(20));
     if (way == 0) {
         memmove(made->bytes + place, made->bytes + place + 1, behind);
         made->length--;

@@ -16,12 +16,14 @@ FOLDER = pathlib.Path(sys.argv[1])
 SHOWS = sorted(pathlib.Path("examples/shows").glob("*.show"))
 SVG = "{http://www.w3.org/2000/svg}"
 SIZES = {"page-title": 19, "title": 14, "plain": 11.5, "heading": 11.5, "small": 11, "value": 11, "count": 10,
-         "fault": 10, "late": 9, "badge": 8.5, "part": 8.5}
+         "fault": 10, "choice-name": 10, "late": 9, "badge": 8.5, "part": 8.5, "side": 8.5}
+CROSSING_COLOUR, CHOICE_COLOUR, OPEN_COLOUR, OFFERED_COLOUR = "#a4123f", "#0b7261", "#e9eff6", "#dff3ec"
 
-EMPTY, CUE, LEVEL, SEQUENCE, BESIDE = range(5)
+EMPTY, CUE, LEVEL, SEQUENCE, BESIDE, EITHER = range(6)
 NODES = ["pass", "silent", "cue", "level", "both", "left", "right", "first", "second", "then", "chain", "regroup right",
-         "regroup left", "spread", "front"]
-BOTH, THEN, CHAIN = 4, 9, 10
+         "regroup left", "spread", "front", "choose", "mark first", "mark second"]
+BOTH, THEN, CHAIN, CHOOSE = 4, 9, 10, 15
+UNLISTED_SLICE = 19
 
 
 def run(program, *words, status=0, stdout=subprocess.PIPE):
@@ -97,13 +99,25 @@ def names_of(show, side):
     return [line.split(" ", 2)[2] for line in lines if line.startswith(side)]
 
 
+def type_end(bytes_of_type, place):
+    """Where the type ends that begins at a place."""
+    due = 1
+    while due > 0:
+        due += (2 if bytes_of_type[place] >= SEQUENCE else 0) - 1
+        place += 1
+    return place
+
+
 def node_names(nodes):
-    """The names of nodes in preorder, without silent, which carries a type."""
+    """The names of nodes in preorder; some carry a value or a type behind them."""
     names, place = [], 0
     while place < len(nodes):
-        value = nodes[place] == NODES.index("level")
-        names.append(NODES[nodes[place]] + (f" {nodes[place + 1] * 256 + nodes[place + 2]}" if value else ""))
-        place += 3 if value else 1
+        name, place = NODES[nodes[place]], place + 1
+        if name == "level":
+            name, place = f"{name} {nodes[place] * 256 + nodes[place + 1]}", place + 2
+        elif name in ("silent", "mark first", "mark second"):
+            place = type_end(nodes, place)
+        names.append(name)
     return names
 
 
@@ -165,11 +179,11 @@ def refusals_marked(picture):
 
 def many_refusals_are_marked():
     """A mark each where there is room, and one for all that came in the same frame."""
-    show = write_show("refusals", [CUE], [0], [[9]] * 400)
+    show = write_show("refusals", [CUE], [0], [[UNLISTED_SLICE]] * 400)
     assert refusals_marked(draw("timeline", show)) == [1] * 400
     marked = refusals_marked(draw("timeline", show, 3))
     assert sum(marked) == 400 and max(marked) == 3
-    picture = draw("timeline", write_show("thirteen", [CUE], [0], [[9]] * 13), 3)
+    picture = draw("timeline", write_show("thirteen", [CUE], [0], [[UNLISTED_SLICE]] * 13), 3)
     assert "and 1 more slice is refused" in words_of(picture, "small")
     assert set(words_of(picture, "fault")) == {"12", "12 ×2"}
     no_overlap(picture)
@@ -177,7 +191,7 @@ def many_refusals_are_marked():
 
 def pictures_of_long_shows_are_small():
     """100,000 refused slices have no more marks than there are columns of pixels; each is in the count of one."""
-    show = write_show("long", [CUE], [0], [[9], [3]] * 50_000)
+    show = write_show("long", [CUE], [0], [[UNLISTED_SLICE], [3]] * 50_000)
     drawn, _ = run("timeline", show, 0, 3)
     assert len(drawn) < 1_000_000, f"{len(drawn)} bytes"
     picture = xml.fromstring(drawn)
@@ -239,7 +253,7 @@ def empty_lanes_have_no_band():
     show = write_show("empty_parts", [BESIDE, SEQUENCE, CUE, EMPTY, EMPTY], [0], [[7, 5, 1, 0]] * 9 + [[7, 6, 2, 0, 0]])
     picture, words = draw("timeline", show), "an empty part: nothing comes"
     bands = [(float(band.get("x")), float(band.get("width"))) for band in picture.iter(SVG + "rect")
-             if band.get("fill") == "#e9eff6" and band.get("width") != "26.0"]
+             if band.get("fill") == OPEN_COLOUR and band.get("width") != "26.0"]
     dashes = [path.get("d") for path in picture.iter(SVG + "path") if path.get("stroke-dasharray")]
     ends = [tuple(map(float, re.fullmatch(r"M([\d.]+) [\d.]+H([\d.]+)", dash).groups())) for dash in dashes][1:]
     left, crossed, right = bands[0][0], sum(bands[0]), float(picture.get("width")) - 16
@@ -304,7 +318,56 @@ def late_crossings_are_told_from_lanes():
     for badge in texts(picture, "badge")[1:]:
         x, y = float(badge.get("x")), float(badge.get("y")) - 3
         assert y in between
-        assert any(left == right == x and top < y < bottom for left, top, right, bottom in lines(picture, "#a4123f"))
+        assert any(left == right == x and top < y < bottom for left, top, right, bottom in lines(picture, CROSSING_COLOUR))
+
+
+def bands_of(picture, colour):
+    """The bands of a colour behind the legend's, each as its left and right edge and its top, from above."""
+    bands = [[float(band.get(key)) for key in ("x", "width", "y")] for band in picture.iter(SVG + "rect")
+             if band.get("fill") == colour and band.get("width") != "26.0"]
+    return sorted(((left, left + width, top) for left, width, top in bands), key=lambda band: band[2])
+
+
+def choices_are_marked():
+    """
+    Behind a crossing in frame 10 a cue or a level may be chosen, the level is in frame 20, and it comes in frame 30. Both
+    lanes are offered from the crossing to the choice; then the cue's ends, with a bar, and the level's is open.
+    """
+    slices = [[5, 1]] * 9 + [[6, 2, 8]] + [[8]] * 9 + [[10, 3]] + [[3]] * 9 + [[4, 1, 44]] + [[0]] * 30
+    show = write_show("choice", [SEQUENCE, CUE, EITHER, CUE, LEVEL], [0], slices)
+    picture, words = draw("timeline", show), "lane may be chosen"
+    assert titles(picture, "choice") == [f'frame 20: second chosen: "{side} 3", not "{side} 2"' for side in ("in", "out")]
+    offered, opened = bands_of(picture, OFFERED_COLOUR), bands_of(picture, OPEN_COLOUR)
+    assert len(offered) == 4 and len(opened) == 4, (offered, opened)
+    for side in range(2):
+        (cue_from, cue_to, cue_top), (level_from, level_to, level_top) = offered[2 * side:2 * side + 2]
+        (_, crossed, _), (chosen, ends, top) = opened[2 * side:2 * side + 2]
+        assert cue_from == level_from and cue_to == level_to and cue_to + 100 < ends, (offered, opened)
+        assert abs(cue_from - crossed) < 0.2 and abs(cue_to - chosen) < 0.2, (offered, opened)
+        assert cue_top < level_top == top
+        bars = [line for line in lines(groups(picture, "choice")[side], CHOICE_COLOUR) if line[3] - line[1] < 17]
+        assert len(bars) == 1 and bars[0][0] == chosen and cue_top < bars[0][1] < bars[0][3] < level_top, bars
+    no_overlap(picture)
+    assert words_of(picture, "side")[:2] == ["1", "2"] and words_of(picture, "small").count(words) == 1
+    other = draw("timeline", "examples/shows/comet_to_saturn.show")
+    assert words not in words_of(other, "small") and not groups(other, "choice") and not words_of(other, "side")
+    late = next(seed for seed in range(1, 99) if '>+2</text>' in marked_late(show, seed))
+    assert titles(draw("timeline", show, late), "choice")[0].startswith("frame 22: second chosen")
+
+
+def marked_late(show, seed):
+    """The badges of late choices, as they are drawn."""
+    drawn = run("timeline", show, seed)[0].decode()
+    return "".join(re.findall(rf'fill="{CHOICE_COLOUR}" stroke="#fff"/>\n<text[^\n]*', drawn))
+
+
+def open_choices_are_offered():
+    """As long as nothing is chosen, all lanes that may be are offered, to the edge; a choice in a choice waits on."""
+    types, right = [EITHER, EITHER, CUE, CUE, CUE], 900 - 16
+    offered = [bands_of(draw("timeline", write_show("offered", types, [0], slices)), OFFERED_COLOUR)
+               for slices in ([[8]] * 20, [[8]] * 9 + [[9, 8]] + [[8]] * 10)]
+    assert [band[1] for band in offered[0]] == [right] * 6, offered[0]
+    assert [band[1] == right for band in offered[1]] == [True, True, False] * 2, offered[1]
 
 
 def arrows_are_seen_beside_cues():
@@ -372,13 +435,25 @@ def nodes_are_boxes():
 
 def lanes_lead_to_their_names():
     """A lane that is sent on has the name of the lane that it comes from, with more behind it in one show."""
-    for show in SHOWS:
+    for show in (show for show in SHOWS if not show.name.startswith("choose")):
         ins, outs = names_of(show, "in"), names_of(show, "out")
         count, reached = lanes_reached(draw("diagram", show))
         assert count == len(ins)
         own = [name for name in outs if name.startswith("opening")]
         expected = [[place for place, name in enumerate(ins) if f"{out} (".startswith(f"{name} (")] for out in outs]
         assert reached == expected and expected.count([]) == len(own), f"{show}: {reached}"
+
+
+def chosen_parts_meet():
+    """What either part of choose sends goes to the same lanes; a lane that a mark rules out leads from nowhere."""
+    for show in SHOWS:
+        if show.name.startswith("choose"):
+            picture = draw("diagram", show)
+            assert lanes_reached(picture) == (8, [[0], [1], [], [2], [3, 5], [4, 6], [7]])
+            assert words_of(picture, "choice-name") == ["first chosen", "second chosen"]
+            assert "or cue" in words_of(picture, "small")
+            ruled_out = [path for path in picture.iter(SVG + "path") if path.get("stroke-dasharray")]
+            assert len(ruled_out) == 1 + 1, "the legend's and that of the archive's welcome"
 
 
 def patch_alone_is_drawn():
@@ -401,10 +476,13 @@ def every_kind_is_drawn():
     trees = {(0,): beside, (1, 4, 0, 0): beside, (2,): beside, (3, 1, 2): beside, (4, 0, 2): beside, (5,): beside,
              (6,): beside, (7,): sequence, (8,): sequence, (9, 0, 2): sequence, (10, 14, 8): beside,
              (11,): [SEQUENCE] + sequence + [CUE], (12,): [SEQUENCE, LEVEL] + sequence,
-             (13,): [SEQUENCE, LEVEL] + beside, (14,): beside}
+             (13,): [SEQUENCE, LEVEL] + beside, (14,): beside, (15, 0, 0): [EITHER, LEVEL, LEVEL],
+             (16, 1): beside, (17, 1): beside}
     expected = {(0,): [[0], [1]], (1, 4, 0, 0): [[], []], (2,): [[]], (3, 1, 2): [[]], (4, 0, 2): [[0], [1], []],
                 (5,): [[0]], (6,): [[1]], (7,): [[0]], (8,): [[1]], (9, 0, 2): [[0], []], (10, 14, 8): [[0], [1]],
-                (11,): [[0], [1], [2]], (12,): [[0], [1], [2]], (13,): [[0], [1], [0], [2]], (14,): [[], [0], [1]]}
+                (11,): [[0], [1], [2]], (12,): [[0], [1], [2]], (13,): [[0], [1], [0], [2]], (14,): [[], [0], [1]],
+                (15, 0, 0): [[0, 1]], (16, 1): [[0], [1], []], (17, 1): [[], [0], [1]]}
+    assert {nodes[0] for nodes in trees} == set(range(len(NODES)))
     for nodes, types in trees.items():
         picture = draw("diagram", write_show("kind", types, nodes))
         assert titles(picture, "node")[0].startswith(NODES[nodes[0]])
@@ -424,12 +502,14 @@ def largest_patches_are_drawn():
     side_by_side = balanced(128, itertools.cycle([CUE, LEVEL]))
     in_turn = [SEQUENCE, LEVEL] * 127 + [LEVEL]
     for types, nodes in [(side_by_side, nested(CHAIN, 32)), (in_turn, nested(THEN, 32)),
-                         ([CUE], nested(BOTH, 32)), (side_by_side, [BOTH, 2] * 31 + [2])]:
+                         ([CUE], nested(BOTH, 32)), (side_by_side, [BOTH, 2] * 31 + [2]),
+                         ([EITHER, LEVEL] * 127 + [LEVEL], nested(CHAIN, 32)),
+                         ([EITHER, CUE] * 31 + [CUE], nested(CHOOSE, 32))]:
         show = write_show("largest", types, nodes)
         drawn, _ = run("diagram", show)
         picture = xml.fromstring(drawn)
         assert len(groups(picture, "node")) == 63 and len(drawn) < 2_000_000
-        assert len(types) == 1 or "128 lanes" in words_of(picture, "plain")
+        assert len(types) < 255 or "128 lanes" in words_of(picture, "plain")
         no_overlap(picture)
         no_overlap(draw("timeline", show))
 
@@ -437,10 +517,11 @@ def largest_patches_are_drawn():
 # What both do alike.
 
 def documents_have_what_is_drawn():
-    show = "examples/shows/comet_to_saturn.show"
-    for name, words in [("comet_to_saturn", ["timeline", show, 0, 19]), ("comet_to_saturn_patch", ["diagram", show])]:
-        drawn = run(*words)[0]
-        assert pathlib.Path(f"docs/{name}.svg").read_bytes() == drawn, f"docs/{name}.svg is not what {words[0]} draws"
+    for name, show in [("comet_to_saturn", "comet_to_saturn"), ("choose_a_sky", "choose_a_sky_north")]:
+        path = f"examples/shows/{show}.show"
+        for picture, words in [(name, ["timeline", path, 0, 19]), (f"{name}_patch", ["diagram", path])]:
+            drawn = run(*words)[0]
+            assert pathlib.Path(f"docs/{picture}.svg").read_bytes() == drawn, f"docs/{picture}.svg is not what is drawn"
 
 
 def refused_patch_has_status_1():
@@ -492,8 +573,9 @@ def main():
                  many_refusals_are_marked, pictures_of_long_shows_are_small, frames_asked_for_are_drawn,
                  show_without_slices_has_no_frames, low_levels_are_seen, empty_lanes_have_no_band, lateness_is_told,
                  lateness_is_in_its_lane,
-                 late_crossings_are_told_from_lanes, arrows_are_seen_beside_cues, long_names_are_whole, nodes_are_boxes,
-                 lanes_lead_to_their_names, patch_alone_is_drawn, every_kind_is_drawn, largest_patches_are_drawn,
+                 late_crossings_are_told_from_lanes, choices_are_marked, open_choices_are_offered,
+                 arrows_are_seen_beside_cues, long_names_are_whole, nodes_are_boxes, lanes_lead_to_their_names,
+                 chosen_parts_meet, patch_alone_is_drawn, every_kind_is_drawn, largest_patches_are_drawn,
                  documents_have_what_is_drawn, refused_patch_has_status_1, damaged_files_are_survived,
                  unusable_has_status_2]:
         try:

@@ -23,11 +23,20 @@ expect() {
     fi
 }
 
-for show in comet_to_saturn two_skies_evening lamp_fade; do
-    expect 0 'are the same, byte for byte' "$show"
-    for losing in crossing behind patch; do
-        expect 1 'makes a difference' "$show" "$losing"
+# The right feed and feeds that lose something, with one show: try_show SHOW LOSING..
+try_show() {
+    local losing
+    expect 0 'are the same, byte for byte' "$1"
+    for losing in "${@:2}"; do
+        expect 1 'makes a difference' "$1" "$losing"
     done
+}
+
+for show in comet_to_saturn two_skies_evening lamp_fade; do
+    try_show "$show" crossing behind patch
 done
-[ "$failed" -eq 0 ] && echo "the rehearsal finds what three wrong feeds lose, in three shows, and nothing in the right one"
+for show in choose_a_sky_north choose_a_sky_south; do
+    try_show "$show" crossing behind patch choice
+done
+[ "$failed" -eq 0 ] && echo "the rehearsal finds what four wrong feeds lose, in five shows, and nothing in the right one"
 exit "$failed"

@@ -63,9 +63,9 @@ tells_wrong_frames() {
         wrong_lines '"0" where a frame from 1 to 9 is due' '0 cue 1' &&
         wrong_lines '"2" where a frame from 3 to 9 is due' '3 cue 1' '2 level 2 0' &&
         wrong_lines '"3x" where a frame from 1 to 9 is due' '3x cue 1' &&
-        wrong_lines '"clue" where "cue", "level", "cross" or "bytes" is due' '3 clue 1' &&
-        wrong_lines '"empty" where "cue", "level", "cross" or "bytes" is due' '3 empty 1' &&
-        wrong_lines 'the line ends where "cue", "level", "cross" or "bytes" is due' '3' &&
+        wrong_lines '"clue" where "cue", "level", "cross", "choose" or "bytes" is due' '3 clue 1' &&
+        wrong_lines '"empty" where "cue", "level", "cross", "choose" or "bytes" is due' '3 empty 1' &&
+        wrong_lines 'the line ends where "cue", "level", "cross", "choose" or "bytes" is due' '3' &&
         wrong_lines '"10" where frame 9 is due' '9 cue 1' '10 level 2 7' &&
         wrong_lines '"5" where a lane from 1 to 4 is due' '3 cue 5' &&
         wrong_lines '"lamp" where the name of a lane in quotation marks or its number is due' '3 level lamp 7' &&
@@ -119,25 +119,27 @@ tells_early_and_late() {
 tells_wrong_trees() {
     wrong 2 1 'the score ends where "type" is due' </dev/null &&
         wrong 2 2 '"tipe" where "type" is due' <<<$'# a comment\ntipe cue' &&
-        wrong 2 2 '"with" where "then", "beside" or "patch" is due' <<<$'type cue "a"\nwith cue' &&
-        wrong 2 2 '"with" where "then", "beside" or ")" is due' <<<$'type (cue "a"\nwith cue)' &&
-        wrong 2 1 '"comet" where "then", "beside", "patch" or a name in quotation marks is due' <<<'type cue comet then cue' &&
-        wrong 2 1 "\"'comet'\" where \"then\", \"beside\", \")\" or a name in quotation marks is due" <<<"type (cue 'comet')" &&
-        wrong 2 1 'the name "b" where "then", "beside" or "patch" is due' <<<'type cue "a" "b"' &&
-        wrong 2 1 '"a" where "then", "beside" or ")" is due' <<<'type cue patch silent (empty a)' &&
-        wrong 2 1 '")" where "then", "beside" or "patch" is due' <<<'type (cue then cue))' &&
+        wrong 2 2 '"with" where "then", "beside", "or" or "patch" is due' <<<$'type cue "a"\nwith cue' &&
+        wrong 2 2 '"with" where "then", "beside", "or" or ")" is due' <<<$'type (cue "a"\nwith cue)' &&
+        wrong 2 1 '"comet" where "then", "beside", "or", "patch" or a name in quotation marks is due' <<<'type cue comet then cue' &&
+        wrong 2 1 "\"'comet'\" where \"then\", \"beside\", \"or\", \")\" or a name in quotation marks is due" <<<"type (cue 'comet')" &&
+        wrong 2 1 'the name "b" where "then", "beside", "or" or "patch" is due' <<<'type cue "a" "b"' &&
+        wrong 2 1 '"a" where "then", "beside", "or" or ")" is due' <<<'type cue patch silent (empty a)' &&
+        wrong 2 1 '")" where "then", "beside", "or" or "patch" is due' <<<'type (cue then cue))' &&
         wrong 2 1 '"lamp" where "empty", "cue", "level" or "(" is due' <<<'type cue then lamp' &&
         wrong 2 1 '"not" where "empty", "cue", "level" or "(" is due' <<<'type not listed' &&
         wrong 2 2 '"beside" behind "then": parentheses have to say which parts belong together' \
             <<<$'type cue then cue\nbeside cue patch pass' &&
+        wrong 2 1 '"or" behind "beside": parentheses have to say which parts belong together' \
+            <<<'type cue beside cue or cue patch pass' &&
         wrong 2 1 'a name has 1 to 63 bytes, and this one has 0' <<<'type cue ""' &&
         wrong 2 1 'a name has 1 to 63 bytes, and this one has 64' <<<"type cue \"$(printf '%064d' 7)\"" &&
         wrong 2 1 'the name "a?b" has a character that cannot be printed, here a ?' <<<$'type cue "a\tb"' &&
         wrong 2 1 'the name " " begins or ends with a blank' <<<'type cue " "' &&
         wrong 2 1 'the name " a" begins or ends with a blank' <<<'type cue " a" beside cue "a"' &&
         wrong 2 2 'the name "a " begins or ends with a blank' <<<$'type cue patch pass\nout 1 "a "' &&
-        wrong 2 2 'the name "a" where "then", "beside" or "patch" is due' <<<$'type (cue then cue)\n"a"' &&
-        wrong 2 2 '"middle" where "pass", "silent", "cue", "level", "both", "left", "right", "first", "second", "then", "chain", "regroup right", "regroup left", "spread", "front" or "(" is due' \
+        wrong 2 2 'the name "a" where "then", "beside", "or" or "patch" is due' <<<$'type (cue then cue)\n"a"' &&
+        wrong 2 2 '"middle" where "pass", "silent", "cue", "level", "both", "left", "right", "first", "second", "then", "chain", "regroup right", "regroup left", "spread", "front", "choose", "mark first", "mark second" or "(" is due' \
             <<<$'type cue\npatch middle' &&
         wrong 2 1 '"frames" where ")" is due' <<<'type cue patch (pass frames 1' &&
         wrong 2 1 'the name "a" where "out" or "frames" is due' <<<'type cue patch silent empty "a" frames 1' &&
@@ -172,7 +174,9 @@ tells_refused_patches() {
             $'type cue patch\n'"$(times 31 'both pass ')"$'\nboth pass pass frames 1' &&
         refused_patch 6 3 'byte 6, node silent: it carries level' $'type cue patch\nboth\nsilent\nlevel pass frames 1' &&
         refused_patch 7 4 'byte 9, node left: it takes s beside t, and its input is level' \
-            $'type cue then level\npatch\nthen pass\nleft frames 1'
+            $'type cue then level\npatch\nthen pass\nleft frames 1' &&
+        refused_patch 30 2 'byte 11, node choose: its parts give cue and level' \
+            $'type cue or (cue then level) patch chain pass\n(choose\npass second) frames 1'
 }
 
 # refused_patch NUMBER LINE PLACE SCORE
@@ -206,7 +210,11 @@ reads_each_kind() {
         patch_is '0 3 3 1 2 0 3 4 7 8' 'type cue then level patch both first second' &&
         patch_is '0 3 3 1 2 0 3 9 0 0' 'type cue then level patch then pass pass' &&
         patch_is '0 5 3 1 3 1 1 0 3 10 12 11' 'type cue then cue then cue patch chain regroup left regroup right' &&
-        patch_is '0 5 3 1 4 1 1 0 3 10 13 14' 'type cue then (cue beside cue) patch chain spread front'
+        patch_is '0 5 3 1 4 1 1 0 3 10 13 14' 'type cue then (cue beside cue) patch chain spread front' &&
+        patch_is '0 5 5 1 5 2 0 0 1 0' 'type cue or level or empty patch pass' &&
+        patch_is '0 3 5 1 2 0 3 15 2 2' 'type cue or level patch choose cue cue' &&
+        patch_is '0 1 1 0 4 16 3 1 2' 'type cue patch mark first (cue then level)' &&
+        patch_is '0 1 1 0 2 17 2' 'type cue patch mark second level'
 }
 
 # Lines of one frame come as one slice; a frame without lines has the empty slice; bytes that are a good slice count.
@@ -220,6 +228,66 @@ joins_lines() {
 4 level 4 7
 cut 2" && [ "$(bytes_of "$folder/made.show" | cut -d ' ' -f 15-)" = \
         '0 10 0 8 6 7 2 4 1 44 5 2 0 4 0 2 5 0 0 5 0 3 6 0 3 0 5 0 3 4' ]
+}
+
+# The lines before the frames of a score with a choice in a choice, behind a crossing.
+choices='type
+  cue "bell" then ((cue "comet" or level "aurora") or (cue "cross" then level "clouds"))
+patch pass
+frames 9'
+
+# A choice is said by the first lane of a part; of those that begin with the same lane the outermost comes first.
+chooses() {
+    chosen '10 5 1' '1 choose 4' && chosen '9 8' '1 choose "comet"' &&
+        chosen '9 9 2' '1 choose "comet"' '1 choose "comet"' '1 cue "comet"' &&
+        chosen '9 10 4 0 7' '1 choose 3' '1 choose 3' '1 level 3 7' &&
+        chosen '9 9 1' '1 choose 3' '1 choose 2' &&
+        chosen '10 6 2 4 0 7' '1 choose 4' '1 cue 4' '1 cross to 5' '1 level 5 7'
+}
+
+# What the frame's slice has behind the crossing, to which each first lane of the second part leads: chosen BYTES LINES
+chosen() {
+    local lane bytes=$1
+    shift
+    for lane in 2 3 4; do
+        printf '%s\n' "${choices/frames 9/frames 1}" '1 cue "bell"' "1 cross to $lane" "$@" | makes 0 || return 1
+        [ "$(bytes_of "$folder/made.show" | cut -d ' ' -f 21-)" = "6 2 $bytes" ] && continue
+        bytes_of "$folder/made.show"
+        echo "'$*' is to give $bytes"
+        return 1
+    done
+}
+
+tells_wrong_choices() {
+    local past='1 cue 1' cross='1 cross to 2'
+    wrong_choice 2 'lane 1 "bell" is not the first lane of a part that can be chosen' '3 choose 1' &&
+        wrong_choice 2 'lane 5 "clouds" is not the first lane of a part that can be chosen' '3 choose 5' &&
+        wrong_choice 2 '"to" where the name of a lane in quotation marks or its number is due' '3 choose to 2' &&
+        wrong_choice 1 'the choice between lane 2 "comet" and lane 4 "cross" is behind the crossing to lane 2 "comet", which has not come' \
+            '3 choose 4' &&
+        wrong_choice 1 'lane 4 "cross" is behind the choice between lane 2 "comet" and lane 4 "cross", which has not come' \
+            "$past" "$cross" '3 cue 4' &&
+        wrong_choice 1 'lane 2 "comet" is behind the choice between lane 2 "comet" and lane 3 "aurora", which has not come' \
+            "$past" "$cross" '2 choose 2' '3 cue 2' &&
+        wrong_choice 1 'lane 2 "comet" is gone: the other part was chosen' "$past" "$cross" '2 choose 4' '3 cue 2' &&
+        wrong_choice 1 'the crossing to lane 5 "clouds" is gone: the other part was chosen' \
+            "$past" "$cross" '2 choose 2' '3 cross to 5' &&
+        wrong_choice 1 'the choice between lane 2 "comet" and lane 4 "cross" has come already' \
+            "$past" "$cross" '2 choose 4' '3 choose 2' &&
+        wrong_choice 1 'the choice between lane 2 "comet" and lane 4 "cross" has come already' \
+            "$past" "$cross" '2 choose 2' '2 choose 2' '3 choose 3' &&
+        wrong_choice 1 'lane 2 "comet" has come already' "$past" "$cross" '2 choose 2' '2 choose 2' '2 cue 2' '3 cue 2' &&
+        wrong 1 2 'the crossing to lane 3 has to wait for the choice between lane 1 and lane 2, which has not come' \
+            <<<$'type (cue or cue) then cue patch pass frames 9\n1 cross to 3' &&
+        wrong 1 3 'lane 2 is gone: the other part was chosen' <<<$'type (cue or cue) then cue patch pass frames 9
+1 bytes 0 4 6 9 2 1\n2 cue 2'
+}
+
+# What cannot be chosen, or not now, or comes in a part that is not chosen: wrong_choice STATUS MESSAGE LINES
+wrong_choice() {
+    local status=$1 message=$2 line=$((4 + $# - 2))
+    shift 2
+    wrong "$status" "$line" "$message" < <(printf '%s\n' "$choices" "$@")
 }
 
 # The show of the page on formats, and its lanes; its third frame is refused, so the score has its bytes.
@@ -254,7 +322,7 @@ lists_each_node() {
     "$folder/make_show" --help | sed -n '/^The nodes/,/^Status/p' >"$folder/listed"
     makes 2 <<<'type cue patch middle' || return 1
     nodes=$(sed 's/.*where//' "$folder/messages" | grep -o '"[a-z ]*"' | tr -d '"')
-    [ "$(wc -l <<<"$nodes")" -eq 15 ] || return 1
+    [ "$(wc -l <<<"$nodes")" -eq 18 ] || return 1
     while read -r node; do
         grep -qE "^  ([a-z]+, )?$node(,| )" "$folder/listed" && continue
         echo "the help does not list $node"
@@ -363,6 +431,8 @@ holds "patches that are refused" tells_refused_patches
 holds "lines of frames that cannot be read" tells_wrong_frames
 holds "bytes that cannot be recorded" tells_wrong_bytes
 holds "lines that come too early or too late" tells_early_and_late
+holds "choices" chooses
+holds "choices that cannot be made" tells_wrong_choices
 holds "a show that cannot be written" writes_whole_or_not
 holds "words and files that cannot be used" needs_a_score
 holds "damaged scores" survives_damage

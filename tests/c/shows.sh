@@ -51,6 +51,41 @@ sent() {
     timeout 60 "$folder/frame_loop" "$@" | grep -E '^(    |The input)' | sort
 }
 
+# The two recordings of choose_a_sky have one patch, and are played one way and the other.
+chooses_both_ways() {
+    local shows=examples/shows/choose_a_sky length
+    length=$(od -An -tu1 -N2 "${shows}_north.show" | awk '{ print 2 + $1 * 256 + $2 }')
+    cmp -n "$length" "${shows}_north.show" "${shows}_south.show" && comes_in 'first chosen: "comet"' "${shows}_north.show" &&
+        comes_in 'second chosen: "Southern Cross, dim"' "${shows}_south.show"
+}
+
+# The frame loop tells one choice of the input, this one: comes_in WORDS SHOW
+comes_in() {
+    "$folder/frame_loop" "$2" --fast | grep 'came in' >"$folder/chosen"
+    [ "$(wc -l <"$folder/chosen")" -eq 1 ] && grep -q "^    came in, $1" "$folder/chosen"
+}
+
+# What is owed at the end of a show of some type, in one frame of which something may come.
+tells_owed() {
+    local type line told
+    while IFS='|' read -r type line told; do
+        printf 'type %s patch pass frames 2\n%s\n' "$type" "$line" >"$folder/owed.score"
+        "$folder/make_show" "$folder/owed.score" || return 1
+        "$folder/frame_loop" "$folder/owed.show" --fast | tail -n 1 | grep -qxF "The input is $told" && continue
+        echo "$type, $line: '$told' is due"
+        return 1
+    done <<'END'
+cue then empty|1 cue 1|not complete; crossings still owed: 1.
+cue then cue|1 cue 1|not complete; still owed: "in 2"; crossings: 1.
+cue or (cue then level)||not complete; choices still owed: 1.
+cue or (cue then level)|1 choose 1|not complete; still owed: "in 1".
+cue or (cue then level)|1 choose 2|not complete; still owed: "in 2", "in 3"; crossings: 1.
+empty or cue|1 choose 1|complete: nothing is owed.
+(cue or cue) then empty||not complete; crossings still owed: 1; choices still owed: 1.
+level beside (cue or cue)||not complete; still owed: "in 1"; choices: 1.
+END
+}
+
 # Cut short at some bytes, and damaged there, a show ends by itself: played, refused or not read, never with a fault.
 survives_damage() {
     local show=$1 length place
@@ -274,6 +309,8 @@ for show in examples/shows/*.show; do
     holds "$show rehearsed" "$folder/rehearsal" "$show" 200
     holds "$show damaged" survives_damage "$show"
 done
+holds "choose_a_sky is played both ways" chooses_both_ways
+holds "what is owed" tells_owed
 holds "damaged.show says what is wrong with it" tells_all_six
 holds "a refused patch" tells_refused_patch_alone
 holds "counts of refused slices" tells_counts
