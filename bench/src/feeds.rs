@@ -10,9 +10,10 @@ use comparison::formats::kinds::type_kind::{BESIDE, CUE, LEVEL, SEQUENCE};
 use comparison::Operation;
 
 use crate::nodes::{
-    chains, cue_then_lanes, lanes, largest, nodes_of, seeking, silent_largest, tree_of, MOST_NODES,
+    chains, choices_then_cue, choose_of_marks, choosing, cue_then_lanes, lanes, largest, marking,
+    nodes_of, seeking, silent_largest, tree_of, MOST_NODES,
 };
-use crate::patches::{growing_patches, pass_on_growing_types, OF_PASS};
+use crate::patches::{growing_chooses, growing_patches, pass_on_growing_types, OF_PASS};
 use crate::rows::{claiming, lengthened, Group, Row, LARGEST};
 use crate::streams::{slice_tree, type_tree, Shape, Share};
 
@@ -41,6 +42,7 @@ pub fn legal() -> Vec<Row> {
     rows.extend(changing());
     rows.extend(waiting());
     rows.extend(crossing());
+    rows.extend(choosing_between());
     rows.into_iter().map(|fed| row(Group::Legal, fed)).collect()
 }
 
@@ -71,12 +73,17 @@ fn largest_of((shape, name): (Shape, &str)) -> Vec<Fed> {
         ("all", Share::All),
     ];
     let mut rows = Vec::new();
-    for (kind, file) in largest(shape) {
+    for (kind, file) in largest(shape).into_iter().chain(choosing(shape)) {
         for (come, share) in shares {
             let name = format!("63, {kind}, {name}, {come}");
             rows.push(fed(&name, file.clone(), share));
         }
     }
+    rows.push(fed(
+        &format!("59, marks and chooses, {name}, all"),
+        marking(shape),
+        Share::All,
+    ));
     rows
 }
 
@@ -173,10 +180,29 @@ fn crossing() -> Vec<Fed> {
     ]
 }
 
+/// Choices of the largest streams, and a first part of choices that is crossed.
+fn choosing_between() -> Vec<Fed> {
+    let (halves, marks) = choose_of_marks();
+    let choices = choices_then_cue();
+    let chained = nodes_of(Shape::DeepLeft, CHAIN, &[PASS]);
+    let first_chained = below_chains(Shape::DeepRight, FIRST);
+    let mut rows = Vec::new();
+    for (come, share) in [("nothing", Share::Nothing), ("all", Share::All)] {
+        let mut add = |name, tree: &[u8], nodes: &[u8]| {
+            rows.push(fed(&format!("{name}, {come}"), patch(tree, nodes), share));
+        };
+        add("choose of marks, gives 255", &halves, &marks);
+        add("first of 63 choices", &choices, &[FIRST]);
+        add("63, first of 63 choices", &choices, &first_chained);
+        add("63, chains on 63 choices", &choices, &chained);
+    }
+    rows
+}
+
 /// One node on types of a growing size, and patches of a growing number of nodes.
 pub fn growing() -> Vec<Row> {
     let on_types = pass_on_growing_types().into_iter();
-    let patches = growing_patches(OF_PASS, &[PASS]).into_iter();
+    let patches = (growing_patches(OF_PASS, &[PASS]).into_iter()).chain(growing_chooses());
     on_types
         .map(|(group, name, file)| row(group, (name, file, Share::Half)))
         .chain(patches.map(|(group, name, file)| row(group, (name, file, Share::All))))

@@ -2,9 +2,10 @@
 
 use comparison::formats::files::patch;
 use comparison::formats::kinds::node_kind::{
-    self, BOTH, CHAIN, FRONT, LEFT, PASS, REGROUP_LEFT, REGROUP_RIGHT, RIGHT, SECOND, SILENT, THEN,
+    self, BOTH, CHAIN, CHOOSE, FRONT, LEFT, MARK_FIRST, MARK_SECOND, PASS, REGROUP_LEFT,
+    REGROUP_RIGHT, RIGHT, SECOND, SILENT, THEN,
 };
-use comparison::formats::kinds::type_kind::{BESIDE, CUE, EMPTY, SEQUENCE};
+use comparison::formats::kinds::type_kind::{BESIDE, CUE, EITHER, EMPTY, LEVEL, SEQUENCE};
 
 use crate::rows::LARGEST;
 use crate::streams::{type_tree, Shape};
@@ -60,6 +61,23 @@ pub fn cue_then_lanes(nodes: usize) -> Vec<u8> {
     [&[SEQUENCE, CUE], lanes(nodes - 2, CUE).as_slice()].concat()
 }
 
+/// Choices between choices, down to a cue or a level: a type of so many nodes.
+pub fn eithers(shape: Shape, nodes: usize) -> Vec<u8> {
+    tree_of(shape, nodes, EITHER, &|place| vec![[CUE, LEVEL][place % 2]])
+}
+
+/// So many choices between a cue and a level, side by side; each takes four nodes, the last three.
+pub fn choices(count: usize) -> Vec<u8> {
+    tree_of(Shape::Balanced, 2 * count - 1, BESIDE, &|_| {
+        vec![EITHER, CUE, LEVEL]
+    })
+}
+
+/// The largest first part of choices, and then a cue.
+pub fn choices_then_cue() -> Vec<u8> {
+    [&[SEQUENCE], choices(63).as_slice(), &[CUE]].concat()
+}
+
 /// Silent with a type of 255 nodes.
 pub fn silent_largest() -> Vec<u8> {
     [&[SILENT], lanes(LARGEST, EMPTY).as_slice()].concat()
@@ -79,6 +97,50 @@ pub fn largest(shape: Shape) -> [(&'static str, Vec<u8>); 4] {
             patch(&widest, &nodes_of(shape, CHAIN, &silent_largest())),
         ),
     ]
+}
+
+/// The largest patches that choose again and again, of one shape: between streams, and between
+/// patches that give a type of 255 nodes.
+pub fn choosing(shape: Shape) -> [(&'static str, Vec<u8>); 2] {
+    let leaf_type = type_tree(Shape::Balanced, LEAF_TYPE);
+    let tree = tree_of(shape, MOST_NODES, EITHER, &|_| leaf_type.clone());
+    let silent = silent_largest();
+    [
+        ("chooses", patch(&tree, &nodes_of(shape, CHOOSE, &[PASS]))),
+        (
+            "chooses of silent 255",
+            patch(&tree, &nodes_of(shape, CHOOSE, &silent)),
+        ),
+    ]
+}
+
+/// Chains in which a type of 127 nodes is marked as chosen, and then taken for chosen: 59 nodes.
+pub fn marking(shape: Shape) -> Vec<u8> {
+    let half = lanes(127, CUE);
+    let mark = |place: usize| [MARK_FIRST, MARK_SECOND][place % 2];
+    let nodes = tree_of(shape, 19, CHAIN, &|place| {
+        [
+            &[CHAIN, mark(place)],
+            half.as_slice(),
+            &[CHOOSE, PASS, PASS],
+        ]
+        .concat()
+    });
+    patch(&half, &nodes)
+}
+
+/// Two halves of which one is chosen, and nodes that give the same choice again.
+pub fn choose_of_marks() -> (Vec<u8>, Vec<u8>) {
+    let half = lanes(127, LEVEL);
+    let tree = [&[EITHER], half.as_slice(), &half].concat();
+    let nodes = [
+        &[CHOOSE, MARK_FIRST],
+        half.as_slice(),
+        &[MARK_SECOND],
+        &half,
+    ]
+    .concat();
+    (tree, nodes)
 }
 
 /// The largest patches along which one type of about 255 nodes is changed again and again.

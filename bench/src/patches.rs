@@ -2,16 +2,16 @@
 
 use comparison::formats::files::{patch, section};
 use comparison::formats::kinds::node_kind::{
-    BOTH, CHAIN, FIRST, FRONT, LEFT, PASS, RIGHT, SECOND, SILENT, SPREAD,
+    BOTH, CHAIN, CHOOSE, FIRST, FRONT, LEFT, MARK_FIRST, PASS, RIGHT, SECOND, SILENT, SPREAD,
 };
-use comparison::formats::kinds::type_kind::{BESIDE, CUE, EMPTY, LEVEL};
+use comparison::formats::kinds::type_kind::{BESIDE, CUE, EITHER, EMPTY, LEVEL};
 use comparison::Operation;
 
 use crate::nodes::{
-    chains, cue_then_lanes, lanes, largest, nodes_of, seeking, silent_largest, tree_of, LEAF_TYPE,
-    MOST_NODES, PATCH_SIZES,
+    chains, choose_of_marks, choosing, cue_then_lanes, lanes, largest, marking, nodes_of, seeking,
+    silent_largest, tree_of, LEAF_TYPE, MOST_NODES, PATCH_SIZES,
 };
-use crate::rows::{claiming, lengthened, Group, Row, LARGEST, SIZES};
+use crate::rows::{claiming, lengthened, Group, Row, GROWTHS, LARGEST, SIZES};
 use crate::streams::{type_tree, Shape};
 
 fn row(group: Group, name: &str, file: Vec<u8>) -> Row {
@@ -38,10 +38,12 @@ pub fn legal() -> Vec<Row> {
         row(Group::Legal, "typical, 9 nodes", patch(&balanced, &typical)),
     ];
     for (shape, name) in Shape::ALL {
-        for (kind, file) in largest(shape) {
+        for (kind, file) in largest(shape).into_iter().chain(choosing(shape)) {
             let name = format!("63 nodes, {kind}, {name}");
             rows.push(row(Group::Legal, &name, file));
         }
+        let name = format!("59 nodes, marks and chooses, {name}");
+        rows.push(row(Group::Legal, &name, marking(shape)));
     }
     for (name, file) in chains() {
         let name = format!("63 nodes, chains of {name}");
@@ -59,20 +61,24 @@ pub fn legal() -> Vec<Row> {
 }
 
 /// Small patches that give a type of 255 nodes, by their types and nodes.
-fn giving_largest() -> [(&'static str, Vec<u8>, Vec<u8>); 5] {
+fn giving_largest() -> [(&'static str, Vec<u8>, Vec<u8>); 7] {
+    let mark = [&[MARK_FIRST], lanes(127, CUE).as_slice()].concat();
+    let (halves, marks) = choose_of_marks();
     [
         ("pass", lanes(LARGEST, CUE), vec![PASS]),
         ("silent", vec![CUE], silent_largest()),
         ("front", lanes(LARGEST - 2, CUE), vec![FRONT]),
         ("both", lanes(127, CUE), vec![BOTH, PASS, PASS]),
         ("spread", cue_then_lanes(LARGEST - 2), vec![SPREAD]),
+        ("mark first", lanes(127, CUE), mark),
+        ("choose of marks", halves, marks),
     ]
 }
 
 /// One node on types of a growing size: the group, a name, and the patch.
 pub fn pass_on_growing_types() -> Vec<(Group, String, Vec<u8>)> {
     let mut patches = Vec::new();
-    for (shape, series) in Shape::ALL {
+    for (series, tree) in GROWTHS {
         for nodes in SIZES {
             let group = Group::Growing {
                 series,
@@ -80,7 +86,7 @@ pub fn pass_on_growing_types() -> Vec<(Group, String, Vec<u8>)> {
                 largest: LARGEST,
             };
             let name = format!("pass, {series}, {nodes} nodes in the type");
-            patches.push((group, name, patch(&type_tree(shape, nodes), &[PASS])));
+            patches.push((group, name, patch(&tree(nodes), &[PASS])));
         }
     }
     patches
@@ -92,6 +98,7 @@ pub fn growing() -> Vec<Row> {
     let mut patches = pass_on_growing_types();
     patches.extend(growing_patches(OF_PASS, &[PASS]));
     patches.extend(growing_patches(OF_SILENT, &silent));
+    patches.extend(growing_chooses());
     patches
         .into_iter()
         .map(|(group, name, file)| row(group, &name, file))
@@ -128,6 +135,31 @@ pub fn growing_patches(all: [Series; 3], leaf: &[u8]) -> Vec<(Group, String, Vec
             let tree = tree_of(shape, nodes, fork, &|_| leaf.to_vec());
             let name = format!("{series}, {nodes} nodes");
             patches.push((group, name, patch(&[CUE], &tree)));
+        }
+    }
+    patches
+}
+
+/// Choices between choices of a cue, and as many chooses: the group, a name, and the patch.
+pub fn growing_chooses() -> Vec<(Group, String, Vec<u8>)> {
+    let mut patches = Vec::new();
+    for (series, shape) in [
+        ("chooses of pass, balanced", Shape::Balanced),
+        ("chooses of pass, deep right", Shape::DeepRight),
+    ] {
+        for nodes in PATCH_SIZES {
+            let group = Group::Growing {
+                series,
+                nodes,
+                largest: MOST_NODES,
+            };
+            let stream = tree_of(shape, nodes, EITHER, &|_| vec![CUE]);
+            let tree = tree_of(shape, nodes, CHOOSE, &|_| vec![PASS]);
+            patches.push((
+                group,
+                format!("{series}, {nodes} nodes"),
+                patch(&stream, &tree),
+            ));
         }
     }
     patches
@@ -206,5 +238,32 @@ fn faults_at_the_end() -> Vec<(&'static str, Vec<u8>)> {
     rows.push(("pairs give 257 in all", patch(&leaf_type, &nodes)));
     let nodes = nodes_of(Shape::DeepRight, BOTH, &[PASS]);
     rows.push(("pairs of 255 each", patch(&widest, &nodes)));
+    rows.extend(differing_outputs());
     rows
+}
+
+/// Chooses to types of one size that differ: in their last node, and behind all other chooses.
+fn differing_outputs() -> [(&'static str, Vec<u8>); 2] {
+    let half = lanes(127, CUE);
+    let mut other_half = half.clone();
+    other_half[126] = LEVEL;
+    let halves = [&[EITHER], half.as_slice(), &other_half].concat();
+    let streams = tree_of(Shape::DeepRight, MOST_NODES, EITHER, &|_| vec![CUE]);
+    let nested_left = tree_of(Shape::DeepLeft, LARGEST, BESIDE, &|_| vec![EMPTY]);
+    let other_silent = [&[SILENT], nested_left.as_slice()].concat();
+    let last = MOST_NODES / 2;
+    let nodes = tree_of(Shape::DeepRight, MOST_NODES, CHOOSE, &|place| {
+        if place == last {
+            other_silent.clone()
+        } else {
+            silent_largest()
+        }
+    });
+    [
+        (
+            "choose to types that differ at the end",
+            patch(&halves, &[CHOOSE, PASS, PASS]),
+        ),
+        ("last choose to other types", patch(&streams, &nodes)),
+    ]
 }

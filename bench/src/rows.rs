@@ -7,6 +7,7 @@ use comparison::formats::files::{section, set_count};
 use comparison::formats::kinds::type_kind::{CUE, SEQUENCE};
 use comparison::Operation;
 
+use crate::nodes::{choices, choices_then_cue, eithers};
 use crate::streams::{slice_tree, type_tree, Shape, Share};
 use crate::{feeds, patches};
 
@@ -140,9 +141,26 @@ fn stream(tree: &[u8], first: Share, second: Share) -> [Vec<u8>; 3] {
 }
 
 /// Half of a stream, and then the other half.
-fn halves(shape: Shape, nodes: usize) -> [Vec<u8>; 3] {
-    stream(&type_tree(shape, nodes), Share::Half, Share::All)
+fn halves(tree: &[u8]) -> [Vec<u8>; 3] {
+    stream(tree, Share::Half, Share::All)
 }
+
+/// How a tree of so many nodes is made that grows, with its name in the table.
+type Growth = (&'static str, fn(usize) -> Vec<u8>);
+
+/// The types that are followed as they grow.
+pub const GROWTHS: [Growth; 6] = [
+    ("deep left", |nodes| type_tree(Shape::DeepLeft, nodes)),
+    ("deep right", |nodes| type_tree(Shape::DeepRight, nodes)),
+    ("balanced", |nodes| type_tree(Shape::Balanced, nodes)),
+    ("eithers, deep left", |nodes| {
+        eithers(Shape::DeepLeft, nodes)
+    }),
+    ("eithers, deep right", |nodes| {
+        eithers(Shape::DeepRight, nodes)
+    }),
+    ("eithers, balanced", |nodes| eithers(Shape::Balanced, nodes)),
+];
 
 /// The operations on a type and slices.
 const ON_STREAMS: [Operation; 3] = [Operation::Admit, Operation::Left, Operation::Join];
@@ -163,7 +181,7 @@ pub fn all() -> Vec<Row> {
 
 fn legal(operation: Operation) -> Vec<Row> {
     let small = stream(&[SEQUENCE, CUE, CUE], Share::Half, Share::All);
-    let typical = halves(Shape::Balanced, 31);
+    let typical = halves(&type_tree(Shape::Balanced, 31));
     let mut rows = vec![
         Row::new(Group::Legal, "small", operation, &small),
         Row::new(Group::Legal, "typical", operation, &typical),
@@ -173,10 +191,15 @@ fn legal(operation: Operation) -> Vec<Row> {
         ("half has come", Share::Half, Share::All),
         ("all has come", Share::All, Share::Nothing),
     ];
-    for (shape, shape_name) in Shape::ALL {
+    let trees = GROWTHS.map(|(name, tree)| (name, tree(LARGEST)));
+    let choosing = [
+        ("64 choices", choices(64)),
+        ("63 choices, then a cue", choices_then_cue()),
+    ];
+    for (tree_name, tree) in trees.iter().chain(&choosing) {
         for (share_name, first, second) in shares {
-            let name = format!("largest, {shape_name}, {share_name}");
-            let files = stream(&type_tree(shape, LARGEST), first, second);
+            let name = format!("largest, {tree_name}, {share_name}");
+            let files = stream(tree, first, second);
             rows.push(Row::new(Group::Legal, &name, operation, &files));
         }
     }
@@ -185,7 +208,7 @@ fn legal(operation: Operation) -> Vec<Row> {
 
 fn growing(operation: Operation) -> Vec<Row> {
     let mut rows = Vec::new();
-    for (shape, series) in Shape::ALL {
+    for (series, tree) in GROWTHS {
         for nodes in SIZES {
             let name = format!("{series}, {nodes} nodes, half has come");
             let group = Group::Growing {
@@ -193,7 +216,7 @@ fn growing(operation: Operation) -> Vec<Row> {
                 nodes,
                 largest: LARGEST,
             };
-            rows.push(Row::new(group, &name, operation, &halves(shape, nodes)));
+            rows.push(Row::new(group, &name, operation, &halves(&tree(nodes))));
         }
     }
     rows

@@ -1,8 +1,8 @@
 //! The types and slices of the rows, written as the bytes of their trees; nothing here is random.
 
 use comparison::formats::kinds::slice_kind;
-use comparison::formats::kinds::type_kind::{BESIDE, CUE, EMPTY, LEVEL, SEQUENCE};
-use comparison::formats::preorder::{is_type_leaf, type_end};
+use comparison::formats::kinds::type_kind::{BESIDE, CUE, EITHER, EMPTY, LEVEL, SEQUENCE};
+use comparison::formats::preorder::type_end;
 
 /// Which way a tree grows.
 #[derive(Clone, Copy, Debug, PartialEq, Eq)]
@@ -60,22 +60,25 @@ fn write_type(shape: Shape, forks: usize, kind: u8, leaves: &mut usize, tree: &m
     write_type(shape, forks - 1 - first, below, leaves, tree);
 }
 
-/// The slice in which this share of the leaves has come, from left to right, and every first part
-/// that has fully come is crossed.
+/// The slice in which this share of all that can come has come, from left to right, and every first
+/// part that has fully come is crossed. A choice comes as a leaf does; it is that of the larger part.
 pub fn slice_tree(tree: &[u8], share: Share) -> Vec<u8> {
-    let leaves = tree.iter().filter(|kind| is_type_leaf(**kind)).count();
-    let mut writer = Writer {
-        tree,
-        at: 0,
-        still_come: match share {
-            Share::Nothing => 0,
-            Share::Half => leaves / 2,
-            Share::All => leaves,
-        },
-        slice: Vec::new(),
+    let slice_of = |still_come| {
+        let mut writer = Writer {
+            tree,
+            at: 0,
+            still_come,
+            slice: Vec::new(),
+        };
+        writer.write(share != Share::Nothing);
+        (writer.slice, still_come - writer.still_come)
     };
-    writer.write(share != Share::Nothing);
-    writer.slice
+    let (all, come) = slice_of(tree.len());
+    match share {
+        Share::Nothing => slice_of(0).0,
+        Share::Half => slice_of(come / 2).0,
+        Share::All => all,
+    }
 }
 
 /// Walks a type once, from left to right.
@@ -99,8 +102,31 @@ impl Writer<'_> {
                 let second = self.write(crossing);
                 first && second
             }
+            EITHER => self.either(crossing),
             leaf => self.leaf(leaf),
         }
+    }
+
+    fn either(&mut self, crossing: bool) -> bool {
+        let second = type_end(self.tree, self.at);
+        let end = type_end(self.tree, second);
+        let [first_size, second_size] = [second - self.at, end - second];
+        // Of two parts of one size it is now the one and now the other.
+        let now_second = first_size == second_size && self.at.is_multiple_of(2);
+        let is_second = second_size > first_size || now_second;
+        let complete = if !self.comes() {
+            self.slice.push(slice_kind::NONE_CHOSEN);
+            false
+        } else if is_second {
+            self.slice.push(slice_kind::SECOND_CHOSEN);
+            self.at = second;
+            self.write(crossing)
+        } else {
+            self.slice.push(slice_kind::FIRST_CHOSEN);
+            self.write(crossing)
+        };
+        self.at = end;
+        complete
     }
 
     fn sequence(&mut self, crossing: bool) -> bool {
@@ -114,9 +140,15 @@ impl Writer<'_> {
         false
     }
 
+    /// Whether what is at hand comes.
+    fn comes(&mut self) -> bool {
+        let comes = self.still_come > 0;
+        self.still_come -= usize::from(comes);
+        comes
+    }
+
     fn leaf(&mut self, leaf: u8) -> bool {
-        let come = self.still_come > 0;
-        self.still_come -= usize::from(come);
+        let come = self.comes();
         let value = self.at as u8;
         match (leaf, come) {
             (EMPTY, _) => self.slice.push(slice_kind::NOTHING),

@@ -8,7 +8,7 @@ use crate::rows::Row;
 /// A line of the table: the call, and what each column has.
 fn line(call: &str, columns: [&str; 9]) -> String {
     const WIDTHS: [usize; 9] = [9, 11, 11, 8, 9, 11, 11, 12, 8];
-    let mut text = format!("{call:<50}");
+    let mut text = format!("{call:<57}");
     for (column, width) in columns.into_iter().zip(WIDTHS) {
         text += &format!("{column:>width$}");
     }

@@ -98,6 +98,12 @@ fn compare_all(words: &[&str]) -> Result<(), Stop> {
         "case 10: what the program has stored is what both answer\n"
     )?;
     writeln!(Output, "{tally}")?;
+    let [alone, in_runs] = tally.choices();
+    writeln!(
+        Output,
+        "{} choices were made, {in_runs} of them in runs",
+        alone + in_runs
+    )?;
     writeln!(
         Output,
         "{} calls and {} runs with seed {}: no difference",

@@ -1,6 +1,7 @@
 //! What the program reads and writes, as bytes. A stream is a patch file and then slice files, each
 //! after its length of two bytes; the lines are one for each slice.
 
+use comparison::formats::fault;
 use comparison::formats::files::{count, section};
 
 /// A length of two bytes says at most so much.
@@ -58,7 +59,20 @@ pub fn expected(mut stream: &[u8]) -> Vec<u8> {
     output
 }
 
-/// Whether these lines are those of a refused patch: one digit from 1 to 7, and no more.
+/// The numbers of refused patches.
+pub const PATCH_NUMBERS: [u32; 8] = [
+    fault::CUT_SHORT,
+    fault::UNLISTED,
+    fault::LEFT_OVER,
+    fault::TYPE_TOO_LARGE,
+    fault::TOO_MANY_NODES,
+    fault::NOT_NULLABLE,
+    fault::WRONG_SHAPE,
+    fault::OUTPUTS_DIFFER,
+];
+
+/// Whether these lines are those of a refused patch: its number, which no slice has, and no more.
 pub fn refuses_patch(output: &[u8]) -> bool {
-    matches!(output, [b'1'..=b'7', b'\n'])
+    let mut numbers = PATCH_NUMBERS.iter();
+    numbers.any(|number| output == format!("{number}\n").as_bytes())
 }

@@ -42,6 +42,7 @@ fn show(tree: &[u8], nodes: &[u8], slices: usize) -> Vec<u8> {
         come: 5,
         cross: 0,
         cross_spent: 50,
+        choose: 50,
     };
     for slice in 0..slices {
         let brings = slice % (slices / BRINGING) == 0;

@@ -18,7 +18,7 @@ fn wrong_program(fault: &str) -> Program {
 }
 
 /// The faults, and who finds them.
-const WRONG: [(&str, &[Kind]); 45] = [
+const WRONG: [(&str, &[Kind]); 50] = [
     // What is printed.
     ("upper_case", &[Runs, LargestAnswers, OpenInput]),
     ("one_digit_below_16", &[Runs, Ends]),
@@ -52,6 +52,12 @@ const WRONG: [(&str, &[Kind]); 45] = [
     ("refused_patch_reads_on", &[OpenInput]),
     ("refused_patch_is_an_error", &[DamagedPatches]),
     ("does_not_end", &[Inputs]),
+    // Choices.
+    ("differing_outputs_pass", &[DamagedPatches]),
+    ("choice_keeps_patch", &[Runs, Ends]),
+    ("second_choice_fed_as_first", &[Runs, Ends]),
+    ("second_marked_as_first", &[Runs, Ends]),
+    ("none_chosen_sends_nothing", &[Runs, Ends]),
     // Files and their lengths.
     ("cut_file_prints", &[Ends]),
     ("cut_length_prints", &[Ends]),

@@ -26,3 +26,5 @@ pub const SLICE_LEFT_OVER: u32 = 13;
 pub const SLICE_MISPLACED: u32 = 14;
 /// A lent buffer is too short.
 pub const NO_ROOM: u32 = 20;
+/// The two nodes of a choose give different types.
+pub const OUTPUTS_DIFFER: u32 = 30;

@@ -13,9 +13,13 @@ pub mod type_kind {
     pub const SEQUENCE: u8 = 3;
     /// Two parts side by side.
     pub const BESIDE: u8 = 4;
+    /// Two parts of which one is chosen.
+    pub const EITHER: u8 = 5;
 
+    /// The listed kinds in words, by their numbers.
+    pub const NAMES: [&str; 6] = ["empty", "cue", "level", "sequence", "beside", "either"];
     /// How many kinds are listed.
-    pub const LISTED: u8 = 5;
+    pub const LISTED: u8 = NAMES.len() as u8;
 }
 
 /// The kinds of slices.
@@ -36,9 +40,29 @@ pub mod slice_kind {
     pub const CROSSED: u8 = 6;
     /// Both sides.
     pub const BESIDE: u8 = 7;
+    /// Of either: none is chosen.
+    pub const NONE_CHOSEN: u8 = 8;
+    /// Of either: the first part is chosen; a slice of it.
+    pub const FIRST_CHOSEN: u8 = 9;
+    /// Of either: the second part is chosen; a slice of it.
+    pub const SECOND_CHOSEN: u8 = 10;
 
+    /// The listed kinds in words, by their numbers.
+    pub const NAMES: [&str; 11] = [
+        "nothing",
+        "cue awaited",
+        "cue come",
+        "level awaited",
+        "level come",
+        "in first",
+        "crossed",
+        "beside",
+        "none chosen",
+        "first chosen",
+        "second chosen",
+    ];
     /// How many kinds are listed.
-    pub const LISTED: u8 = 8;
+    pub const LISTED: u8 = NAMES.len() as u8;
 }
 
 /// The kinds of nodes.
@@ -73,9 +97,15 @@ pub mod node_kind {
     pub const SPREAD: u8 = 13;
     /// Puts an empty first part in front.
     pub const FRONT: u8 = 14;
+    /// Two nodes, one for each part of an either, to one type.
+    pub const CHOOSE: u8 = 15;
+    /// Chooses its input, the first of two; it carries the type of the other.
+    pub const MARK_FIRST: u8 = 16;
+    /// Chooses its input, the second of two; it carries the type of the other.
+    pub const MARK_SECOND: u8 = 17;
 
     /// The listed kinds in words, by their numbers.
-    pub const NAMES: [&str; 15] = [
+    pub const NAMES: [&str; 18] = [
         "pass",
         "silent",
         "cue",
@@ -91,6 +121,9 @@ pub mod node_kind {
         "regroup left",
         "spread",
         "front",
+        "choose",
+        "mark first",
+        "mark second",
     ];
     /// How many kinds are listed.
     pub const LISTED: u8 = NAMES.len() as u8;

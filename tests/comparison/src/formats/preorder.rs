@@ -1,7 +1,9 @@
 //! Where trees and their nodes lie in bytes: the root first, then its parts from left to right.
 
-use crate::formats::kinds::node_kind::{BOTH, CHAIN, LEVEL, SILENT, THEN};
-use crate::formats::kinds::type_kind;
+use crate::formats::kinds::node_kind::{
+    BOTH, CHAIN, CHOOSE, LEVEL, MARK_FIRST, MARK_SECOND, SILENT, THEN,
+};
+use crate::formats::kinds::{slice_kind, type_kind};
 
 /// Whether types of this kind have no parts.
 pub fn is_type_leaf(kind: u8) -> bool {
@@ -23,6 +25,58 @@ pub fn type_end(tree: &[u8], at: usize) -> usize {
     end
 }
 
+/// Where the node of a slice that starts at `at` ends, without its parts.
+fn slice_root_end(tree: &[u8], at: usize) -> usize {
+    let width = if tree[at] == slice_kind::LEVEL_COME {
+        3
+    } else {
+        1
+    };
+    tree.len().min(at + width)
+}
+
+/// How many parts slices of this kind have.
+pub fn slice_parts(kind: u8) -> usize {
+    match kind {
+        slice_kind::CROSSED | slice_kind::BESIDE => 2,
+        slice_kind::IN_FIRST | slice_kind::FIRST_CHOSEN | slice_kind::SECOND_CHOSEN => 1,
+        _ => 0,
+    }
+}
+
+/// Where the slice that starts at `at` ends; at the end of the bytes if it is cut short.
+pub fn slice_end(tree: &[u8], at: usize) -> usize {
+    let mut end = at;
+    let mut owed = 1;
+    while owed > 0 && end < tree.len() {
+        owed = owed - 1 + slice_parts(tree[end]);
+        end = slice_root_end(tree, end);
+    }
+    end
+}
+
+/// Where the nodes of a slice are, from left to right.
+pub fn slice_roots(tree: &[u8]) -> Vec<usize> {
+    let mut found = Vec::new();
+    let mut at = 0;
+    while at < tree.len() {
+        found.push(at);
+        at = slice_root_end(tree, at);
+    }
+    found
+}
+
+/// Whether slices of this kind choose a part of an either.
+pub fn is_choice(kind: u8) -> bool {
+    matches!(kind, slice_kind::FIRST_CHOSEN | slice_kind::SECOND_CHOSEN)
+}
+
+/// How many choices a slice makes.
+pub fn choices(tree: &[u8]) -> u64 {
+    let roots = slice_roots(tree).into_iter();
+    roots.filter(|at| is_choice(tree[*at])).count() as u64
+}
+
 /// The root of a node, and how deep it lies; the outermost has depth 1.
 #[derive(Clone, Copy, Debug)]
 pub struct Root {
@@ -42,8 +96,8 @@ pub fn roots(section: &[u8]) -> Vec<Root> {
         };
         found.push(Root { at, depth });
         at = match kind {
-            SILENT => type_end(section, at + 1),
             LEVEL => at + 3,
+            _ if carries_type(kind) => type_end(section, at + 1),
             _ => at + 1,
         };
         if is_node_fork(kind) {
@@ -55,5 +109,10 @@ pub fn roots(section: &[u8]) -> Vec<Root> {
 
 /// Whether nodes of this kind have two parts.
 pub fn is_node_fork(kind: u8) -> bool {
-    matches!(kind, BOTH | THEN | CHAIN)
+    matches!(kind, BOTH | THEN | CHAIN | CHOOSE)
+}
+
+/// Whether nodes of this kind carry a type.
+pub fn carries_type(kind: u8) -> bool {
+    matches!(kind, SILENT | MARK_FIRST | MARK_SECOND)
 }

@@ -56,8 +56,9 @@ impl<'a> Reader<'a> {
             type_kind::EMPTY => Type::Empty,
             type_kind::CUE => Type::Cue,
             type_kind::LEVEL => Type::Level,
+            type_kind::SEQUENCE => self.parts(Self::stream_type, Type::sequence),
             type_kind::BESIDE => self.parts(Self::stream_type, Type::beside),
-            _ => self.parts(Self::stream_type, Type::sequence),
+            _ => self.parts(Self::stream_type, Type::either),
         }
     }
 
@@ -70,7 +71,10 @@ impl<'a> Reader<'a> {
             slice_kind::LEVEL_COME => Slice::LevelCome(self.value()),
             slice_kind::IN_FIRST => Slice::uncrossed(self.slice()),
             slice_kind::CROSSED => self.parts(Self::slice, Slice::crossed),
-            _ => self.parts(Self::slice, Slice::beside),
+            slice_kind::BESIDE => self.parts(Self::slice, Slice::beside),
+            slice_kind::NONE_CHOSEN => Slice::NoneChosen,
+            slice_kind::FIRST_CHOSEN => Slice::first_chosen(self.slice()),
+            _ => Slice::second_chosen(self.slice()),
         }
     }
 
@@ -90,7 +94,10 @@ impl<'a> Reader<'a> {
             node_kind::REGROUP_RIGHT => Node::RegroupRight,
             node_kind::REGROUP_LEFT => Node::RegroupLeft,
             node_kind::SPREAD => Node::Spread,
-            _ => Node::Front,
+            node_kind::FRONT => Node::Front,
+            node_kind::CHOOSE => self.parts(Self::node, Node::choose),
+            node_kind::MARK_FIRST => Node::MarkFirst(self.stream_type()),
+            _ => Node::MarkSecond(self.stream_type()),
         }
     }
 }

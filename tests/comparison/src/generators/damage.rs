@@ -3,8 +3,9 @@
 #![allow(clippy::ptr_arg, reason = "the damages share one signature")]
 
 use crate::formats::files::{count, section, set_count};
-use crate::formats::kinds::type_kind::{BESIDE, CUE, SEQUENCE};
+use crate::formats::kinds::type_kind::{BESIDE, CUE, EITHER, SEQUENCE};
 use crate::formats::kinds::{node_kind, slice_kind, type_kind};
+use crate::formats::preorder::slice_end;
 use crate::generators::random::Random;
 use crate::generators::types::{write_type, Style, MOST_FORKS};
 
@@ -47,7 +48,7 @@ impl Kinds {
 
 type Damage = fn(&mut Random, &mut Vec<u8>, Kinds);
 
-const DAMAGES: [Damage; 15] = [
+const DAMAGES: [Damage; 16] = [
     cut,
     cut_and_counted,
     flip_bit,
@@ -62,6 +63,7 @@ const DAMAGES: [Damage; 15] = [
     unlisted_kind,
     misplaced_kind,
     taken_back,
+    chosen_otherwise,
     emptied,
 ];
 
@@ -175,20 +177,26 @@ fn misplaced_kind(random: &mut Random, file: &mut Vec<u8>, kinds: Kinds) {
     }
 }
 
-/// What had come has not: where a crossed first part has to be complete, that is a fault. Often a
-/// second fault lies close behind it, so that one sees which of the two is answered.
+/// What a slice of this kind was before it came or was chosen.
+fn before(kind: u8) -> Option<u8> {
+    match kind {
+        slice_kind::CUE_COME => Some(slice_kind::CUE_AWAITED),
+        slice_kind::LEVEL_COME => Some(slice_kind::LEVEL_AWAITED),
+        slice_kind::FIRST_CHOSEN | slice_kind::SECOND_CHOSEN => Some(slice_kind::NONE_CHOSEN),
+        _ => None,
+    }
+}
+
+/// What had come or was chosen has not: where a crossed first part has to be complete, that is a
+/// fault. Often a second fault lies close behind it, so that one sees which of the two is answered.
 fn taken_back(random: &mut Random, file: &mut Vec<u8>, _: Kinds) {
     let start = random.below(file.len() + 1).max(2);
-    let come = |at: &usize| matches!(file[*at], slice_kind::CUE_COME | slice_kind::LEVEL_COME);
-    let Some(at) = (start..file.len()).find(come) else {
+    let come = |at| Some((at, before(file[at])?));
+    let Some((at, awaited)) = (start..file.len()).find_map(come) else {
         return;
     };
-    if file[at] == slice_kind::CUE_COME {
-        file[at] = slice_kind::CUE_AWAITED;
-    } else {
-        let value_end = file.len().min(at + 3);
-        file.splice(at..value_end, [slice_kind::LEVEL_AWAITED]);
-    }
+    let end = slice_end(file, at);
+    file.splice(at..end, [awaited]);
     let behind = at + random.between(1, 2);
     match random.below(3) {
         0 => file.truncate(behind),
@@ -198,13 +206,22 @@ fn taken_back(random: &mut Random, file: &mut Vec<u8>, _: Kinds) {
     count_again(file);
 }
 
+/// The other part is chosen, and the slice is that of the one before.
+fn chosen_otherwise(random: &mut Random, file: &mut Vec<u8>, _: Kinds) {
+    let start = random.below(file.len() + 1).max(2);
+    let marks = [slice_kind::FIRST_CHOSEN, slice_kind::SECOND_CHOSEN];
+    if let Some(at) = (start..file.len()).find(|at| marks.contains(&file[*at])) {
+        file[at] = marks[usize::from(file[at] == marks[0])];
+    }
+}
+
 fn emptied(_: &mut Random, file: &mut Vec<u8>, _: Kinds) {
     file.clear();
 }
 
 /// More bytes than a section can count, as many as it can, or a mebibyte; sometimes all counted.
 fn lengthen(random: &mut Random, file: &mut Vec<u8>) {
-    let filler = random.pick(&[0, 1, 3, 4, 7, 200]);
+    let filler = random.pick(&[0, 1, 3, 4, 5, 7, 9, 200]);
     file.resize(random.pick(&[65_536, 65_537, 65_538, 1 << 20]), filler);
     if random.chance(50) {
         set_count(file, 65_535);
@@ -215,10 +232,10 @@ fn lengthen(random: &mut Random, file: &mut Vec<u8>) {
 pub fn type_about_the_limit(random: &mut Random) -> Vec<u8> {
     let mut tree = Vec::new();
     match random.below(5) {
-        0 => tree = vec![random.pick(&[SEQUENCE, BESIDE]); forks_alone(random)],
+        0 => tree = vec![random.pick(&[SEQUENCE, BESIDE, EITHER]); forks_alone(random)],
         1 => {
             tree = [BESIDE, CUE].repeat(MOST_FORKS);
-            let last = random.pick(&[CUE, SEQUENCE, BESIDE, 200]);
+            let last = random.pick(&[CUE, SEQUENCE, BESIDE, EITHER, 200]);
             tree.push(last);
             tree.truncate(random.between(252, 255));
         }

@@ -8,4 +8,5 @@ pub mod patch_damage;
 pub mod patches;
 pub mod random;
 pub mod slices;
+mod targets;
 pub mod types;

@@ -1,12 +1,12 @@
 //! Random patches, grown from an input type: each node fits the type that comes to it, and what it
-//! gives goes to the next. Nearly all are accepted. In a few a node inside does not fit, or a type
-//! grows too large.
+//! gives goes to the next. Nearly all are accepted. In a few a node inside does not fit, the nodes
+//! of a choose give different types, or a type grows too large.
 
 use second_interpreter::{output_type, patch_file, Node, Type};
 
 use crate::formats::kinds::node_kind::{
-    BOTH, CHAIN, CUE, FIRST, FRONT, LEFT, LEVEL, PASS, REGROUP_LEFT, REGROUP_RIGHT, RIGHT, SECOND,
-    SILENT, SPREAD, THEN,
+    BOTH, CHAIN, CHOOSE, CUE, FIRST, FRONT, LEFT, LEVEL, MARK_FIRST, MARK_SECOND, PASS,
+    REGROUP_LEFT, REGROUP_RIGHT, RIGHT, SECOND, SILENT, SPREAD, THEN,
 };
 use crate::formats::trees::type_of;
 use crate::generators::random::Random;
@@ -15,9 +15,9 @@ use crate::generators::types::{self, write_type, Shape};
 /// A patch of 63 nodes has so many forks.
 pub const MOST_FORKS: usize = 31;
 
-/// The kinds of nodes without parts; those among them that make no type smaller, and those that
-/// change when a sequence is crossed.
-const LEAVES: [u8; 12] = [
+/// The kinds of nodes without parts; those among them that make no type smaller and can be taken
+/// apart by others of them, and those that change when a sequence is crossed.
+const LEAVES: [u8; 14] = [
     PASS,
     SILENT,
     CUE,
@@ -30,6 +30,8 @@ const LEAVES: [u8; 12] = [
     REGROUP_LEFT,
     SPREAD,
     FRONT,
+    MARK_FIRST,
+    MARK_SECOND,
 ];
 const KEEPING: [u8; 5] = [PASS, REGROUP_RIGHT, REGROUP_LEFT, SPREAD, FRONT];
 const CHANGING: [u8; 5] = [FIRST, SECOND, REGROUP_RIGHT, REGROUP_LEFT, SPREAD];
@@ -41,6 +43,7 @@ const TRIES: usize = 8;
 #[derive(Clone, Copy, Debug)]
 struct Style {
     shape: Shape,
+    chooses: usize,
     chains: usize,
     thens: usize,
     keeping: usize,
@@ -54,6 +57,7 @@ impl Style {
     fn any(random: &mut Random) -> Self {
         Style {
             shape: random.pick(&Shape::ALL),
+            chooses: random.pick(&[0, 50, 90]),
             chains: random.pick(&[10, 40, 80, 100]),
             thens: random.pick(&[20, 50, 90]),
             keeping: random.pick(&[0, 50, 90]),
@@ -67,10 +71,11 @@ impl Style {
     fn crossing(random: &mut Random) -> Self {
         Style {
             shape: random.pick(&Shape::ALL),
+            chooses: 90,
             chains: random.pick(&[20, 50]),
             thens: 90,
             keeping: random.pick(&[0, 30, 70]),
-            changing: random.pick(&[30, 60]),
+            changing: random.pick(&[50, 70]),
             misfits: 0,
             boundless: false,
         }
@@ -78,9 +83,9 @@ impl Style {
 }
 
 /// A node, and the type that it gives.
-struct Grown {
-    node: Node,
-    gives: Type,
+pub(super) struct Grown {
+    pub(super) node: Node,
+    pub(super) gives: Type,
 }
 
 /// A patch file, most often one that is accepted.
@@ -89,10 +94,14 @@ pub fn any_patch(random: &mut Random) -> Vec<u8> {
     patch_of(random, forks)
 }
 
-/// A patch file on a stream in which much follows one another: for runs, in which it is crossed
-/// again and again.
+/// A patch file on a stream in which much follows one another, often with choices: for runs, in
+/// which it is crossed again and again.
 pub fn crossing_patch(random: &mut Random) -> Vec<u8> {
-    let style = types::Style::following(random);
+    let style = if random.chance(30) {
+        types::Style::choosing(random)
+    } else {
+        types::Style::following(random)
+    };
     let forks = match random.below(10) {
         0..=5 => random.between(2, 12),
         6..=8 => random.between(8, 40),
@@ -153,6 +162,12 @@ fn a_type(random: &mut Random, style: &types::Style, forks: usize) -> Type {
     type_of(&tree)
 }
 
+/// How many forks a carried type has, of at most so many: mostly few, often the most.
+fn carried_forks(random: &mut Random, most: usize) -> usize {
+    let any = random.below(most + 1);
+    random.pick(&[0, 1, 2, any, most]).min(most)
+}
+
 /// A nullable type with so many forks.
 fn nullable(random: &mut Random, shape: Shape, forks: usize) -> Type {
     if forks == 0 {
@@ -163,20 +178,21 @@ fn nullable(random: &mut Random, shape: Shape, forks: usize) -> Type {
     Type::beside(left, nullable(random, shape, forks - 1 - first))
 }
 
-struct Grower<'a> {
-    random: &'a mut Random,
+pub(super) struct Grower<'a> {
+    pub(super) random: &'a mut Random,
     style: Style,
 }
 
 impl Grower<'_> {
-    /// A node that fits the input, with so many forks. What it gives has at most `room` nodes.
-    fn grow(&mut self, input: &Type, forks: usize, room: usize) -> Grown {
+    /// A node that fits the input, with about so many forks and not more. What it gives has at most
+    /// `room` nodes.
+    pub(super) fn grow(&mut self, input: &Type, forks: usize, room: usize) -> Grown {
         if forks == 0 {
             return self.leaf(input, room);
         }
         let first = self.style.shape.in_first(self.random, forks - 1);
         let forks = [first, forks - 1 - first];
-        match (self.fork(room), input.sequence_parts()) {
+        match (self.fork(input, room), input) {
             (CHAIN, _) => {
                 let one = self.grow(input, forks[0], Type::LIMIT);
                 let other = self.grow(&one.gives, forks[1], room);
@@ -185,13 +201,14 @@ impl Grower<'_> {
                     gives: other.gives,
                 }
             }
-            (THEN, Some((first, second))) => {
+            (THEN, Type::Sequence(first, second)) => {
                 let [one, other] = self.grow_parts([first, second], forks, room);
                 Grown {
                     node: Node::then(one.node, other.node),
                     gives: Type::sequence(one.gives, other.gives),
                 }
             }
+            (CHOOSE, Type::Either(first, second)) => self.choose([first, second], forks, room),
             _ => {
                 let [one, other] = self.grow_parts([input, input], forks, room);
                 Grown {
@@ -203,14 +220,54 @@ impl Grower<'_> {
     }
 
     /// The kind of a fork; two parts side by side or in sequence need three nodes of room.
-    fn fork(&mut self, room: usize) -> u8 {
-        if room < 3 || self.random.chance(self.style.chains) {
-            CHAIN
-        } else if self.random.chance(self.style.thens) {
-            THEN
-        } else {
-            BOTH
+    fn fork(&mut self, input: &Type, room: usize) -> u8 {
+        match input {
+            Type::Either(..) if self.random.chance(self.style.chooses) => CHOOSE,
+            _ if room < 3 || self.random.chance(self.style.chains) => CHAIN,
+            Type::Sequence(..) if self.random.chance(self.style.thens) => THEN,
+            _ => BOTH,
         }
+    }
+
+    /// Two nodes to one type: the type that the first gives, if the second can be brought to it, or
+    /// else one that both can.
+    fn choose(&mut self, inputs: [&Type; 2], forks: [usize; 2], room: usize) -> Grown {
+        // The fork kept back is there to bring the first node to another type.
+        let spare = usize::from(forks[0] > 0);
+        let one = self.grow(inputs[0], forks[0] - spare, room);
+        let other = if self.random.chance(self.style.misfits) {
+            Some(self.grow(inputs[1], forks[1], room).node)
+        } else {
+            self.reach(inputs[1], &one.gives, forks[1] + spare)
+        };
+        if let Some(other) = other {
+            return Grown {
+                node: Node::choose(one.node, other),
+                gives: one.gives,
+            };
+        }
+        let [end, other_end] = self.for_any_input(room);
+        let gives = output_type(&end, inputs[0]).expect("it takes every type");
+        let one = if spare == 0 {
+            end
+        } else {
+            Node::chain(one.node, end)
+        };
+        Grown {
+            node: Node::choose(one, self.ending(inputs[1], other_end, forks[1])),
+            gives,
+        }
+    }
+
+    /// Two nodes that take every type and give the same one.
+    fn for_any_input(&mut self, room: usize) -> [Node; 2] {
+        let kind = self.random.pick(&[CUE, LEVEL, SILENT]);
+        let one = self.leaf_of(kind, &Type::Cue, room);
+        let other = match kind {
+            LEVEL => self.leaf_of(LEVEL, &Type::Cue, room),
+            _ => one.clone(),
+        };
+        [one, other]
     }
 
     /// Two nodes that give, with a fork above what they give, at most `room` nodes.
@@ -235,7 +292,7 @@ impl Grower<'_> {
         }
         for _ in 0..TRIES {
             let kind = self.leaf_kind();
-            let node = self.leaf_of(kind, room);
+            let node = self.leaf_of(kind, input, room);
             match output_type(&node, input) {
                 Ok(gives) if gives.size() <= room => return Grown { node, gives },
                 _ => {}
@@ -258,7 +315,8 @@ impl Grower<'_> {
         self.random.pick(kinds)
     }
 
-    fn leaf_of(&mut self, kind: u8, room: usize) -> Node {
+    /// A node of this kind, which need not fit. What it carries leaves it room, if there is any.
+    fn leaf_of(&mut self, kind: u8, input: &Type, room: usize) -> Node {
         match kind {
             PASS => Node::Pass,
             SILENT => Node::silent(self.carried(room)),
@@ -271,25 +329,34 @@ impl Grower<'_> {
             REGROUP_RIGHT => Node::RegroupRight,
             REGROUP_LEFT => Node::RegroupLeft,
             SPREAD => Node::Spread,
-            _ => Node::Front,
+            FRONT => Node::Front,
+            MARK_FIRST => Node::MarkFirst(self.unchosen(input, room)),
+            _ => Node::MarkSecond(self.unchosen(input, room)),
         }
     }
 
     /// A nullable type: mostly small, often as large as there is room.
     fn carried(&mut self, room: usize) -> Type {
-        let most = (room - 1) / 2;
-        let any = self.random.below(most + 1);
-        let forks = self.random.pick(&[0, 1, 2, any, most]).min(most);
+        let forks = carried_forks(self.random, (room - 1) / 2);
         nullable(self.random, self.style.shape, forks)
     }
 
-    /// A node that the second pass refuses, or nearly: any kind, and silent with any type.
+    /// The type of the part that is not chosen: mostly small, often as large as there is room.
+    fn unchosen(&mut self, input: &Type, room: usize) -> Type {
+        let most = room.saturating_sub(2 + input.size()) / 2;
+        let forks = carried_forks(self.random, most);
+        let style = types::Style::any(self.random);
+        a_type(self.random, &style, forks)
+    }
+
+    /// A node that the second pass refuses, or nearly: any kind, and any type that it carries.
     fn misfit(&mut self, input: &Type) -> Grown {
         let kind = self.random.pick(&LEAVES);
-        let node = if kind == SILENT {
-            Node::silent(any_type(self.random))
-        } else {
-            self.leaf_of(kind, Type::LIMIT)
+        let node = match kind {
+            SILENT => Node::silent(any_type(self.random)),
+            MARK_FIRST => Node::MarkFirst(any_type(self.random)),
+            MARK_SECOND => Node::MarkSecond(any_type(self.random)),
+            _ => self.leaf_of(kind, input, Type::LIMIT),
         };
         let gives = output_type(&node, input).unwrap_or(Type::Cue);
         Grown { node, gives }

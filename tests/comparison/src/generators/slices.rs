@@ -20,6 +20,8 @@ pub struct Pace {
     pub cross: usize,
     /// That a sequence is crossed of whose first part nothing is left to come.
     pub cross_spent: usize,
+    /// That one of the two parts of an either is chosen.
+    pub choose: usize,
 }
 
 impl Pace {
@@ -28,12 +30,14 @@ impl Pace {
         come: 0,
         cross: 0,
         cross_spent: 0,
+        choose: 0,
     };
     /// All that is left.
     pub const ALL: Pace = Pace {
         come: 100,
         cross: 100,
         cross_spent: 100,
+        choose: 100,
     };
 
     /// Any pace.
@@ -44,6 +48,7 @@ impl Pace {
             come,
             cross,
             cross_spent: cross,
+            choose: random.pick(&[0, 50, 90, 100]),
         }
     }
 
@@ -53,6 +58,7 @@ impl Pace {
             come: random.pick(&[5, 10, 20, 40, 70]),
             cross: random.pick(&[0, 2, 5, 10]),
             cross_spent: random.pick(&[40, 80, 100]),
+            choose: random.pick(&[0, 10, 20, 40, 60]),
         }
     }
 }
@@ -102,6 +108,10 @@ impl Writer<'_> {
                 self.write(complete);
                 self.write(complete);
             }
+            type_kind::EITHER if complete || self.random.chance(self.pace.choose) => {
+                self.chosen(complete);
+            }
+            type_kind::EITHER => self.none_chosen(),
             type_kind::EMPTY => self.leaf(&[slice_kind::NOTHING], kind),
             leaf if complete || self.random.chance(self.pace.come) => self.leaf_come(leaf),
             type_kind::CUE => self.leaf(&[slice_kind::CUE_AWAITED], kind),
@@ -143,11 +153,37 @@ impl Writer<'_> {
         self.come.slice.push(slice_kind::IN_FIRST);
         self.come.left.push(type_kind::SEQUENCE);
         self.write(false);
-        let second = self.at;
-        self.at = type_end(self.tree, second);
-        self.come
-            .left
-            .extend_from_slice(&self.tree[second..self.at]);
+        self.leave_type();
+    }
+
+    /// All of the type at hand is left.
+    fn leave_type(&mut self) {
+        let begin = self.at;
+        self.skip_type();
+        self.come.left.extend_from_slice(&self.tree[begin..self.at]);
+    }
+
+    fn skip_type(&mut self) {
+        self.at = type_end(self.tree, self.at);
+    }
+
+    fn none_chosen(&mut self) {
+        self.leaf(&[slice_kind::NONE_CHOSEN], type_kind::EITHER);
+        self.leave_type();
+        self.leave_type();
+    }
+
+    /// The part that is not chosen is gone.
+    fn chosen(&mut self, complete: bool) {
+        if self.random.chance(50) {
+            self.come.slice.push(slice_kind::FIRST_CHOSEN);
+            self.write(complete);
+            self.skip_type();
+        } else {
+            self.come.slice.push(slice_kind::SECOND_CHOSEN);
+            self.skip_type();
+            self.write(complete);
+        }
     }
 
     fn crossed(&mut self, complete: bool) {

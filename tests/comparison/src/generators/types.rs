@@ -1,10 +1,13 @@
 //! Random types, written as the bytes of their trees.
 
-use crate::formats::kinds::type_kind::{BESIDE, CUE, EMPTY, LEVEL, SEQUENCE};
+use crate::formats::kinds::type_kind::{BESIDE, CUE, EITHER, EMPTY, LEVEL, SEQUENCE};
 use crate::generators::random::Random;
 
 /// A type of 255 nodes has so many forks.
 pub const MOST_FORKS: usize = 127;
+
+/// The chance, in a hundred, that the parts of an either are alike where they can be.
+const ALIKE: usize = 20;
 
 /// Which way a tree grows.
 #[derive(Clone, Copy, Debug, PartialEq, Eq)]
@@ -43,6 +46,8 @@ impl Shape {
 #[derive(Clone, Copy, Debug)]
 pub struct Style {
     shape: Shape,
+    choices: usize,
+    /// Among the forks that are no choice.
     sequences: usize,
     empties: usize,
     levels: usize,
@@ -53,6 +58,7 @@ impl Style {
     pub fn any(random: &mut Random) -> Self {
         Style {
             shape: random.pick(&Shape::ALL),
+            choices: random.pick(&[0, 0, 10, 30, 100]),
             sequences: random.pick(&[0, 20, 50, 80, 100]),
             empties: random.pick(&[0, 10, 50]),
             levels: random.pick(&[0, 50, 100]),
@@ -63,9 +69,28 @@ impl Style {
     pub fn following(random: &mut Random) -> Self {
         Style {
             shape: random.pick(&Shape::ALL),
+            choices: random.pick(&[0, 0, 10, 20]),
             sequences: random.pick(&[50, 70, 90]),
             empties: random.pick(&[0, 0, 10]),
             levels: random.pick(&[0, 50, 100]),
+        }
+    }
+
+    /// With many choices, each between parts in which much follows one another.
+    pub fn choosing(random: &mut Random) -> Self {
+        Style {
+            choices: random.pick(&[40, 60]),
+            ..Style::following(random)
+        }
+    }
+
+    fn fork(&self, random: &mut Random) -> u8 {
+        if random.chance(self.choices) {
+            EITHER
+        } else if random.chance(self.sequences) {
+            SEQUENCE
+        } else {
+            BESIDE
         }
     }
 
@@ -86,8 +111,14 @@ pub fn write_type(random: &mut Random, style: &Style, forks: usize, out: &mut Ve
         out.push(style.leaf(random));
         return;
     }
-    let sequence = random.chance(style.sequences);
-    out.push(if sequence { SEQUENCE } else { BESIDE });
+    let kind = style.fork(random);
+    out.push(kind);
+    if kind == EITHER && forks % 2 == 1 && random.chance(ALIKE) {
+        let begin = out.len();
+        write_type(random, style, forks / 2, out);
+        out.extend_from_within(begin..);
+        return;
+    }
     let first = style.shape.in_first(random, forks - 1);
     write_type(random, style, first, out);
     write_type(random, style, forks - 1 - first, out);

@@ -1,11 +1,11 @@
 //! Which of document 01's cases a feed meets: every node of the patch, with the slice that comes to
 //! it.
 
-use second_interpreter::{feed_node, output_type, Node, Slice, Type};
+use second_interpreter::{empty_slice, feed_node, output_type, Node, Slice, Type};
 
-/// The cases, in the order of document 01. Where a node does one thing before a crossing and
-/// another after it, each is a case.
-pub const CASES: [&str; 23] = [
+/// The cases, in the order of the kinds. Where a node does one thing before a crossing or a choice
+/// and another after it, each is a case.
+pub const CASES: [&str; 28] = [
     "pass",
     "silent",
     "cue",
@@ -29,6 +29,11 @@ pub const CASES: [&str; 23] = [
     "spread on 5",
     "spread on 6",
     "front",
+    "choose on 8",
+    "choose on 9",
+    "choose on 10",
+    "mark first",
+    "mark second",
 ];
 
 /// How many nodes met each case.
@@ -39,7 +44,7 @@ const FITS: &str = "a checked node takes every slice of its input";
 
 fn name(node: &Node, slice: &Slice) -> &'static str {
     let crossed = matches!(slice, Slice::Crossed(..));
-    let either = |before, after| if crossed { after } else { before };
+    let by_crossing = |before, after| if crossed { after } else { before };
     match node {
         Node::Pass => "pass",
         Node::Silent(_) => "silent",
@@ -48,24 +53,31 @@ fn name(node: &Node, slice: &Slice) -> &'static str {
         Node::Both(..) => "both",
         Node::Left => "left",
         Node::Right => "right",
-        Node::First => either("first on 5", "first on 6"),
-        Node::Second => either("second on 5", "second on 6"),
-        Node::Then(..) => either("then on 5", "then on 6"),
+        Node::First => by_crossing("first on 5", "first on 6"),
+        Node::Second => by_crossing("second on 5", "second on 6"),
+        Node::Then(..) => by_crossing("then on 5", "then on 6"),
         Node::Chain(..) => "chain",
         Node::RegroupRight => match slice {
             Slice::Uncrossed(inner) if matches!(**inner, Slice::Uncrossed(_)) => {
                 "regroup right on 5 5"
             }
-            _ => either("regroup right on 5 6", "regroup right on 6 6"),
+            _ => by_crossing("regroup right on 5 6", "regroup right on 6 6"),
         },
         Node::RegroupLeft => match slice {
             Slice::Crossed(_, rest) if matches!(**rest, Slice::Uncrossed(_)) => {
                 "regroup left on 6 5"
             }
-            _ => either("regroup left on 5", "regroup left on 6 6"),
+            _ => by_crossing("regroup left on 5", "regroup left on 6 6"),
         },
-        Node::Spread => either("spread on 5", "spread on 6"),
+        Node::Spread => by_crossing("spread on 5", "spread on 6"),
         Node::Front => "front",
+        Node::Choose(..) => match slice {
+            Slice::FirstChosen(_) => "choose on 9",
+            Slice::SecondChosen(_) => "choose on 10",
+            _ => "choose on 8",
+        },
+        Node::MarkFirst(_) => "mark first",
+        Node::MarkSecond(_) => "mark second",
     }
 }
 
@@ -89,6 +101,7 @@ pub fn walk(node: &Node, input: &Type, slice: &Slice, met: &mut Met) -> (Slice, 
             let (sent, between) = walk(first, input, slice, met);
             walk(second, &between, &sent, met)
         }
+        Node::Choose(first, second) => walk_choose([first, second], input, slice, met),
         leaf => (
             feed_node(leaf, input, slice).expect(FITS).sent,
             output_type(leaf, input).expect(FITS),
@@ -114,5 +127,18 @@ fn walk_then(parts: [&Node; 2], input: &Type, slice: &Slice, met: &mut Met) -> (
             (Slice::uncrossed(p), Type::sequence(first_type, second_type))
         }
         _ => unreachable!("{FITS}"),
+    }
+}
+
+fn walk_choose(parts: [&Node; 2], input: &Type, slice: &Slice, met: &mut Met) -> (Slice, Type) {
+    let [first, second] = parts;
+    let (first_input, second_input) = input.either_parts().expect(FITS);
+    match slice {
+        Slice::FirstChosen(p) => walk(first, first_input, p, met),
+        Slice::SecondChosen(q) => walk(second, second_input, q, met),
+        _ => {
+            let gives = output_type(first, first_input).expect(FITS);
+            (empty_slice(&gives), gives)
+        }
     }
 }

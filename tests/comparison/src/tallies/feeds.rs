@@ -5,6 +5,7 @@ use std::fmt;
 use second_interpreter::{slice_file, Node};
 
 use crate::formats::files::contents;
+use crate::formats::preorder::choices;
 use crate::formats::trees::{patch_trees, slice_tree};
 use crate::tallies::cases::{walk, Met, CASES};
 
@@ -31,6 +32,8 @@ pub struct FeedTally {
     /// Feeds of patches with the most nodes, and feeds that left a longer patch file.
     largest: u64,
     longer: u64,
+    /// The choices in slices of calls of their own.
+    choices_alone: u64,
 }
 
 impl FeedTally {
@@ -60,9 +63,17 @@ impl FeedTally {
                 *feeds += u64::from(times > 0);
             }
         }
+        if position == Position::Alone {
+            self.choices_alone += choices(contents(slice));
+        }
         self.largest += u64::from(node.count() == Node::LIMIT);
         self.longer += u64::from(written[1].len() > patch.len());
         Ok(())
+    }
+
+    /// The choices in slices of calls of their own.
+    pub fn choices_alone(&self) -> u64 {
+        self.choices_alone
     }
 
     /// What a long comparison should have met and did not.

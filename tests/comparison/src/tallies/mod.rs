@@ -8,14 +8,16 @@ use crate::formats::fault;
 use crate::tallies::feeds::{FeedTally, Position};
 use crate::tallies::patches::PatchTally;
 use crate::tallies::runs::RunTally;
+use crate::tallies::streams::StreamTally;
 
 mod cases;
 pub(crate) mod feeds;
 mod patches;
 mod runs;
+mod streams;
 
 /// The numbers that the operations can answer.
-const NUMBERS: [u32; 13] = [
+const NUMBERS: [u32; 14] = [
     fault::ACCEPTED,
     fault::CUT_SHORT,
     fault::UNLISTED,
@@ -29,6 +31,7 @@ const NUMBERS: [u32; 13] = [
     fault::SLICE_LEFT_OVER,
     fault::SLICE_MISPLACED,
     fault::NO_ROOM,
+    fault::OUTPUTS_DIFFER,
 ];
 
 /// Fewer calls than this are not judged by what they met: what is seldom, late in a run, might be
@@ -41,7 +44,10 @@ const LEAST_ACCEPTED: u64 = 30;
 /// Whether the operation can answer this number.
 fn is_possible(operation: Operation, number: u32) -> bool {
     match number {
-        fault::TOO_MANY_NODES | fault::NOT_NULLABLE | fault::WRONG_SHAPE => operation.takes_patch(),
+        fault::TOO_MANY_NODES
+        | fault::NOT_NULLABLE
+        | fault::WRONG_SHAPE
+        | fault::OUTPUTS_DIFFER => operation.takes_patch(),
         fault::SLICE_CUT_SHORT
         | fault::SLICE_UNLISTED
         | fault::SLICE_LEFT_OVER
@@ -57,6 +63,7 @@ pub struct Tally {
     counts: [[u64; NUMBERS.len()]; Operation::ALL.len()],
     complete: u64,
     patches: PatchTally,
+    streams: StreamTally,
     /// The accepted feeds, alone and in runs.
     pub feeds: FeedTally,
     /// The runs, whose feeds are not among the calls.
@@ -78,6 +85,9 @@ impl Tally {
         if operation == Operation::Check {
             self.patches.add(&call.files[0], answer);
         }
+        if !operation.takes_patch() && answer.number == fault::ACCEPTED {
+            self.streams.add(&call.files);
+        }
         if operation == Operation::Feed && answer.number == fault::ACCEPTED {
             self.feeds
                 .add(Position::Alone, &call.files, &agreed.files)?;
@@ -95,12 +105,19 @@ impl Tally {
         self.counts.iter().flatten().sum()
     }
 
+    /// The choices that accepted slices made, in calls of their own and in runs.
+    pub fn choices(&self) -> [u64; 2] {
+        let alone = self.streams.choices() + self.feeds.choices_alone();
+        [alone, self.runs.choices()]
+    }
+
     /// What a comparison of this length should have met and did not.
     pub fn gaps(&self) -> Vec<String> {
         if self.total() < JUDGED_FROM {
             return Vec::new();
         }
         let mut gaps = self.patches.gaps();
+        gaps.extend(self.streams.gaps());
         gaps.extend(self.feeds.gaps());
         gaps.extend(self.runs.gaps());
         for operation in Operation::ALL {
@@ -149,6 +166,7 @@ impl fmt::Display for Tally {
             "\nof {admitted} admitted slices {} were complete",
             self.complete
         )?;
-        write!(out, "\n{}\n{}\n{}", self.patches, self.feeds, self.runs)
+        write!(out, "\n{}\n{}", self.streams, self.patches)?;
+        write!(out, "\n{}\n{}", self.feeds, self.runs)
     }
 }

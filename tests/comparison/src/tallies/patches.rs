@@ -2,19 +2,22 @@
 
 use std::fmt;
 
-use second_interpreter::{Node, Type};
+use second_interpreter::{output_type, Node, Type};
 
 use crate::calls::comparison::Answer;
 use crate::formats::fault;
 use crate::formats::files::count;
 use crate::formats::kinds::node_kind::NAMES;
 use crate::formats::preorder::{roots, Root};
+use crate::formats::trees::patch_trees;
 use crate::generators::patches::MOST_FORKS;
 
 /// How deep a patch of the largest number of nodes can be.
 const DEEPEST: usize = MOST_FORKS + 1;
 
-/// What was met in patches that Check has accepted.
+const DIFFER_IN_ONE_SIZE: &str = "are refused with 30 for different types of one size";
+
+/// What was met in patches that Check was asked about.
 #[derive(Clone, Debug, Default)]
 pub struct PatchTally {
     calls: u64,
@@ -28,6 +31,42 @@ pub struct PatchTally {
     largest: u64,
     deepest: u64,
     largest_types: u64,
+    /// Those refused for a choose to different types of one size.
+    differ_in_one_size: u64,
+}
+
+/// The types that the nodes of the first choose with two types give.
+fn first_difference(node: &Node, input: &Type) -> Option<[Type; 2]> {
+    let of_parts = |[one, other]: [&Node; 2], [first, second]: [&Type; 2]| {
+        first_difference(one, first).or_else(|| first_difference(other, second))
+    };
+    match node {
+        Node::Both(one, other) => of_parts([one, other], [input, input]),
+        Node::Then(one, other) => {
+            let (first, second) = input.sequence_parts()?;
+            of_parts([one, other], [first, second])
+        }
+        Node::Chain(one, other) => first_difference(one, input)
+            .or_else(|| first_difference(other, &output_type(one, input).ok()?)),
+        Node::Choose(one, other) => {
+            let (first, second) = input.either_parts()?;
+            of_parts([one, other], [first, second]).or_else(|| {
+                let gives = [
+                    output_type(one, first).ok()?,
+                    output_type(other, second).ok()?,
+                ];
+                (gives[0] != gives[1]).then_some(gives)
+            })
+        }
+        _ => None,
+    }
+}
+
+/// Whether the first fault of a patch, a choose to different types, is one of types of one size.
+fn differs_in_one_size(file: &[u8]) -> bool {
+    let (input, node) = patch_trees(file);
+    let gives = first_difference(&node, &input);
+    gives.is_some_and(|[one, other]| one.size() == other.size())
 }
 
 impl PatchTally {
@@ -35,6 +74,9 @@ impl PatchTally {
     pub fn add(&mut self, file: &[u8], answer: &Answer) {
         self.calls += 1;
         self.accepted += u64::from(matches!(answer.number, fault::ACCEPTED | fault::NO_ROOM));
+        if answer.number == fault::OUTPUTS_DIFFER {
+            self.differ_in_one_size += u64::from(differs_in_one_size(file));
+        }
         if answer.number == fault::ACCEPTED {
             let nodes = &file[2 + count(file)..];
             self.add_accepted(nodes, &roots(nodes), answer.written[0] - 2);
@@ -69,6 +111,9 @@ impl PatchTally {
             if times == 0 {
                 gaps.push(format!("no accepted patches {what}"));
             }
+        }
+        if self.differ_in_one_size == 0 {
+            gaps.push(format!("no patches {DIFFER_IN_ONE_SIZE}"));
         }
         gaps
     }
@@ -112,6 +157,7 @@ impl fmt::Display for PatchTally {
         for (times, what) in self.extremes() {
             write!(out, "; {times} {what}")?;
         }
-        writeln!(out)
+        let times = self.differ_in_one_size;
+        writeln!(out, "\n{times} patches {DIFFER_IN_ONE_SIZE}")
     }
 }

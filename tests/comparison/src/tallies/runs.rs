@@ -6,6 +6,8 @@ use second_interpreter::Slice;
 
 use crate::formats::fault;
 use crate::formats::files::contents;
+use crate::formats::kinds::type_kind::EITHER;
+use crate::formats::preorder::choices;
 use crate::formats::trees::slice_tree;
 use crate::runs::recut::Anew;
 use crate::runs::{is_spent, Step};
@@ -24,17 +26,45 @@ const NUMBERS: [u32; 6] = [
 /// How often something was met, by its name.
 type Count = (u64, &'static str);
 
+/// In which of its accepted slices a run chose. Those with one slice alone are not counted.
+#[derive(Clone, Copy, Debug, Default)]
+struct ChosenIn {
+    first: u64,
+    middle: u64,
+    last: u64,
+    /// None was chosen, though one could have been.
+    never: u64,
+}
+
+impl ChosenIn {
+    fn add(&mut self, steps: &[Step]) {
+        let chooses = |step: &Step| choices(contents(&step.slice)) > 0;
+        if let [first, middle @ .., last] = steps {
+            let in_middle = middle.iter().any(chooses);
+            let could = contents(&last.patch).contains(&EITHER);
+            let never = could && !chooses(first) && !in_middle && !chooses(last);
+            self.first += u64::from(chooses(first));
+            self.middle += u64::from(in_middle);
+            self.last += u64::from(chooses(last));
+            self.never += u64::from(never);
+        }
+    }
+}
+
 /// What was met in runs.
 #[derive(Clone, Debug, Default)]
 pub struct RunTally {
     numbers: [u64; NUMBERS.len()],
     crossings: u64,
+    choices: u64,
+    choosing: u64,
     runs: u64,
     old: u64,
     without_feeds: u64,
     none_accepted: u64,
     late: u64,
     spent: u64,
+    chosen: ChosenIn,
     recuts: u64,
     recut_feeds: u64,
     joined: u64,
@@ -48,6 +78,8 @@ impl RunTally {
         self.numbers[column] += 1;
         if number == fault::ACCEPTED {
             self.crossings += u64::from(crosses(&slice_tree(contents(slice))));
+            self.choices += choices(contents(slice));
+            self.choosing += u64::from(choices(contents(slice)) > 0);
         }
         Ok(())
     }
@@ -61,6 +93,7 @@ impl RunTally {
         self.late += u64::from(steps.len() > LATE);
         let spent = |step: &Step| is_spent(&step.fed.left);
         self.spent += u64::from(steps.last().is_some_and(spent));
+        self.chosen.add(steps);
     }
 
     /// Counts a stream that was cut anew.
@@ -68,6 +101,11 @@ impl RunTally {
         self.recuts += 1;
         self.recut_feeds += anew.feeds as u64;
         self.joined += anew.joined as u64;
+    }
+
+    /// All choices that accepted slices made.
+    pub fn choices(&self) -> u64 {
+        self.choices
     }
 
     /// All runs.
@@ -91,7 +129,7 @@ impl RunTally {
         gaps
     }
 
-    fn of_runs(&self) -> [Count; 6] {
+    fn of_runs(&self) -> [Count; 10] {
         [
             (self.old, "runs from a patch that earlier feeds left"),
             (self.without_feeds, "runs without a feed"),
@@ -101,13 +139,18 @@ impl RunTally {
             ),
             (self.late, "runs of more than ten accepted feeds"),
             (self.spent, "runs to the end of the stream"),
+            (self.chosen.first, "runs that chose in their first slice"),
+            (self.chosen.middle, "runs that chose in a middle slice"),
+            (self.chosen.last, "runs that chose in their last slice"),
+            (self.chosen.never, "runs that never chose and could have"),
             (self.recuts, "runs whose stream was cut anew"),
         ]
     }
 
-    fn of_feeds(&self) -> [Count; 3] {
+    fn of_feeds(&self) -> [Count; 4] {
         [
             (self.crossings, "accepted feeds in runs that crossed"),
+            (self.choosing, "accepted feeds in runs that chose"),
             (self.recut_feeds, "feeds of streams cut anew"),
             (self.joined, "of them with several slices as one"),
         ]
@@ -118,7 +161,9 @@ impl RunTally {
 fn crosses(slice: &Slice) -> bool {
     match slice {
         Slice::Crossed(..) => true,
-        Slice::Uncrossed(first) => crosses(first),
+        Slice::Uncrossed(part) | Slice::FirstChosen(part) | Slice::SecondChosen(part) => {
+            crosses(part)
+        }
         Slice::Beside(left, right) => crosses(left) || crosses(right),
         _ => false,
     }

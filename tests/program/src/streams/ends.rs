@@ -16,6 +16,12 @@ pub fn at_every_byte(turn: usize, random: &mut Random) -> Vec<Vec<u8>> {
         1 => refused_slices(),
         2 => stream(&[patch(&[1], &[1, 3, 0, 0]), section(&[1]), section(&[2])]),
         3 => levels(),
+        4 => choices(),
+        5 => stream(&[
+            patch(&[5, 1, 2], &[15, 0, 0]),
+            section(&[8]),
+            section(&[9, 2]),
+        ]),
         _ => short(random),
     };
     (0..=whole.len()).map(|end| whole[..end].to_vec()).collect()
@@ -48,6 +54,18 @@ fn levels() -> Vec<u8> {
         section(&[7, 4, 10, 13, 3]),
         section(&[7, 0, 4, 0, 0]),
         section(&[7, 0, 0]),
+    ])
+}
+
+/// Both choices, one after the other, with a slice that chooses once more.
+fn choices() -> Vec<u8> {
+    stream(&[
+        patch(&[3, 5, 1, 2, 5, 2, 0], &[9, 15, 16, 2, 17, 1, 0]),
+        section(&[5, 8]),
+        section(&[5, 9, 1]),
+        section(&[5, 9, 2]),
+        section(&[6, 2, 8]),
+        section(&[10, 0]),
     ])
 }
 

@@ -15,6 +15,7 @@ pub fn small_slices(random: &mut Random) -> Vec<u8> {
         come: 1,
         cross: 0,
         cross_spent: 1,
+        choose: 1,
     };
     while show.length() < LONG {
         match random.below(50) {

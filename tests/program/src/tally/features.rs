@@ -1,5 +1,8 @@
 //! What a stream and its lines are like, as far as it is counted by name.
 
+use comparison::formats::files::contents;
+use comparison::formats::preorder::choices;
+
 use crate::formats::{line_ends, refuses_patch, Parts};
 use crate::running::delivery::Delivery;
 use crate::streams::Case;
@@ -33,7 +36,7 @@ pub fn way(delivery: &Delivery) -> usize {
 }
 
 /// What has to be met in some stream.
-pub const FEATURES: [&str; 14] = [
+pub const FEATURES: [&str; 18] = [
     "no bytes at all",
     "end inside the patch's length",
     "end inside the patch file",
@@ -48,6 +51,10 @@ pub const FEATURES: [&str; 14] = [
     "line of 1,536 characters across 64 KiB of output",
     "more than 128 KiB of output",
     "more than 1 MiB of input",
+    "choice in the first of the accepted slices",
+    "choice in a middle one of them",
+    "choice in the last of them",
+    "choice that is never made",
 ];
 
 /// Whether each feature is there.
@@ -56,6 +63,7 @@ pub fn features(case: &Case, parts: &Parts, output: &[u8]) -> [bool; FEATURES.le
     let refused = refuses_patch(output);
     let lines: Vec<&[u8]> = output.split_inclusive(|byte| *byte == b'\n').collect();
     let longest = longest_line(output);
+    let [first, middle, last, never] = chosen_in(parts, &lines);
     [
         case.stream.is_empty(),
         files == 0 && rest == 1,
@@ -73,18 +81,47 @@ pub fn features(case: &Case, parts: &Parts, output: &[u8]) -> [bool; FEATURES.le
         longest.is_some_and(|(begin, end)| begin < OUTPUT_BOUNDARY && OUTPUT_BOUNDARY < end),
         output.len() > 2 * OUTPUT_BOUNDARY,
         case.stream.len() > 1 << 20,
+        first,
+        middle,
+        last,
+        never,
     ]
+}
+
+/// In which of its accepted slices, if there are several, a stream chooses: in the first, in one
+/// between, in the last, or in none though it could.
+fn chosen_in(parts: &Parts, lines: &[&[u8]]) -> [bool; 4] {
+    let slices = parts.files.iter().skip(1).zip(lines);
+    let chooses: Vec<bool> = slices
+        .filter(|(_, line)| is_accepted(line))
+        .map(|((_, file), _)| choices(contents(file)) > 0)
+        .collect();
+    let [first, middle @ .., last] = chooses.as_slice() else {
+        return [false; 4];
+    };
+    let some = chooses.contains(&true);
+    let could = lines.iter().any(|line| leaves_choice(line));
+    [*first, middle.contains(&true), *last, could && !some]
 }
 
 fn is_accepted(line: &[u8]) -> bool {
     line.starts_with(b"0 ")
 }
 
-/// Whether the type left, the last field, has nothing but empty types side by side.
-fn is_spent(line: &[u8]) -> bool {
+/// The kinds of the type left, the last field, each in two digits.
+fn kinds_left(line: &[u8]) -> impl Iterator<Item = &[u8]> {
     let field = line.rsplit(|byte| *byte == b' ').next().unwrap_or_default();
-    let kinds = field.trim_ascii_end().chunks(2);
-    is_accepted(line) && kinds.into_iter().all(|kind| kind == b"00" || kind == b"04")
+    field.trim_ascii_end().chunks(2)
+}
+
+/// Whether the type left has nothing but empty types side by side.
+fn is_spent(line: &[u8]) -> bool {
+    is_accepted(line) && kinds_left(line).all(|kind| kind == b"00" || kind == b"04")
+}
+
+/// Whether the type left has an either.
+fn leaves_choice(line: &[u8]) -> bool {
+    is_accepted(line) && kinds_left(line).any(|kind| kind == b"05")
 }
 
 /// Where a line of the greatest length begins and ends.

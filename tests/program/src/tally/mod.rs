@@ -4,7 +4,7 @@ use std::fmt;
 
 use comparison::formats::fault;
 
-use crate::formats::{refuses_patch, Parts};
+use crate::formats::{refuses_patch, Parts, PATCH_NUMBERS};
 use crate::streams::boundaries::BOUNDARIES;
 use crate::streams::lengths::{PATCH_LENGTHS, SLICE_LENGTHS};
 use crate::streams::{Case, Kind};
@@ -15,17 +15,8 @@ mod features;
 /// Fewer streams than this are not judged by what they met.
 const JUDGED_FROM: u64 = 2_000;
 
-/// The numbers of refused patches, and those of slices. 20 is none of them: the program's buffers
-/// are long enough.
-const PATCH_NUMBERS: [u32; 7] = [
-    fault::CUT_SHORT,
-    fault::UNLISTED,
-    fault::LEFT_OVER,
-    fault::TYPE_TOO_LARGE,
-    fault::TOO_MANY_NODES,
-    fault::NOT_NULLABLE,
-    fault::WRONG_SHAPE,
-];
+/// The numbers of slices. 20 is none of them, nor of those of patches: the program's buffers are
+/// long enough.
 const SLICE_NUMBERS: [u32; 5] = [
     fault::ACCEPTED,
     fault::SLICE_CUT_SHORT,
