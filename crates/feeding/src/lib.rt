@@ -23,6 +23,7 @@ use reading::prefixes::MAX_SLICE_FILE;
 use reading::prefixes::PrefixPlace;
 use reading::types::TypePlace;
 use typing::Typed;
+use typing::type_choose;
 use typing::type_node;
 use writing::comparing::same_types;
 use writing::copy;
@@ -388,7 +389,7 @@ fn feed_unchosen(
     requires { ⌜ ChoiceDue 8 (now types) (now slice) input (now nodes) from (now out) (now remainder) (now given) ⌝ }
     ensures { λ r. ⌜ FeedsNode (now (types .entry)) (now (slice .entry)) input (now (nodes .entry)) from (now (out .entry)) (now (remainder .entry)) (now (given .entry)) (now (out .exit)) (now (remainder .exit)) (now (given .exit)) r ⌝ }
 {
-    match type_node(types, input.ty, nodes, from, given) {
+    match type_choose(types, input.ty, nodes, from, given) {
         Typed::Failed(_) => Stepped::Failed,
         Typed::Gives(end, size) => {
             if given.len() < size {

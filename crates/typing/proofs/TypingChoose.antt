@@ -21,7 +21,7 @@ use Rattle.typing.specs.declared.Typed.the-variants.{Failed}
 use Rattle.patch_reading.specs.PatchReads.{node-width, NodeAt}
 use Rattle.patch_reading.specs.PatchReads.Laws.{choose-forks, Parts, parts-at}
 use Rattle.typing.specs.Typing.{Answers, Given, TypingDue, TypesNode}
-use Rattle.typing.specs.Typing.Laws.{is-refused, answers-refused, requires-fails, requires-holds, HasGiven, GivenType, given-type}
+use Rattle.typing.specs.Typing.Laws.{is-refused, answers-refused, requires-fails, requires-holds, HasGiven, GivenType, given-type, held-in}
 
 -- What the parts give, if it is the same.
 abbrev same-outputs : Ty → Ty → Node → Node → Result Ty
@@ -118,14 +118,8 @@ module _ {types : List ℕ} {place : TypePlace} {nodes : List ℕ} {from : ℕ} 
               (answers-refused refl)
 
       -- The type that it gives, where it lies.
-      module _ {lies : TypePlace} (is-place : lies ≡ record { start = 0; end = many }) where
-        given-in : (due : TypingDue types place nodes from) → TypeIn one lies (first-given due .type)
-        given-in due =
-            let held = first-given due .holds in
-            rw is-place (record { stands = held .stands; ends = omega (arith, held .sized) })
-
-        pub some-given : TypingDue types place nodes from → SomeTypeIn one lies
-        some-given due = record { type = first-given due .type; here = given-in due }
+      pub some-given : {lies : TypePlace} → lies ≡ record { start = 0; end = many } → TypingDue types place nodes from → SomeTypeIn one lies
+      some-given is-place due = record { type = first-given due .type; here = held-in (first-given due .holds) is-place }
 
       module _ {other : List ℕ} {end more : ℕ} (also : HasGiven types second nodes next other end more) where
         second-given : (due : TypingDue types place nodes from) → GivenType (second-due due) other end more
@@ -157,4 +151,4 @@ module _ {types : List ℕ} {place : TypePlace} {nodes : List ℕ} {from : ℕ} 
                   let g = second-given due in
                   let ends : from + node-width (due .node) ≡ end = omega (arith, f .ends, g .ends, chosen due .wide) in
                   rw (ends, choose-is due, f .is-accepted, g .is-accepted)
-                  (requires-holds OutputsDiffer (same-is due ∙ agree) (given-one .each (f .type) (given-in is-place due)))
+                  (requires-holds OutputsDiffer (same-is due ∙ agree) (given-one .each (f .type) (held-in (f .holds) is-place)))

@@ -69,7 +69,7 @@ module _ {types : List ℕ} {place : TypePlace} {nodes : List ℕ} {from : ℕ} 
       let wide = by-byte (λ n. node-width n ≡ suc value-width) (due .node-at) e (λ v. ap suc (value-length v [])) in
       omega (arith, ends-inside (due .node-at))
 
--- No kind is left when all others but those with parts have been tried.
+-- No kind below those that mark a choice is left when all others but those with parts have been tried.
 
 abbrev Outside : List ℕ → ℕ → Type 0
 Outside [] k = Unit
@@ -78,13 +78,12 @@ Outside (j ∷ js) k = Outside js k × (k ≡ j → ⊥)
 above : {j k : ℕ} → j ≤ k → (k ≡ j → ⊥) → j + 1 ≤ k
 above h other = omega arith
 
-pub none-left : (k : ℕ) → k < 18 → node-arity k ≡ 0 → Outside (17 ∷ 16 ∷ 14 ∷ 13 ∷ 12 ∷ 11 ∷ 8 ∷ 7 ∷ 6 ∷ 5 ∷ 3 ∷ 2 ∷ 1 ∷ 0 ∷ []) k → ⊥
-none-left k listed leaf ((((((((((((((none, pass), silent), cue), level), left), right), first), second), regroup-right), regroup-left), spread), front), mark-first), mark-second) =
+pub none-left : (k : ℕ) → k < 16 → node-arity k ≡ 0 → Outside (14 ∷ 13 ∷ 12 ∷ 11 ∷ 8 ∷ 7 ∷ 6 ∷ 5 ∷ 3 ∷ 2 ∷ 1 ∷ 0 ∷ []) k → ⊥
+none-left k below leaf ((((((((((((none, pass), silent), cue), level), left), right), first), second), regroup-right), regroup-left), spread), front) =
     let low : 4 ≤ k = above (above (above (above (omega arith) pass) silent) cue) level in
     let middle : 9 ≤ k = above (above (above (above (parted 4 refl low) left) right) first) second in
     let high : 11 ≤ k = parted 10 refl (parted 9 refl middle) in
-    let upper : 15 ≤ k = above (above (above (above high regroup-right) regroup-left) spread) front in
-    let last : 18 ≤ k = above (above (parted 15 refl upper) mark-first) mark-second in
+    let last : 16 ≤ k = parted 15 refl (above (above (above (above high regroup-right) regroup-left) spread) front) in
     omega arith
   where
     parted : (j : ℕ) → node-arity j ≡ 2 → j ≤ k → j + 1 ≤ k

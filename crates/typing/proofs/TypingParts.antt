@@ -16,7 +16,6 @@ use Rattle.reading.specs.TypeReads.{SomeTypeAt, TypeIn, TypeEnds}
 use Rattle.reading.specs.TypeReads.Laws.{type-before, type-width, first-at, first-in, second-in}
 use Rattle.reading.specs.Nesting.Laws.{other-shape, same-shape, is-fork}
 use Rattle.writing.specs.Writing.Laws.{part, back}
-use Rattle.writing.specs.Writing.Standing.{written-stands}
 use Rattle.node.specs.Nodes.{Node, both, then, chain}
 use Rattle.node.specs.Checking.{gives, typing}
 use Rattle.node.specs.Checking.Laws.{gives-small}
@@ -28,7 +27,7 @@ use Rattle.patch_reading.specs.PatchReads.Laws.{ends-inside, width-positive, Fo
 use Rattle.writing.specs.Appending.{Appends, Within}
 use Rattle.typing.specs.Typing.{limited, Answers, TypingDue, TypesNode, TypePartsDue, fork, parts-typing, TypesParts}
 use Rattle.writing.specs.Appending.Laws.{back-length, WrittenSoFar, nothing-written, written-on, written-part}
-use Rattle.typing.specs.Typing.Laws.{typing-small, is-given, is-refused, answers-refused, answers-written, requires-fails}
+use Rattle.typing.specs.Typing.Laws.{typing-small, is-given, is-refused, answers-refused, answers-written, requires-fails, GivenType, has-given, given-type, held-in}
 
 fork-bytes : {k : ℕ} (t r : Ty) → (k ≡ 3) ⊎ (k ≡ 4) → (k ∷ type-bytes t []) ++ type-bytes r [] ≡ type-bytes (fork k t r) []
 unfolding type-bytes
@@ -282,25 +281,8 @@ module _ {types : List ℕ} {place : TypePlace} {nodes : List ℕ} {from : ℕ} 
     middle-kept due = first-typed .each (chain-first due) .long
 
     module _ {next many : ℕ} (first-gives : answer ≡ Gives next many) (room : length middle ≡ 255) where
-      pub record Middle (due : TypingDue types place nodes from) : Type 0 where
-        pub type : Ty
-        pub is-accepted : typing (due .type) (chained due .first) ≡ accepted type
-        pub ends : next ≡ from + 1 + node-width (chained due .first)
-        pub type-in : TypeIn middle-after (record { start = 0; end = many }) type
-
-      pub middle-given : (due : TypingDue types place nodes from) → Middle due
-      unfolding type-limit
-      middle-given due =
-          let a = first-typed .each (chain-first due) in
-          let g = is-given _ _ (sym first-gives ∙ a .answers) in
-          let small = typing-small (due .type) (chained due .first) (chained due .first-at .carries) (g .given) in
-          let written = a .writes (g .type) (g .given) .in-front (omega (arith, type-width (g .type))) in
-          record {
-            type = g .type;
-            is-accepted = g .given;
-            ends = g .ends;
-            type-in = record { stands = written-stands (g .type) middle written small; ends = omega (arith, g .sized) };
-          }
+      pub middle-given : (due : TypingDue types place nodes from) → GivenType (chain-first due) middle-after next many
+      middle-given due = given-type (has-given room first-typed first-gives) (chain-first due)
 
       pub chained-second-at : (due : TypingDue types place nodes from) → NodeAt nodes next (chained due .second)
       chained-second-at due = rw (middle-given due .ends) (chained due .second-at)
@@ -315,7 +297,7 @@ module _ {types : List ℕ} {place : TypePlace} {nodes : List ℕ} {from : ℕ} 
             record {
               type = middle-given due .type;
               node = chained due .second;
-              type-in = rw is-place (middle-given due .type-in);
+              type-in = held-in (middle-given due .holds) is-place;
               node-at = chained-second-at due;
             }
 

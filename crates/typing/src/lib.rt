@@ -201,8 +201,7 @@ fn type_leaf(types: &[u8], place: TypePlace, nodes: &[u8], from: usize, out: &mu
         12 => give_regrouped_left(types, place, next, out),
         13 => give_spread(types, place, next, out),
         14 => give_front(types, place, next, out),
-        16 => give_marked(types, place, nodes, from, out),
-        17 => give_marked(types, place, nodes, from, out),
+        16..=17 => give_marked(types, place, nodes, from, out),
         // Kinds with parts, and those that are not listed: no such node stands here.
         _ => Typed::Failed(Fault::Unlisted),
     }
@@ -280,8 +279,14 @@ fn type_parts(
 
 // The type that both parts of choose give, each on its part of the type in `place`. They are written on work bytes that have room
 // for every type, since they are compared whole, and `out` may be too short for them. A function of its own, so that the nodes of
-// other kinds need no stack for these bytes.
-fn type_choose(types: &[u8], place: TypePlace, nodes: &[u8], from: usize, out: &mut [u8]) -> Typed
+// other kinds need no stack for these bytes; Feed calls it too, as the compiler takes a function with one caller into its caller.
+pub fn type_choose(
+    types: &[u8],
+    place: TypePlace,
+    nodes: &[u8],
+    from: usize,
+    out: &mut [u8],
+) -> Typed
     requires { ⌜ TypingDue (now types) place (now nodes) from × (getD (now nodes) from 0 ≡ 15) ⌝ }
     ensures { λ r. ⌜ TypesNode (now (types .entry)) place (now (nodes .entry)) from (now (out .entry)) (now (out .exit)) r ⌝ }
 {

@@ -11,20 +11,20 @@ use Rattle.feeding.proofs.feed_unchosen.Statement.{statement}
 use Rattle.feeding.proofs.feed_unchosen.Tie as tie
 
 -- The map of places: what stands before what.
-abbrev entry-before-type-node-arg : tie.After-type-node-arg → tie.Start
-entry-before-type-node-arg c = c .before .before .before .before .before .before .before
+abbrev entry-before-type-choose-arg : tie.After-type-choose-arg → tie.Start
+entry-before-type-choose-arg c = c .before .before .before .before .before .before .before
 
-abbrev entry-before-type-node : tie.After-type-node → tie.Start
-entry-before-type-node c = entry-before-type-node-arg (c .before)
+abbrev entry-before-type-choose : tie.After-type-choose → tie.Start
+entry-before-type-choose c = entry-before-type-choose-arg (c .before)
 
-abbrev type-node-before-end : tie.After-end → tie.After-type-node
-type-node-before-end c = c .before .before .before .before
+abbrev type-choose-before-end : tie.After-end → tie.After-type-choose
+type-choose-before-end c = c .before .before .before .before
 
 abbrev entry-before-end : tie.After-end → tie.Start
-entry-before-end c = entry-before-type-node (type-node-before-end c)
+entry-before-end c = entry-before-type-choose (type-choose-before-end c)
 
-abbrev type-node-before-enum-told : tie.After-enum-told → tie.After-type-node
-type-node-before-enum-told c = c .before .before .before .before
+abbrev type-choose-before-enum-told : tie.After-enum-told → tie.After-type-choose
+type-choose-before-enum-told c = c .before .before .before .before
 
 abbrev else1-before-write-empty-arg2 : tie.After-write-empty-arg2 → tie.Else1
 else1-before-write-empty-arg2 c = c .before .before
@@ -46,19 +46,19 @@ else1-before-new c = else1-before-slice-known6 (c .before)
 
 -- What the search for the type has answered, and the type that was found.
 
-abbrev answered : (c : tie.After-type-node) {answer : Typed} → c .type-node .result ≡ answer
-    → let a = entry-before-type-node c .args in
-    TypesNode (a .types .now) (a .input .ty) (a .nodes .now) (a .from) (a .given .now) (c .type-node .last .1 .1 .1 .1 .0) answer
-answered c told = rw told at (c .type-node .ensures)
+abbrev answered : (c : tie.After-type-choose) {answer : Typed} → c .type-choose .result ≡ answer
+    → let a = entry-before-type-choose c .args in
+    TypesNode (a .types .now) (a .input .ty) (a .nodes .now) (a .from) (a .given .now) (c .type-choose .last .1 .1 .1 .1 .0) answer
+answered c told = rw told at (c .type-choose .ensures)
 
 abbrev found : (c : tie.After-end)
     → let a = entry-before-end c .args in
-    TypesNode (a .types .now) (a .input .ty) (a .nodes .now) (a .from) (a .given .now) (type-node-before-end c .type-node .last .1 .1 .1 .1 .0)
+    TypesNode (a .types .now) (a .input .ty) (a .nodes .now) (a .from) (a .given .now) (type-choose-before-end c .type-choose .last .1 .1 .1 .1 .0)
     (Gives (c .end .given .0 .0) (c .end .given .0 .1 .0))
-found c = answered (type-node-before-end c) (c .end .given .1)
+found c = answered (type-choose-before-end c) (c .end .given .1)
 
-type-node-requires : tie.Need-type-node-requires
-type-node-requires c κs = whole-due (entry-before-type-node-arg c .pre)
+type-choose-requires : tie.Need-type-choose-requires
+type-choose-requires c κs = let asked = entry-before-type-choose-arg c .pre in (whole-due asked, asked .is-choose)
 
 enum-told : tie.Need-enum-told
 enum-told c = search needs
@@ -118,8 +118,8 @@ same-length-2 c = search needs
 
 returns-2 : tie.Need-returns-2
 returns-2 c =
-    let typed = type-node-before-enum-told c in
-    record { each = λ due. untyped (asked-of (entry-before-type-node typed .pre) due) (answered typed (c .enum-told .given .1)) }
+    let typed = type-choose-before-enum-told c in
+    record { each = λ due. untyped (asked-of (entry-before-type-choose typed .pre) due) (answered typed (c .enum-told .given .1)) }
 
 same-length-3 : tie.Need-same-length-3
 same-length-3 c = search needs
@@ -144,7 +144,7 @@ pub feed-unchosen-spec : {M : Type 1} → statement M
 feed-unchosen-spec =
     tie.close
     (tie.spec
-    type-node-requires
+    type-choose-requires
     enum-told
     enum-known-end
     same-length

@@ -1,6 +1,5 @@
 -- `type_leaf` meets its contract: each kind without parts gives what the function for it writes (`TypingLeaf`).
 use borrow.Author.Needs.{needs}
-use mathlib.Core.Logic.{inl, inr}
 use mathlib.Core.Path.{refl, ap}
 use mathlib.Core.List.{[]}
 use Prim.Native.Nat.{suc}
@@ -12,6 +11,7 @@ use Rattle.stream.specs.TypeFiles.{type-bytes}
 use Rattle.node.specs.Checking.{typing}
 use Rattle.node.specs.PatchFiles.{node-bytes}
 use Rattle.patch_reading.specs.PatchReads.Laws.{starts-inside, kind-listed, silent-carries}
+use Rattle.typing.specs.Typing.Laws.{marks-between}
 use Rattle.typing.proofs.TypingLeaf.{leaf-typed, emitter-typed, carried-type, silent-typed, level-inside, none-left}
 use Rattle.typing.proofs.type_leaf.Statement.{statement}
 use Rattle.typing.proofs.type_leaf.Tie as tie
@@ -23,17 +23,17 @@ entry-before-shared-slice-known3 c = c .before .before .before .before
 abbrev entry-before-match-keys4 : tie.At-match-keys4 → tie.Start
 entry-before-match-keys4 c = entry-before-shared-slice-known3 (c .before)
 
-abbrev entry-before-match-rest : tie.At-match-rest → tie.Start
-entry-before-match-rest c = entry-before-shared-slice-known3 (c .before)
-
 abbrev entry-before-give-carried-arg : tie.After-give-carried-arg → tie.Start
 entry-before-give-carried-arg c = entry-before-shared-slice-known3 (c .before .before)
 
-abbrev entry-before-give-marked-arg : tie.After-give-marked-arg → tie.Start
-entry-before-give-marked-arg c = entry-before-shared-slice-known3 (c .before .before)
+abbrev entry-before-then1 : tie.Then1 → tie.Start
+entry-before-then1 c = entry-before-shared-slice-known3 (c .before .before)
 
-abbrev entry-before-give-marked-arg2 : tie.After-give-marked-arg2 → tie.Start
-entry-before-give-marked-arg2 c = entry-before-shared-slice-known3 (c .before .before)
+abbrev entry-before-else2 : tie.Else2 → tie.Start
+entry-before-else2 c = entry-before-shared-slice-known3 (c .before .before .before)
+
+abbrev entry-before-give-marked-arg : tie.After-give-marked-arg → tie.Start
+entry-before-give-marked-arg c = entry-before-shared-slice-known3 (c .before .before .before .before)
 
 abbrev match-keys9-before-slice-known10 : tie.After-slice-known10 → tie.At-match-keys9
 match-keys9-before-slice-known10 c = c .before .before .before .before
@@ -117,10 +117,8 @@ give-front-requires : tie.Need-give-front-requires
 give-front-requires c κs = search needs
 
 give-marked-requires : tie.Need-give-marked-requires
-give-marked-requires c κs = (entry-before-give-marked-arg c .pre .0, inl (c .before .match .keys13))
-
-give-marked-requires-2 : tie.Need-give-marked-requires-2
-give-marked-requires-2 c κs = (entry-before-give-marked-arg2 c .pre .0, inr (c .before .match .keys14))
+give-marked-requires c κs =
+    (entry-before-give-marked-arg c .pre .0, marks-between _ (omega (arith, c .before .before .if1 .left)) (omega (arith, c .before .if2 .taken)))
 
 same-length : tie.Need-same-length
 same-length c = search needs
@@ -211,17 +209,14 @@ same-length-13 c = search needs
 returns-13 : tie.Need-returns-13
 returns-13 c = c .before .before .give-marked .ensures
 
-same-length-14 : tie.Need-same-length-14
-same-length-14 c = search needs
-
-returns-14 : tie.Need-returns-14
-returns-14 c = c .before .before .give-marked2 .ensures
-
 -- No other kind stands here.
+returns-14 : tie.Need-returns-14
+returns-14 c =
+    let due = entry-before-then1 c .pre in
+    absurd (none-left _ (omega (arith, c .if1 .taken)) (due .1) (c .before .match .rest))
+
 returns-15 : tie.Need-returns-15
-returns-15 c =
-    let due = entry-before-match-rest c .pre in
-    absurd (none-left _ (kind-listed (due .0 .node-at)) (due .1) (c .match .rest))
+returns-15 c = absurd (omega (arith, c .if2 .left, kind-listed (entry-before-else2 c .pre .0 .node-at)))
 
 pub type-leaf-spec : {M : Type 1} → statement M
 type-leaf-spec =
@@ -243,7 +238,6 @@ type-leaf-spec =
     give-spread-requires
     give-front-requires
     give-marked-requires
-    give-marked-requires-2
     same-length
     returns
     same-length-2
@@ -270,6 +264,5 @@ type-leaf-spec =
     returns-12
     same-length-13
     returns-13
-    same-length-14
     returns-14
     returns-15)

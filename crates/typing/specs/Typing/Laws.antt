@@ -1,12 +1,13 @@
 -- What an answer of the second pass says.
 use mathlib.Core.Bool.{Bool, true, false}
+use mathlib.Core.Logic.{inl, inr}
 use mathlib.Core.Path.{_≡_, refl, sym, ap, _∙_}
 use mathlib.Core.List.{List, []}
 use Prim.Native.Nat.{ℕ, _+_, _≤_, _<_}
 use native.Mathlib.Omega.{arith}
-use lib.Dec.{leb}
+use lib.Dec.{leb, eqb}
 use lib.ListN.{length}
-use borrow.Author.Tests.{le-leb, lt-leb}
+use borrow.Author.Tests.{le-leb, lt-leb, eqb-true, eqb-false}
 use Rattle.stream.specs.declared.Fault.{Fault}
 use Rattle.stream.specs.declared.Fault.the-variants.{TypeTooLarge}
 use Rattle.stream.specs.Types.{Ty, size, type-limit, Small}
@@ -29,7 +30,7 @@ use Rattle.node.specs.Nodes.Functions.{Carries}
 use Rattle.typing.specs.declared.Typed.{Typed}
 use Rattle.typing.specs.declared.Typed.the-variants.{Gives, Failed}
 use Rattle.patch_reading.specs.PatchReads.{node-width}
-use Rattle.typing.specs.Typing.{typed, limited, Answers, TypingDue, TypesNode}
+use Rattle.typing.specs.Typing.{typed, limited, Answers, Marks, TypingDue, TypesNode}
 
 -- A type in its place is a piece of the bytes, and can be written behind a kind byte and another type.
 
@@ -40,6 +41,14 @@ type-in-piece here = type-piece (here .stands) (here .ends)
 pub copy-due : {types : List ℕ} {place : TypePlace} {written : ℕ} → SomeTypeIn types place → written ≤ 256
     → PartDue types (place .start) (place .end) written
 copy-due some few = part-due (type-in-piece (some .here)) (omega (arith, limit-is, type-width (some .type), some .here .stands .small))
+
+-- Only 16 and 17 stand between them.
+pub marks-between : (k : ℕ) → 16 ≤ k → k ≤ 17 → Marks k
+marks-between k low high = go (eqb k 16) refl
+  where
+    go : (b : Bool) → eqb k 16 ≡ b → Marks k
+    go true e = inl (eqb-true k 16 e)
+    go false e = let other = eqb-false k 16 e in inr (omega arith)
 
 -- What is told of a type given
 
@@ -147,3 +156,7 @@ given-type {many = many} given due =
       small = small;
       holds = type-held (g .type) small (given .room) (a .writes (g .type) (g .given)) many (g .sized);
     }
+
+-- Where it lies.
+pub held-in : {t : Ty} {held : List ℕ} {many : ℕ} {lies : TypePlace} → TypeHeld t held many → lies ≡ record { start = 0; end = many } → TypeIn held lies t
+held-in held is-place = rw is-place (record { stands = held .stands; ends = omega (arith, held .sized) })
