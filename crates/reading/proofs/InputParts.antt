@@ -1,19 +1,20 @@
 -- The parts of a type and of a prefix of it: the first stands behind the kind byte, the second where the first ends, and ends where the
 -- whole ends.
-use mathlib.Core.Path.{_≡_}
+use mathlib.Core.Path.{_≡_, sym, _∙_}
 use mathlib.Core.List.{List}
 use Prim.Native.Nat.{ℕ, _+_, _≤_}
 use native.Mathlib.Omega.{arith}
 use lib.ListN.{getD}
 use Rattle.stream.specs.Types.{Ty, seq, either, kind}
-use Rattle.stream.specs.Prefixes.{Prefix, in-first, first-chosen, second-chosen, IsPrefix, of-first, of-crossed, of-beside, of-first-chosen, of-second-chosen}
+use Rattle.stream.specs.Prefixes.Kinds.{prefix-kind}
+use Rattle.stream.specs.Prefixes.{Prefix, in-first, first-chosen, second-chosen, Complete, IsPrefix, of-first, of-crossed, of-beside, of-first-chosen, of-second-chosen}
 use Rattle.reading.specs.declared.types.TypePlace.{TypePlace}
 use Rattle.reading.specs.declared.prefixes.PrefixPlace.{PrefixPlace}
 use Rattle.reading.specs.declared.inputs.Input.{Input}
 use Rattle.reading.specs.declared.inputs.Choice.{Choice}
 use Rattle.reading.specs.TypeReads.{TypeAt, SomeTypeAt, TypeIn, TypeEnds}
 use Rattle.reading.specs.TypeReads.Laws.{first-at, first-in, second-in}
-use Rattle.reading.specs.SliceReads.{prefix-width, PrefixAt, SomePrefixAt, PrefixIn, PrefixEnds}
+use Rattle.reading.specs.SliceReads.{prefix-width, PrefixAt, SomePrefixAt, PrefixIn, PrefixEnds, CompleteAt, CompleteEnds}
 use Rattle.reading.specs.SliceReads.Laws.{kind-at, in-first-at, first-chosen-at, second-chosen-at, crossed-first-at, crossed-second-at, beside-first-at, beside-second-at}
 use Rattle.reading.specs.Inputs.{InputAt, cut-at, Pairing, side-by-side, first-crossed, joins, meets, HalvesDue, HalvesAt, ComingAt, ChosenAt, ChoiceFound}
 
@@ -26,6 +27,11 @@ first-due fork type-in = record { type = _; stands = first-at (type-in .stands) 
 each-part : (pairing : Pairing) (t r : Ty) (p q : Prefix) → IsPrefix (joins pairing t r) (meets pairing p q) → IsPrefix t p × IsPrefix r q
 each-part side-by-side t r p q (of-beside h k) = (h, k)
 each-part first-crossed t r p q (of-crossed h c k) = (h, k)
+
+-- The first part of a prefix of the kind 6 is complete.
+is-crossed : (pairing : Pairing) (t r : Ty) (p q : Prefix) → IsPrefix (joins pairing t r) (meets pairing p q) → prefix-kind (meets pairing p q) ≡ 6 → Complete p
+is-crossed side-by-side t r p q h six = absurd (omega arith)
+is-crossed first-crossed t r p q (of-crossed h c k) six = c
 
 module _ {types : List ℕ} {place : TypePlace} (t r : Ty) where
   first-type-at : (pairing : Pairing) → TypeIn types place (joins pairing t r) → TypeAt types (place .start + 1) t
@@ -64,11 +70,11 @@ module _ {types slice : List ℕ} {input : Input} (due : HalvesDue types slice i
   pub first-prefix-due : SomePrefixAt slice (input .prefix .start + 1)
   first-prefix-due = record { prefix = due .first-prefix; stands = prefix-stands }
 
-  module _ {end stop : ℕ} (ends : TypeEnds types (input .ty .start + 1) end) (stops : PrefixEnds slice (input .prefix .start + 1) stop) where
-    pub halves-found : HalvesAt types slice (cut-at input end stop) (due .first-type) (due .second-type) (due .first-prefix) (due .second-prefix)
-    halves-found =
+  module _ {end : ℕ} (ends : TypeEnds types (input .ty .start + 1) end) where
+    halves-at : {stop : ℕ} → stop ≡ input .prefix .start + 1 + prefix-width (due .first-prefix)
+        → HalvesAt types slice (cut-at input end stop) (due .first-type) (due .second-type) (due .first-prefix) (due .second-prefix)
+    halves-at first-stops =
         let each = each-part (due .pairing) (due .first-type) (due .second-type) (due .first-prefix) (due .second-prefix) (due .stands .is-prefix) in
-        let first-stops = stops .each (due .first-prefix) prefix-stands in
         record {
           first =
               record {
@@ -83,6 +89,29 @@ module _ {types slice : List ℕ} {input : Input} (due : HalvesDue types slice i
                 is-prefix = each .1;
               };
         }
+
+    -- Where the first part ends is found by the slice.
+    pub halves-found : {stop : ℕ} → PrefixEnds slice (input .prefix .start + 1) stop
+        → HalvesAt types slice (cut-at input end stop) (due .first-type) (due .second-type) (due .first-prefix) (due .second-prefix)
+    halves-found stops = halves-at (stops .each (due .first-prefix) prefix-stands)
+
+    -- Or, behind a crossing, as that of a complete prefix.
+    module _ (six : getD slice (input .prefix .start) 0 ≡ 6) where
+      pub crossed-due : CompleteAt types (record { start = input .ty .start + 1; end = end }) slice (input .prefix .start + 1)
+      crossed-due =
+          record {
+            type = due .first-type;
+            prefix = due .first-prefix;
+            type-in = record { stands = type-stands; ends = ends .each (due .first-type) type-stands };
+            is-prefix = each-part (due .pairing) (due .first-type) (due .second-type) (due .first-prefix) (due .second-prefix) (due .stands .is-prefix) .0;
+            is-complete = is-crossed (due .pairing) (due .first-type) (due .second-type) (due .first-prefix) (due .second-prefix) (due .stands .is-prefix) (sym (kind-at (due .stands .prefix-in .stands)) ∙ six);
+            stands = prefix-stands;
+          }
+
+      pub crossed-found : {stop : ℕ} → CompleteEnds types (record { start = input .ty .start + 1; end = end }) slice (input .prefix .start + 1) stop
+          → HalvesAt types slice (cut-at input end stop) (due .first-type) (due .second-type) (due .first-prefix) (due .second-prefix)
+      unfolding crossed-due
+      crossed-found stops = halves-at (stops .each crossed-due)
 
 -- A sequence of which the first part is still coming.
 

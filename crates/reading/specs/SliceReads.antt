@@ -6,7 +6,10 @@ use Prim.Native.Nat.{ℕ, suc, _+_, _-_, _≤_, _<_}
 use lib.Dec.{eqb, leb}
 use lib.ListN.{length, getD, drop}
 use Rattle.stream.specs.declared.Fault.the-variants.{SliceCutShort}
+use Rattle.reading.specs.declared.types.TypePlace.{TypePlace}
 use Rattle.reading.specs.declared.prefixes.PrefixPlace.{PrefixPlace}
+use Rattle.reading.specs.declared.prefixes.Width.{Width}
+use Rattle.reading.specs.declared.prefixes.Width.the-variants.{Fixed}
 use Rattle.reading.specs.declared.prefixes.Known.{Known}
 use Rattle.reading.specs.declared.prefixes.Walk.{Walk}
 use Rattle.reading.specs.declared.prefixes.Walk.the-variants.{Past, Failed}
@@ -14,11 +17,11 @@ use Rattle.reading.specs.declared.prefixes.SliceRead.{SliceRead}
 use Rattle.reading.specs.declared.prefixes.SliceRead.the-variants.{Whole, Refused}
 use Rattle.stream.specs.Types.{Ty, size, type-limit}
 use Rattle.stream.specs.Levels.{value-width}
-use Rattle.stream.specs.Prefixes.{Prefix, nothing, cue-awaited, cue-come, level-awaited, level-come, in-first, crossed, beside, none-chosen, first-chosen, second-chosen, IsPrefix, derivative}
+use Rattle.stream.specs.Prefixes.{Prefix, nothing, cue-awaited, cue-come, level-awaited, level-come, in-first, crossed, beside, none-chosen, first-chosen, second-chosen, Complete, IsPrefix, derivative}
 use Rattle.stream.specs.Prefixes.Functions.{complete}
 use Rattle.stream.specs.Prefixes.Kinds.{root-width}
 use Rattle.stream.specs.Reading.{Reading, read, fault, Result, accepted, refused, tree}
-use Rattle.reading.specs.TypeReads.{TypeAt}
+use Rattle.reading.specs.TypeReads.{TypeAt, TypeIn}
 use Rattle.stream.specs.SliceFiles.{Owed, owed, prefix-root, prefix-bytes, slice-over, slice-file}
 pub mod Laws
 pub mod Descent
@@ -81,6 +84,22 @@ pub record PrefixIn (bytes : List ℕ) (place : PrefixPlace) (p : Prefix) : Type
 -- `end` is where the prefix at `place` ends, whichever it is.
 pub record PrefixEnds (bytes : List ℕ) (place end : ℕ) : Type 0 where
   pub each : (p : Prefix) → PrefixAt bytes place p → end ≡ place + prefix-width p
+
+-- What a type says of how many bytes its complete prefixes have: all have `wide`, unless a choice decides.
+pub record CompleteWide (types : List ℕ) (place : TypePlace) (answer : Width) : Type 0 where
+  pub each : (wide : ℕ) → answer ≡ Fixed wide → (t : Ty) → TypeIn types place t → (p : Prefix) → IsPrefix t p → Complete p → wide ≡ prefix-width p
+
+-- A complete prefix stands at `place`, of the type in `part`; `end` is where it ends.
+pub record CompleteAt (types : List ℕ) (part : TypePlace) (slice : List ℕ) (place : ℕ) : Type 0 where
+  pub type : Ty
+  pub prefix : Prefix
+  pub type-in : TypeIn types part type
+  pub is-prefix : IsPrefix type prefix
+  pub is-complete : Complete prefix
+  pub stands : PrefixAt slice place prefix
+
+pub record CompleteEnds (types : List ℕ) (part : TypePlace) (slice : List ℕ) (place end : ℕ) : Type 0 where
+  pub each : (due : CompleteAt types part slice place) → end ≡ place + prefix-width (due .prefix)
 
 -- The kind of type that each kind of slice belongs to, by its number; the kinds that keep a slice from being complete.
 abbrev pub types-by-kind : List ℕ

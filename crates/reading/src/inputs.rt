@@ -1,6 +1,7 @@
 // A type and a prefix of it, each with where it ends: what a node is fed. Whoever has the whole knows where its last part ends, so that
 // only the ends between parts are looked for.
 use crate::prefixes::PrefixPlace;
+use crate::prefixes::skip_complete;
 use crate::prefixes::skip_prefix;
 use crate::types::TypePlace;
 use crate::types::skip_type;
@@ -44,15 +45,19 @@ fn cut(input: Input, end: usize, stop: usize) -> Halves
     }
 }
 
-// The two parts: of a type of the kind 4, or of a sequence of which the first part was crossed. Where the first part of the slice ends is
-// found by the slice: how long a complete one is does not follow from its type.
+// The two parts: of a type of the kind 4, or of a sequence of which the first part was crossed, and so is complete.
 pub fn halve(types: &[u8], slice: &[u8], input: Input) -> Halves
     requires { ⌜ HalvesDue (now types) (now slice) input ⌝ }
     ensures { λ r. ⌜ HalvesFound (now (types .entry)) (now (slice .entry)) input r ⌝ }
 {
-    let end = skip_type(types, input.ty.start + 1);
-    let stop = skip_prefix(slice, input.prefix.start + 1);
-    cut(input, end, stop)
+    let first = input.ty.start + 1;
+    let end = skip_type(types, first);
+    let place = input.prefix.start;
+    if slice[place] == 6 {
+        let stop = skip_complete(types, TypePlace::new(first, end), slice, place + 1);
+        return cut(input, end, stop);
+    }
+    cut(input, end, skip_prefix(slice, place + 1))
 }
 
 // The first part of a sequence that is still coming. The second part of the type stands behind it.

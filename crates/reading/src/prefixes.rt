@@ -1,10 +1,12 @@
 // Slices as bytes: whether a file is a slice of a type, and what Left and Join have to know of one.
+use crate::types::TypePlace;
 use stream::Fault;
 ghost use mathlib.Core.Path.{_≡_};
 ghost use Prim.Native.Nat.{_+_, _<_};
 ghost use Rattle.stream.specs.Types.{type-limit};
 ghost use Rattle.stream.specs.Prefixes.Kinds.{prefix-arity, root-width};
-ghost use Rattle.reading.specs.SliceReads.{type-kind-of, is-unfinished, belongs-at, first-complete, SomePrefixAt, PrefixEnds, first-known, crossed-known, both-known, combined, SumsFit};
+ghost use Rattle.reading.specs.TypeReads.{SomeTypeIn};
+ghost use Rattle.reading.specs.SliceReads.{type-kind-of, is-unfinished, belongs-at, first-complete, SomePrefixAt, PrefixEnds, CompleteWide, CompleteAt, CompleteEnds, first-known, crossed-known, both-known, combined, SumsFit};
 
 // No slice file is longer: the count, a byte for each of 255 nodes, and two for each of at most 128 levels.
 pub const MAX_SLICE_FILE: usize = 513;
@@ -154,6 +156,46 @@ pub fn skip_prefix(slice: &[u8], place: usize) -> usize
         }
     }
     end
+}
+
+// What a type says of how long its complete prefixes are: all have so many bytes, or a choice decides.
+pub enum Width {
+    Fixed(usize),
+    ByChoice,
+}
+
+// How many bytes every complete prefix has of the type in `place`: one for each of its nodes, and the value of each level, if no choice
+// stands in it. Both are counted in a byte, of which a processor counts many in one turn.
+fn complete_width(types: &[u8], place: TypePlace) -> Width
+    requires { ⌜ SomeTypeIn (now types) place ⌝ }
+    ensures { λ r. ⌜ CompleteWide (now (types .entry)) place r ⌝ }
+{
+    let mut levels: u8 = 0;
+    let mut choices: u8 = 0;
+    let mut next = place.start;
+    let end = place.end;
+    while next < end {
+        levels += (types[next] == 2) as u8;
+        choices += (types[next] == 5) as u8;
+        next += 1;
+    }
+    if 0 < choices {
+        return Width::ByChoice;
+    }
+    let width = end - place.start + VALUE_WIDTH * levels as usize;
+    Width::Fixed(width)
+}
+
+// Where the complete prefix at `place` ends, of the type in `part`. By the type, where it tells: that takes fewer turns than going through
+// the slice.
+pub fn skip_complete(types: &[u8], part: TypePlace, slice: &[u8], place: usize) -> usize
+    requires { ⌜ CompleteAt (now types) part (now slice) place ⌝ }
+    ensures { λ r. ⌜ CompleteEnds (now (types .entry)) part (now (slice .entry)) place r ⌝ }
+{
+    match complete_width(types, part) {
+        Width::Fixed(width) => place + width,
+        Width::ByChoice => skip_prefix(slice, place),
+    }
 }
 
 // Of a sequence whose first part is still coming, from that part and from the size `second` of the second part's type.
