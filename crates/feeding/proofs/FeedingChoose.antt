@@ -3,7 +3,7 @@
 use mathlib.Core.Path.{_≡_, refl, sym, ap, _∙_}
 use mathlib.Core.Bool.{false, true≢false}
 use mathlib.Core.List.{List, [], _++_, append-assoc}
-use Prim.Native.Nat.{ℕ, _+_, _-_, _*_, _≤_, _<_}
+use Prim.Native.Nat.{ℕ, _+_, _-_, _≤_, _<_}
 use native.Mathlib.Omega.{arith}
 use lib.ListN.{length, getD, take, drop}
 use lib.Seq.{take-at, drop-at, length-take-le}
@@ -14,18 +14,18 @@ use Rattle.stream.specs.Buffers.{at-front}
 use Rattle.stream.specs.Prefixes.{Prefix, none-chosen, empty-prefix}
 use Rattle.stream.specs.Prefixes.Kinds.{prefix-kind}
 use Rattle.stream.specs.TypeFiles.{type-bytes}
-use Rattle.stream.specs.SliceFiles.{prefix-bytes}
 use Rattle.reading.specs.declared.inputs.Input.{Input}
 use Rattle.reading.specs.TypeReads.{TypeAt}
 use Rattle.reading.specs.TypeReads.Laws.{kind-at as type-kind-at, type-width}
 use Rattle.reading.specs.SliceReads.Laws.{kind-at}
+use Rattle.reading.specs.Inputs.{ChoiceDue as PartDue}
 use Rattle.reading.specs.Inputs.Laws.{Unchosen, is-unchosen, is-second-chosen}
 use Rattle.writing.specs.Writing.{EmptyDue, EmptyWritten}
 use Rattle.writing.specs.Writing.Laws.{part, back}
 use Rattle.node.specs.Nodes.{Node, choose, count, Takes, takes-choose}
 use Rattle.node.specs.Nodes.Laws.{output-type-is, output-small}
 use Rattle.node.specs.Checking.{typing}
-use Rattle.node.specs.Checking.Laws.{WellTyped, typing-sound, typing-complete}
+use Rattle.node.specs.Checking.Laws.{WellTyped, typing-sound}
 use Rattle.node.specs.Feeding.Functions.{sends, leaves}
 use Rattle.node.specs.PatchFiles.{node-bytes}
 use Rattle.node.specs.PatchFiles.Laws.{node-length}
@@ -42,7 +42,7 @@ use Rattle.leaf_feeding.specs.Steps.{Leads, Steps, NodeAnswers, fed, failed}
 use Rattle.leaf_feeding.specs.Steps.Laws.{front-leads, type-stands, empty-due, empty-wide, empty-leads}
 use Rattle.feeding.specs.Feeds.{FeedDue, ChoiceDue}
 use Rattle.feeding.proofs.Below.{choose-count, parts-count}
-use Rattle.feeding.proofs.Typings.{only-type, ChooseTyped, choose-parts, choose-whole}
+use Rattle.feeding.proofs.Typings.{only-type, untyped, ChooseTyped, choose-parts, choose-whole}
 
 -- Choose takes either.
 takes-either : {s t : Ty} {n m : Node} → Takes s (choose n m) t → kind s ≡ 5
@@ -50,10 +50,10 @@ takes-either (takes-choose d e) = refl
 
 -- The same typings under the names that a node and a type have.
 module _ {s t r : Ty} {n l m : Node} (node : n ≡ choose l m) (type : s ≡ either t r) where
-  pub whole-typed : {u : Ty} → ChooseTyped t r l m u → WellTyped s n u
+  whole-typed : {u : Ty} → ChooseTyped t r l m u → WellTyped s n u
   whole-typed typed = rw (node, type) (choose-whole typed)
 
-  pub parts-typed : {u : Ty} → WellTyped s n u → ChooseTyped t r l m u
+  parts-typed : {u : Ty} → WellTyped s n u → ChooseTyped t r l m u
   parts-typed typed = choose-parts (rw (node, type) at typed)
 
 -- Two types that differ are not both the one that choose gives.
@@ -120,17 +120,40 @@ abbrev pub asked-of : {k : ℕ} {types slice : List ℕ} {input : Input} {nodes 
     → ChoiceDue k types slice input nodes from out remainder given
 asked-of asked due = record { due = due; is-choose = asked .is-choose; is-either = asked .is-either; is-marked = asked .is-marked }
 
+module _ {k : ℕ} {types slice : List ℕ} {input : Input} {nodes : List ℕ} {from : ℕ} {out remainder given : List ℕ}
+    (asked : ChoiceDue k types slice input nodes from out remainder given) where
+  abbrev pub parts : NodeParts choose nodes from (asked .due .node)
+  parts = nodes-at (asked .is-choose) (asked .due)
+
+  abbrev pub Answer : (out-end remainder-end given-end : List ℕ) → Stepped → Type 0
+  Answer = ChooseAnswer (asked .is-choose) (asked .due)
+
+  -- What the rules say of choose, by its parts, both ways.
+
+  pub in-choose : {t r u : Ty} → asked .due .type ≡ either t r → WellTyped (asked .due .type) (asked .due .node) u
+      → ChooseTyped t r (parts .first) (parts .second) u
+  in-choose type typed = parts-typed (parts .made) type typed
+
+  pub of-choose : {t r u : Ty} → asked .due .type ≡ either t r → ChooseTyped t r (parts .first) (parts .second) u
+      → WellTyped (asked .due .type) (asked .due .node) u
+  of-choose type typed = whole-typed (parts .made) type typed
+
+  -- Where the parts stand is looked for.
+  pub part-due : PartDue types slice input
+  part-due =
+      let due = asked .due in
+      record {
+        type = due .type;
+        prefix = due .prefix;
+        stands = due .stands;
+        is-either = sym (type-kind-at (due .stands .type-in .stands)) ∙ asked .is-either;
+      }
+
 -- No part is chosen.
 module _ {types slice : List ℕ} {input : Input} {nodes : List ℕ} {from : ℕ} {out remainder given : List ℕ}
     (asked : ChoiceDue 8 types slice input nodes from out remainder given) where
   abbrev due : FeedDue types slice input nodes from out remainder given
   due = asked .due
-
-  abbrev parts : NodeParts choose nodes from (due .node)
-  parts = nodes-at (asked .is-choose) due
-
-  abbrev Answer : (out-end remainder-end given-end : List ℕ) → Stepped → Type 0
-  Answer = ChooseAnswer (asked .is-choose) due
 
   unchosen : Unchosen (due .type) (due .prefix)
   unchosen = is-unchosen (due .stands .is-prefix) (sym (kind-at (due .stands .prefix-in .stands)) ∙ asked .is-marked)
@@ -145,15 +168,9 @@ module _ {types slice : List ℕ} {input : Input} {nodes : List ℕ} {from : ℕ
     answered = typed .each whole-due
 
   -- If it has none, it fails.
-  pub untyped : {given-after : List ℕ} {fault : Fault} → TypesNode types (input .ty) nodes from given given-after (Refused fault)
-      → {out-end remainder-end given-end : List ℕ} → Answer out-end remainder-end given-end Failed
-  untyped typed =
-      failed
-      (λ t well fits.
-      let accepts = typing-complete (well .types) (well .fits) in
-      let refuses = is-refused _ _ (answered typed .answers) in
-      let z : _≡_ {A = ℕ} 0 1 = cc in
-      omega arith)
+  pub whole-untyped : {given-after : List ℕ} {fault : Fault} → TypesNode types (input .ty) nodes from given given-after (Refused fault)
+      → {out-end remainder-end given-end : List ℕ} → Answer asked out-end remainder-end given-end Failed
+  whole-untyped typed = failed (λ t well fits. untyped (is-refused _ _ (answered typed .answers)) well)
 
   module _ {given-after : List ℕ} {end many : ℕ} (typed : TypesNode types (input .ty) nodes from given given-after (Gives end many)) where
     found : IsGiven (from + node-width (due .node)) end many (typing (due .type) (due .node))
@@ -163,7 +180,7 @@ module _ {types slice : List ℕ} {input : Input} {nodes : List ℕ} {from : ℕ
     well-typed = typing-sound _ _ _ (due .node-at .carries) (found .given)
 
     -- If there is no room for it, it fails.
-    pub no-room : length given-after < many → {out-end remainder-end given-end : List ℕ} → Answer out-end remainder-end given-end Failed
+    pub no-room : length given-after < many → {out-end remainder-end given-end : List ℕ} → Answer asked out-end remainder-end given-end Failed
     no-room short =
         failed
         (λ t well fits.
@@ -212,11 +229,11 @@ module _ {types slice : List ℕ} {input : Input} {nodes : List ℕ} {from : ℕ
       pub waited : {sent : ℕ} {out-after remainder-after : List ℕ} {step : Step} → EmptyWritten given-after 0 out out-after sent
           → remainder-after ≡ at-front (take (end - from) (drop from nodes)) remainder
           → step ≡ record { end = end; sent = sent; kept = end - from; size = many }
-          → Answer out-after remainder-after given-after (Fed step)
+          → Answer asked out-after remainder-after given-after (Fed step)
       waited {sent} {out-after} {remainder-after} written copied told =
-          let typed-parts = parts-typed (parts .made) (unchosen .type-is) well-typed in
-          let sends-is = unchosen-sends (parts .made) (unchosen .type-is) (unchosen .prefix-is) (typed-parts .first-typed .types) in
-          let leaves-is = unchosen-leaves (parts .made) (unchosen .type-is) (unchosen .prefix-is) in
+          let typed-parts = in-choose asked (unchosen .type-is) well-typed in
+          let sends-is = unchosen-sends (parts asked .made) (unchosen .type-is) (unchosen .prefix-is) (typed-parts .first-typed .types) in
+          let leaves-is = unchosen-leaves (parts asked .made) (unchosen .type-is) (unchosen .prefix-is) in
           let node-leads : Leads (node-bytes (due .node) []) remainder remainder-after = rw (← node-taken) (front-leads _ remainder copied copy-room) in
           let steps : Steps (from + node-width (due .node)) (empty-prefix (found .type)) (due .node) (found .type)
           out remainder given out-after remainder-after given-after (record { end = end; sent = sent; kept = end - from; size = many })

@@ -24,7 +24,7 @@ use Rattle.writing.specs.Writing.Laws.{part, back}
 use Rattle.writing.specs.Appending.Laws.{back-length}
 use Rattle.node.specs.Nodes.{Node, then}
 use Rattle.node.specs.Checking.{typing}
-use Rattle.node.specs.Checking.Laws.{WellTyped, typing-sound, typing-complete}
+use Rattle.node.specs.Checking.Laws.{WellTyped, typing-sound}
 use Rattle.node.specs.Feeding.Functions.{sends, leaves}
 use Rattle.node.specs.PatchFiles.{node-bytes}
 use Rattle.node.specs.PatchFiles.Laws.{node-length}
@@ -42,6 +42,7 @@ use Rattle.leaf_feeding.specs.Steps.Laws.{front-leads, byte-leads, leads-room, 
 use Rattle.feeding.specs.declared.Pair.the-variants.{Crossed}
 use Rattle.feeding.specs.Feeds.{nodes-below, PairTyped, FeedDue, FeedsNode, ComingDue}
 use Rattle.feeding.proofs.Below.{below-one}
+use Rattle.feeding.proofs.Typings.{untyped}
 use Rattle.feeding.proofs.FeedingParts.{one-type, width-is, LeadsBy, written-on, taken-inside}
 use Rattle.feeding.proofs.FeedingThen.{nodes-at, counted, ThenAnswer, whole-typed, parts-typed}
 
@@ -308,13 +309,7 @@ module _ {types slice : List ℕ} {input : Input} {nodes : List ℕ} {from : ℕ
   pub second-untyped : {fault : Fault} → SecondTyped types slice input nodes from out remainder given (Refused fault)
       → {out-end remainder-end given-end : List ℕ} → Answer out-end remainder-end given-end Failed
   second-untyped second =
-      failed
-      (λ t typed fits.
-      let second-typed = in-then typed .second-typed in
-      let accepts = typing-complete (second-typed .types) (second-typed .fits) in
-      let refuses = is-refused _ _ (answered second .answers) in
-      let z : _≡_ {A = ℕ} 0 1 = cc in
-      omega arith)
+      failed (λ t typed fits. untyped (is-refused _ _ (answered second .answers)) (in-then typed .second-typed))
 
   module _ {end other : ℕ} (second : SecondTyped types slice input nodes from out remainder given (Gives end other)) where
     abbrev step : Step

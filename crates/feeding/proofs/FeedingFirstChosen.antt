@@ -1,7 +1,7 @@
 -- Feeding choose once its first part is chosen: its first node is fed, with all the room that choose has, and is left alone. The type of its
 -- second node is written behind what is left of the first: no node leaves more than it may have, so there is room for a whole type. If the
 -- first fails, or the second has no type or another one, choose fails too, and rightly.
-use mathlib.Core.Path.{_≡_, refl, sym, ap, _∙_}
+use mathlib.Core.Path.{_≡_, sym, _∙_}
 use mathlib.Core.Bool.{Bool, true, false}
 use mathlib.Core.List.{List, [], append-nil}
 use Prim.Native.Nat.{ℕ, _+_, _-_, _≤_, _<_}
@@ -9,28 +9,26 @@ use native.Mathlib.Omega.{arith}
 use lib.ListN.{length, take, drop}
 use lib.Seq.{length-take-le}
 use Rattle.stream.specs.declared.Fault.{Fault}
-use Rattle.stream.specs.Types.{Ty, either, size, kind, same-type, Small}
+use Rattle.stream.specs.Types.{Ty, either, same-type, Small}
 use Rattle.stream.specs.Types.Laws.{limit-is, same-type-sound}
 use Rattle.stream.specs.Prefixes.{Prefix, first-chosen}
 use Rattle.stream.specs.TypeFiles.{type-bytes}
-use Rattle.stream.specs.SliceFiles.{prefix-bytes}
 use Rattle.reading.specs.declared.inputs.Input.{Input}
 use Rattle.reading.specs.declared.inputs.Choice.{Choice}
 use Rattle.reading.specs.TypeReads.Laws.{type-width}
 use Rattle.reading.specs.SliceReads.Laws.{kind-at}
-use Rattle.reading.specs.Inputs.{InputAt, ChoiceDue as PartDue, ChosenAt, ChoiceFound}
+use Rattle.reading.specs.Inputs.{ChosenAt, ChoiceFound}
 use Rattle.reading.specs.Inputs.Laws.{Chosen, is-first-chosen}
 use Rattle.writing.specs.Writing.Laws.{part, back}
-use Rattle.writing.specs.Appending.Laws.{part-length, back-length}
+use Rattle.writing.specs.Appending.Laws.{part-length}
 use Rattle.writing.specs.Comparing.{Compares}
 use Rattle.node.specs.Nodes.{Node, choose}
 use Rattle.node.specs.Nodes.Laws.{output-small}
 use Rattle.node.specs.Checking.{typing}
-use Rattle.node.specs.Checking.Laws.{WellTyped, typing-sound, typing-complete}
+use Rattle.node.specs.Checking.Laws.{WellTyped, typing-sound}
 use Rattle.node.specs.Feeding.Functions.{sends, leaves}
 use Rattle.node.specs.PatchFiles.{node-bytes}
 use Rattle.patch_reading.specs.PatchReads.{node-width, NodeAt}
-use Rattle.patch_reading.specs.PatchReads.Laws.{Parts as NodeParts}
 use Rattle.typing.specs.declared.Typed.{Typed}
 use Rattle.typing.specs.declared.Typed.the-variants.{Gives, Failed as Refused}
 use Rattle.typing.specs.Typing.{TypingDue, TypesNode, Answers as TypingAnswers}
@@ -42,8 +40,8 @@ use Rattle.leaf_feeding.specs.Steps.{Leads, Steps, fed, failed}
 use Rattle.leaf_feeding.specs.Steps.Laws.{nothing-leads, front-leads, leads-inside, leads-taken, leads-on, left-width, Gave, was-fed, has-failed}
 use Rattle.feeding.specs.Feeds.{nodes-below, FeedDue, FeedsNode, ChoiceDue}
 use Rattle.feeding.proofs.Below.{count-positive, below-one}
-use Rattle.feeding.proofs.Typings.{only-type, ChooseTyped}
-use Rattle.feeding.proofs.FeedingChoose.{nodes-at, counted, ChooseAnswer, whole-typed, parts-typed, tell-apart, behind-taken}
+use Rattle.feeding.proofs.Typings.{only-type, untyped, ChooseTyped}
+use Rattle.feeding.proofs.FeedingChoose.{counted, parts, Answer, in-choose, of-choose, tell-apart, behind-taken}
 
 -- What choose sends and leaves once its first part is chosen.
 module _ {s t r : Ty} {n l m : Node} {p q : Prefix} (node : n ≡ choose l m) (type : s ≡ either t r) (prefix : p ≡ first-chosen q) where
@@ -83,31 +81,18 @@ module _ {types slice : List ℕ} {input : Input} {nodes : List ℕ} {from : ℕ
   abbrev due : FeedDue types slice input nodes from out remainder given
   due = asked .due
 
-  abbrev parts : NodeParts choose nodes from (due .node)
-  parts = nodes-at (asked .is-choose) due
-
   pub chosen : Chosen first-chosen (due .type) (due .prefix)
   chosen = is-first-chosen (due .stands .is-prefix) (sym (kind-at (due .stands .prefix-in .stands)) ∙ asked .is-marked)
-
-  abbrev Answer : (out-end remainder-end given-end : List ℕ) → Stepped → Type 0
-  Answer = ChooseAnswer (asked .is-choose) due
-
-  in-choose : {t : Ty} → WellTyped (due .type) (due .node) t → ChooseTyped (chosen .first-type) (chosen .second-type) (parts .first) (parts .second) t
-  in-choose typed = parts-typed (parts .made) (chosen .type-is) typed
 
   -- What the first node sends and leaves is what choose does.
 
   abbrev sent : Prefix
-  sent = sends (chosen .first-type) (parts .first) (chosen .part)
+  sent = sends (chosen .first-type) (parts asked .first) (chosen .part)
 
   abbrev left : Node
-  left = leaves (chosen .first-type) (parts .first) (chosen .part)
+  left = leaves (chosen .first-type) (parts asked .first) (chosen .part)
 
   -- Where the parts stand.
-
-  pub part-due : PartDue types slice input
-  part-due = record { type = due .type; prefix = due .prefix; stands = due .stands; is-either = ap kind (chosen .type-is) }
-
   parts-at : {choice : Choice} → ChoiceFound types slice input choice
       → ChosenAt types slice choice (chosen .first-type) (chosen .second-type) (chosen .part)
   parts-at found = found .first _ _ _ (rw (← chosen .type-is, ← chosen .prefix-is) (due .stands))
@@ -116,7 +101,7 @@ module _ {types slice : List ℕ} {input : Input} {nodes : List ℕ} {from : ℕ
   pub first-below : nodes-below 1 (drop (from + 1) nodes) < nodes-below 1 (drop from nodes)
   first-below =
       let more = counted (asked .is-choose) due in
-      omega (arith, below-one (due .node-at) (due .few), below-one (parts .first-at) (omega (arith, due .few, more)), more)
+      omega (arith, below-one (due .node-at) (due .few), below-one (parts asked .first-at) (omega (arith, due .few, more)), more)
 
   -- What the first node is asked.
   pub first-due : {choice : Choice} → ChoiceFound types slice input choice
@@ -125,24 +110,24 @@ module _ {types slice : List ℕ} {input : Input} {nodes : List ℕ} {from : ℕ
       let more = counted (asked .is-choose) due in
       record {
         type = chosen .first-type;
-        node = parts .first;
+        node = parts asked .first;
         prefix = chosen .part;
         stands = parts-at found .part;
-        node-at = parts .first-at;
+        node-at = parts asked .first-at;
         few = omega (arith, due .few, more);
         rooms = due .rooms;
         left-room = omega (arith, due .left-room, more);
       }
 
   pub first-fails : FirstAnswered types slice input nodes from out remainder given Failed → {out-end remainder-end given-end : List ℕ}
-      → Answer out-end remainder-end given-end Failed
+      → Answer asked out-end remainder-end given-end Failed
   unfolding first-due
   first-fails first =
-      failed (λ t typed fits. has-failed (first .feeds .each (first-due (first .found))) t (in-choose typed .first-typed) fits)
+      failed (λ t typed fits. has-failed (first .feeds .each (first-due (first .found))) t (in-choose asked (chosen .type-is) typed .first-typed) fits)
 
   -- It has answered with a step.
   module _ {step : Step} (first : FirstAnswered types slice input nodes from out remainder given (Fed step)) where
-    gave : Gave (WellTyped (chosen .first-type) (parts .first)) (from + 1 + node-width (parts .first)) sent left
+    gave : Gave (WellTyped (chosen .first-type) (parts asked .first)) (from + 1 + node-width (parts asked .first)) sent left
         out remainder given (first .out-now) (first .remainder-now) (first .given-now) step
     unfolding first-due
     gave = was-fed (first .feeds .each (first-due (first .found)))
@@ -167,7 +152,7 @@ module _ {types slice : List ℕ} {input : Input} {nodes : List ℕ} {from : ℕ
           arith,
           due .left-room,
           counted (asked .is-choose) due,
-          count-positive (parts .second),
+          count-positive (parts asked .second),
           gave .steps .kept,
           left-width (gave .gives) (parts-at (first .found) .part .is-prefix),
           part-length (step .kept) (first .remainder-now),
@@ -176,14 +161,14 @@ module _ {types slice : List ℕ} {input : Input} {nodes : List ℕ} {from : ℕ
 
     -- The second node stands where the first ends, and its type is asked for.
 
-    second-node-at : NodeAt nodes (step .end) (parts .second)
-    second-node-at = rw (gave .steps .ends) (parts .second-at)
+    second-node-at : NodeAt nodes (step .end) (parts asked .second)
+    second-node-at = rw (gave .steps .ends) (parts asked .second-at)
 
     pub second-due : TypingDue types (first .choice .other) nodes (step .end)
-    second-due = record { type = chosen .second-type; node = parts .second; type-in = parts-at (first .found) .other; node-at = second-node-at }
+    second-due = record { type = chosen .second-type; node = parts asked .second; type-in = parts-at (first .found) .other; node-at = second-node-at }
 
   module _ {answer : Typed} (second : SecondTyped types slice input nodes from out remainder given answer) where
-    answered : TypingAnswers (second .step .end + node-width (parts .second)) (typing (chosen .second-type) (parts .second))
+    answered : TypingAnswers (second .step .end + node-width (parts asked .second)) (typing (chosen .second-type) (parts asked .second))
         (part (second .step .kept) (second .first .remainder-now)) (second .remainder-part) answer
     unfolding second-due
     answered = second .types-node .each (second-due (second .first))
@@ -198,15 +183,9 @@ module _ {types slice : List ℕ} {input : Input} {nodes : List ℕ} {from : ℕ
 
   -- If it has none, choose has none.
   pub second-untyped : {fault : Fault} → SecondTyped types slice input nodes from out remainder given (Refused fault)
-      → {out-end remainder-end given-end : List ℕ} → Answer out-end remainder-end given-end Failed
+      → {out-end remainder-end given-end : List ℕ} → Answer asked out-end remainder-end given-end Failed
   second-untyped second =
-      failed
-      (λ t typed fits.
-      let second-typed = in-choose typed .second-typed in
-      let accepts = typing-complete (second-typed .types) (second-typed .fits) in
-      let refuses = is-refused _ _ (answered second .answers) in
-      let z : _≡_ {A = ℕ} 0 1 = cc in
-      omega arith)
+      failed (λ t typed fits. untyped (is-refused _ _ (answered second .answers)) (in-choose asked (chosen .type-is) typed .second-typed))
 
   module _ {end other : ℕ} (second : SecondTyped types slice input nodes from out remainder given (Gives end other)) where
     abbrev step : Step
@@ -215,10 +194,10 @@ module _ {types slice : List ℕ} {input : Input} {nodes : List ℕ} {from : ℕ
     abbrev first : FirstAnswered types slice input nodes from out remainder given (Fed step)
     first = second .first
 
-    second-given : IsGiven (step .end + node-width (parts .second)) end other (typing (chosen .second-type) (parts .second))
+    second-given : IsGiven (step .end + node-width (parts asked .second)) end other (typing (chosen .second-type) (parts asked .second))
     second-given = is-given _ _ (answered second .answers)
 
-    second-typed : WellTyped (chosen .second-type) (parts .second) (second-given .type)
+    second-typed : WellTyped (chosen .second-type) (parts asked .second) (second-given .type)
     second-typed = typing-sound _ _ _ (second-node-at first .carries) (second-given .given)
 
     first-small : Small (gave first .type)
@@ -262,23 +241,23 @@ module _ {types slice : List ℕ} {input : Input} {nodes : List ℕ} {from : ℕ
       told = compared .each _ _ first-small second-small first-taken second-taken
 
       -- If the types differ, choose has none.
-      pub differ : same ≡ false → {out-end remainder-end given-end : List ℕ} → Answer out-end remainder-end given-end Failed
+      pub differ : same ≡ false → {out-end remainder-end given-end : List ℕ} → Answer asked out-end remainder-end given-end Failed
       differ unlike =
           failed
           (λ t typed fits.
-          let both = in-choose typed in
+          let both = in-choose asked (chosen .type-is) typed in
           tell-apart (sym told ∙ unlike) (only-type (gave first .gives) (both .first-typed)) (only-type second-typed (both .second-typed)))
 
       pub chosen-fed : same ≡ true → {result : Step} → result ≡ record { end = end; sent = step .sent; kept = step .kept; size = step .size }
-          → Answer (first .out-now) (remainder-after second) (first .given-now) (Fed result)
+          → Answer asked (first .out-now) (remainder-after second) (first .given-now) (Fed result)
       chosen-fed alike is =
           let agree = same-type-sound _ _ (sym told ∙ alike) in
-          let both : ChooseTyped (chosen .first-type) (chosen .second-type) (parts .first) (parts .second) (gave first .type)
+          let both : ChooseTyped (chosen .first-type) (chosen .second-type) (parts asked .first) (parts asked .second) (gave first .type)
           = record { first-typed = gave first .gives; second-typed = rw agree second-typed } in
           let steps : Steps (from + node-width (due .node)) sent left (gave first .type) out remainder given
           (first .out-now) (remainder-after second) (first .given-now) (record { end = end; sent = step .sent; kept = step .kept; size = step .size })
           = record {
-            ends = omega (arith, second-given .ends, gave first .steps .ends, parts .wide);
+            ends = omega (arith, second-given .ends, gave first .steps .ends, parts asked .wide);
             sent = gave first .steps .sent;
             kept = gave first .steps .kept;
             sized = gave first .steps .sized;
@@ -286,6 +265,6 @@ module _ {types slice : List ℕ} {input : Input} {nodes : List ℕ} {from : ℕ
             node-left = left-leads second;
             type-given = gave first .steps .type-given;
           } in
-          let sends-is = chosen-sends {r = chosen .second-type} {m = parts .second} (parts .made) (chosen .type-is) (chosen .prefix-is) in
-          let leaves-is = chosen-leaves {r = chosen .second-type} {m = parts .second} (parts .made) (chosen .type-is) (chosen .prefix-is) in
-          rw (is, ← sends-is, ← leaves-is) (fed (whole-typed (parts .made) (chosen .type-is) both) steps)
+          let sends-is = chosen-sends {r = chosen .second-type} {m = parts asked .second} (parts asked .made) (chosen .type-is) (chosen .prefix-is) in
+          let leaves-is = chosen-leaves {r = chosen .second-type} {m = parts asked .second} (parts asked .made) (chosen .type-is) (chosen .prefix-is) in
+          rw (is, ← sends-is, ← leaves-is) (fed (of-choose asked (chosen .type-is) both) steps)

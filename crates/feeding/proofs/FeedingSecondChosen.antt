@@ -2,7 +2,7 @@
 -- the second begins, which is fed with the room in front and is left alone. Both nodes leave no more than they may have, so there is room
 -- for a whole type and for what the second leaves. If the first has no type, the second fails, or gives another type, choose fails too, and
 -- rightly.
-use mathlib.Core.Path.{_≡_, refl, sym, ap, _∙_}
+use mathlib.Core.Path.{_≡_, sym, ap, _∙_}
 use mathlib.Core.Bool.{Bool, true, false}
 use mathlib.Core.List.{List, [], _++_, append-assoc}
 use Prim.Native.Nat.{ℕ, _+_, _-_, _≤_, _<_}
@@ -10,16 +10,15 @@ use native.Mathlib.Omega.{arith}
 use lib.ListN.{length, take, drop, length-append, length-drop}
 use lib.Seq.{drop-at, length-take-le}
 use Rattle.stream.specs.declared.Fault.{Fault}
-use Rattle.stream.specs.Types.{Ty, either, size, kind, same-type, Small}
+use Rattle.stream.specs.Types.{Ty, either, same-type, Small}
 use Rattle.stream.specs.Types.Laws.{limit-is, same-type-sound}
 use Rattle.stream.specs.Prefixes.{Prefix, second-chosen}
 use Rattle.stream.specs.TypeFiles.{type-bytes}
-use Rattle.stream.specs.SliceFiles.{prefix-bytes}
 use Rattle.reading.specs.declared.inputs.Input.{Input}
 use Rattle.reading.specs.declared.inputs.Choice.{Choice}
 use Rattle.reading.specs.TypeReads.Laws.{kind-at as type-kind-at, type-width}
 use Rattle.reading.specs.SliceReads.Laws.{kind-at}
-use Rattle.reading.specs.Inputs.{InputAt, ChoiceDue as PartDue, ChosenAt, ChoiceFound}
+use Rattle.reading.specs.Inputs.{ChosenAt, ChoiceFound}
 use Rattle.reading.specs.Inputs.Laws.{Chosen, is-second-chosen}
 use Rattle.writing.specs.Writing.Laws.{part, back}
 use Rattle.writing.specs.Appending.Laws.{part-length, back-length}
@@ -27,11 +26,10 @@ use Rattle.writing.specs.Comparing.{Compares}
 use Rattle.node.specs.Nodes.{Node, choose}
 use Rattle.node.specs.Nodes.Laws.{output-small}
 use Rattle.node.specs.Checking.{typing}
-use Rattle.node.specs.Checking.Laws.{WellTyped, typing-sound, typing-complete}
+use Rattle.node.specs.Checking.Laws.{WellTyped, typing-sound}
 use Rattle.node.specs.Feeding.Functions.{sends, leaves}
 use Rattle.node.specs.PatchFiles.{node-bytes}
 use Rattle.patch_reading.specs.PatchReads.{node-width, NodeAt}
-use Rattle.patch_reading.specs.PatchReads.Laws.{Parts as NodeParts}
 use Rattle.typing.specs.declared.Typed.{Typed}
 use Rattle.typing.specs.declared.Typed.the-variants.{Gives, Failed as Refused}
 use Rattle.typing.specs.Typing.{TypingDue, TypesNode, Answers as TypingAnswers}
@@ -43,8 +41,8 @@ use Rattle.leaf_feeding.specs.Steps.{Leads, Steps, fed, failed}
 use Rattle.leaf_feeding.specs.Steps.Laws.{front-leads, leads-inside, leads-taken, Gave, was-fed, has-failed}
 use Rattle.feeding.specs.Feeds.{nodes-below, FeedDue, FeedsNode, ChoiceDue}
 use Rattle.feeding.proofs.Below.{count-positive, below-one}
-use Rattle.feeding.proofs.Typings.{only-type, ChooseTyped}
-use Rattle.feeding.proofs.FeedingChoose.{nodes-at, counted, ChooseAnswer, whole-typed, parts-typed, tell-apart, behind-taken}
+use Rattle.feeding.proofs.Typings.{only-type, untyped, ChooseTyped}
+use Rattle.feeding.proofs.FeedingChoose.{counted, parts, Answer, in-choose, of-choose, tell-apart, behind-taken}
 
 -- What choose sends and leaves once its second part is chosen.
 module _ {s t r : Ty} {n l m : Node} {p q : Prefix} (node : n ≡ choose l m) (type : s ≡ either t r) (prefix : p ≡ second-chosen q) where
@@ -93,34 +91,21 @@ module _ {types slice : List ℕ} {input : Input} {nodes : List ℕ} {from : ℕ
   abbrev due : FeedDue types slice input nodes from out remainder given
   due = asked .due
 
-  abbrev parts : NodeParts choose nodes from (due .node)
-  parts = nodes-at (asked .is-choose) due
-
   pub chosen : Chosen second-chosen (due .type) (due .prefix)
   chosen =
       let ten = sym (kind-at (due .stands .prefix-in .stands)) ∙ asked .is-marked in
       is-second-chosen (due .stands .is-prefix) (sym (type-kind-at (due .stands .type-in .stands)) ∙ asked .is-either)
       (λ eight. omega (arith, ten, eight)) (λ nine. omega (arith, ten, nine))
 
-  abbrev Answer : (out-end remainder-end given-end : List ℕ) → Stepped → Type 0
-  Answer = ChooseAnswer (asked .is-choose) due
-
-  in-choose : {t : Ty} → WellTyped (due .type) (due .node) t → ChooseTyped (chosen .first-type) (chosen .second-type) (parts .first) (parts .second) t
-  in-choose typed = parts-typed (parts .made) (chosen .type-is) typed
-
   -- What the second node sends and leaves is what choose does.
 
   abbrev sent : Prefix
-  sent = sends (chosen .second-type) (parts .second) (chosen .part)
+  sent = sends (chosen .second-type) (parts asked .second) (chosen .part)
 
   abbrev left : Node
-  left = leaves (chosen .second-type) (parts .second) (chosen .part)
+  left = leaves (chosen .second-type) (parts asked .second) (chosen .part)
 
   -- Where the parts stand.
-
-  pub part-due : PartDue types slice input
-  part-due = record { type = due .type; prefix = due .prefix; stands = due .stands; is-either = ap kind (chosen .type-is) }
-
   parts-at : {choice : Choice} → ChoiceFound types slice input choice
       → ChosenAt types slice choice (chosen .second-type) (chosen .first-type) (chosen .part)
   parts-at found = found .second _ _ _ (rw (← chosen .type-is, ← chosen .prefix-is) (due .stands))
@@ -131,10 +116,10 @@ module _ {types slice : List ℕ} {input : Input} {nodes : List ℕ} {from : ℕ
 
   -- The type of the first node is asked for.
   pub first-due : {choice : Choice} → ChoiceFound types slice input choice → TypingDue types (choice .other) nodes (from + 1)
-  first-due found = record { type = chosen .first-type; node = parts .first; type-in = parts-at found .other; node-at = parts .first-at }
+  first-due found = record { type = chosen .first-type; node = parts asked .first; type-in = parts-at found .other; node-at = parts asked .first-at }
 
   module _ {answer : Typed} (first : FirstTyped types slice input nodes from remainder answer) where
-    answered : TypingAnswers (from + 1 + node-width (parts .first)) (typing (chosen .first-type) (parts .first))
+    answered : TypingAnswers (from + 1 + node-width (parts asked .first)) (typing (chosen .first-type) (parts asked .first))
         (part (first .spare) remainder) (first .remainder-part) answer
     unfolding first-due
     answered = first .types-node .each (first-due (first .found))
@@ -156,22 +141,16 @@ module _ {types slice : List ℕ} {input : Input} {nodes : List ℕ} {from : ℕ
 
   -- If it has none, choose has none.
   pub first-untyped : {fault : Fault} → FirstTyped types slice input nodes from remainder (Refused fault)
-      → {out-end remainder-end given-end : List ℕ} → Answer out-end remainder-end given-end Failed
+      → {out-end remainder-end given-end : List ℕ} → Answer asked out-end remainder-end given-end Failed
   first-untyped first =
-      failed
-      (λ t typed fits.
-      let first-typed = in-choose typed .first-typed in
-      let accepts = typing-complete (first-typed .types) (first-typed .fits) in
-      let refuses = is-refused _ _ (answered first .answers) in
-      let z : _≡_ {A = ℕ} 0 1 = cc in
-      omega arith)
+      failed (λ t typed fits. untyped (is-refused _ _ (answered first .answers)) (in-choose asked (chosen .type-is) typed .first-typed))
 
   module _ {next other : ℕ} (first : FirstTyped types slice input nodes from remainder (Gives next other)) where
-    first-given : IsGiven (from + 1 + node-width (parts .first)) next other (typing (chosen .first-type) (parts .first))
+    first-given : IsGiven (from + 1 + node-width (parts asked .first)) next other (typing (chosen .first-type) (parts asked .first))
     first-given = is-given _ _ (answered first .answers)
 
-    first-typed : WellTyped (chosen .first-type) (parts .first) (first-given .type)
-    first-typed = typing-sound _ _ _ (parts .first-at .carries) (first-given .given)
+    first-typed : WellTyped (chosen .first-type) (parts asked .first) (first-given .type)
+    first-typed = typing-sound _ _ _ (parts asked .first-at .carries) (first-given .given)
 
     first-small : Small (first-given .type)
     first-small = output-small (first-typed .types) (first-typed .fits)
@@ -184,8 +163,8 @@ module _ {types slice : List ℕ} {input : Input} {nodes : List ℕ} {from : ℕ
 
     -- The second node stands where the first ends, and is fed.
 
-    second-node-at : NodeAt nodes next (parts .second)
-    second-node-at = rw (first-given .ends) (parts .second-at)
+    second-node-at : NodeAt nodes next (parts asked .second)
+    second-node-at = rw (first-given .ends) (parts asked .second-at)
 
     pub second-below : nodes-below 1 (drop next nodes) < nodes-below 1 (drop from nodes)
     second-below =
@@ -197,13 +176,13 @@ module _ {types slice : List ℕ} {input : Input} {nodes : List ℕ} {from : ℕ
         let more = counted (asked .is-choose) due in
         record {
           type = chosen .second-type;
-          node = parts .second;
+          node = parts asked .second;
           prefix = chosen .part;
           stands = parts-at (first .found) .part;
           node-at = second-node-at;
           few = omega (arith, due .few, more);
           rooms = due .rooms;
-          left-room = omega (arith, due .left-room, more, count-positive (parts .first), front-room first, room-at-end);
+          left-room = omega (arith, due .left-room, more, count-positive (parts asked .first), front-room first, room-at-end);
         }
 
   module _ {answer : Stepped} (second : SecondAnswered types slice input nodes from out remainder given answer) where
@@ -221,16 +200,16 @@ module _ {types slice : List ℕ} {input : Input} {nodes : List ℕ} {from : ℕ
         )
 
   pub second-fails : SecondAnswered types slice input nodes from out remainder given Failed → {out-end remainder-end given-end : List ℕ}
-      → Answer out-end remainder-end given-end Failed
+      → Answer asked out-end remainder-end given-end Failed
   unfolding second-due
   second-fails second =
-      failed (λ t typed fits. has-failed (second .feeds .each (second-due (second .first))) t (in-choose typed .second-typed) fits)
+      failed (λ t typed fits. has-failed (second .feeds .each (second-due (second .first))) t (in-choose asked (chosen .type-is) typed .second-typed) fits)
 
   module _ {step : Step} (second : SecondAnswered types slice input nodes from out remainder given (Fed step)) where
     abbrev first : FirstTyped types slice input nodes from remainder (Gives (second .next) (second .other))
     first = second .first
 
-    gave : Gave (WellTyped (chosen .second-type) (parts .second)) (second .next + node-width (parts .second)) sent left
+    gave : Gave (WellTyped (chosen .second-type) (parts asked .second)) (second .next + node-width (parts asked .second)) sent left
         out (take (first .spare) (remainder-now first)) given (second .out-after) (second .front) (second .given-after) step
     unfolding second-due
     gave = was-fed (second .feeds .each (second-due first))
@@ -269,11 +248,11 @@ module _ {types slice : List ℕ} {input : Input} {nodes : List ℕ} {from : ℕ
       told = compared .each _ _ second-small (first-small first) second-taken first-taken
 
       -- If the types differ, choose has none.
-      pub differ : same ≡ false → {out-end remainder-end given-end : List ℕ} → Answer out-end remainder-end given-end Failed
+      pub differ : same ≡ false → {out-end remainder-end given-end : List ℕ} → Answer asked out-end remainder-end given-end Failed
       differ unlike =
           failed
           (λ t typed fits.
-          let both = in-choose typed in
+          let both = in-choose asked (chosen .type-is) typed in
           tell-apart (sym told ∙ unlike) (only-type (gave .gives) (both .second-typed)) (only-type (first-typed first) (both .first-typed)))
 
       left-leads : Leads (node-bytes left []) remainder (remainder-after second)
@@ -286,15 +265,15 @@ module _ {types slice : List ℕ} {input : Input} {nodes : List ℕ} {from : ℕ
             long = remainder-kept-on second;
           }
 
-      pub chosen-fed : same ≡ true → Answer (second .out-after) (remainder-after second) (second .given-after) (Fed step)
+      pub chosen-fed : same ≡ true → Answer asked (second .out-after) (remainder-after second) (second .given-after) (Fed step)
       chosen-fed alike =
           let agree = same-type-sound _ _ (sym told ∙ alike) in
-          let both : ChooseTyped (chosen .first-type) (chosen .second-type) (parts .first) (parts .second) (gave .type)
+          let both : ChooseTyped (chosen .first-type) (chosen .second-type) (parts asked .first) (parts asked .second) (gave .type)
           = record { first-typed = rw agree (first-typed first); second-typed = gave .gives } in
           let steps : Steps (from + node-width (due .node)) sent left (gave .type) out remainder given
           (second .out-after) (remainder-after second) (second .given-after) step
           = record {
-            ends = omega (arith, gave .steps .ends, first-given first .ends, parts .wide);
+            ends = omega (arith, gave .steps .ends, first-given first .ends, parts asked .wide);
             sent = gave .steps .sent;
             kept = gave .steps .kept;
             sized = gave .steps .sized;
@@ -302,6 +281,6 @@ module _ {types slice : List ℕ} {input : Input} {nodes : List ℕ} {from : ℕ
             node-left = left-leads;
             type-given = gave .steps .type-given;
           } in
-          let sends-is = chosen-sends {t = chosen .first-type} {l = parts .first} (parts .made) (chosen .type-is) (chosen .prefix-is) in
-          let leaves-is = chosen-leaves {t = chosen .first-type} {l = parts .first} (parts .made) (chosen .type-is) (chosen .prefix-is) in
-          rw (← sends-is, ← leaves-is) (fed (whole-typed (parts .made) (chosen .type-is) both) steps)
+          let sends-is = chosen-sends {t = chosen .first-type} {l = parts asked .first} (parts asked .made) (chosen .type-is) (chosen .prefix-is) in
+          let leaves-is = chosen-leaves {t = chosen .first-type} {l = parts asked .first} (parts asked .made) (chosen .type-is) (chosen .prefix-is) in
+          rw (← sends-is, ← leaves-is) (fed (of-choose asked (chosen .type-is) both) steps)

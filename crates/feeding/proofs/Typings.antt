@@ -1,16 +1,28 @@
 -- What the rules and limits say of a node with two parts, by its parts, both ways.
 use mathlib.Core.Path.{_≡_, refl, sym, _∙_}
+use Prim.Native.Nat.{ℕ}
+use native.Mathlib.Omega.{arith}
+use Rattle.stream.specs.declared.Fault.{Fault}
 use Rattle.stream.specs.Types.{Ty, seq, either, Small}
+use Rattle.stream.specs.Reading.{refused}
 use Rattle.node.specs.Nodes.{Node, both, then, chain, choose, Takes, takes-both, takes-then, takes-chain, takes-choose}
 use Rattle.node.specs.Nodes.Functions.{Fits}
 use Rattle.node.specs.Nodes.Laws.{output-type-is, output-small}
-use Rattle.node.specs.Checking.Laws.{WellTyped}
+use Rattle.node.specs.Checking.{typing}
+use Rattle.node.specs.Checking.Laws.{WellTyped, typing-complete}
 use Rattle.feeding.specs.declared.Pair.the-variants.{Beside, Crossed}
 use Rattle.feeding.specs.Feeds.{PairTyped}
 
 -- A node gives one type at most.
 pub only-type : {s t u : Ty} {n : Node} → WellTyped s n t → WellTyped s n u → t ≡ u
 only-type a b = sym (output-type-is (a .types)) ∙ output-type-is (b .types)
+
+-- A node that the second pass refuses gives none.
+pub untyped : {s t : Ty} {n : Node} {fault : Fault} → typing s n ≡ refused fault → WellTyped s n t → ⊥
+untyped refuses well =
+    let accepts = typing-complete (well .types) (well .fits) in
+    let z : _≡_ {A = ℕ} 0 1 = cc in
+    omega arith
 
 pub both-parts : {s t : Ty} {n m : Node} → WellTyped s (both n m) t → PairTyped Beside s s n m t
 both-parts {s} {t} {n} {m} typed = go (typed .types) (typed .fits)

@@ -1,6 +1,6 @@
 -- How wide a complete prefix is, by its type: a byte for each node, and the value of each level, if no choice stands in the type. Nodes of a
 -- kind are counted in the type's bytes.
-use mathlib.Core.Path.{_≡_, refl, sym, ap, _∙_}
+use mathlib.Core.Path.{_≡_, refl, sym, _∙_}
 use mathlib.Core.Bool.{Bool, true, false}
 use mathlib.Core.List.{List, [], _∷_}
 use Prim.Native.Nat.{ℕ, zero, suc, _+_, _*_, _-_, _≤_, _<_}

@@ -1,7 +1,7 @@
 -- A prefix gone through node by node: the kinds of the nodes passed, and the prefixes that are still ahead. The kind byte come to
 -- gives way to its parts. For any number by kind, the nodes passed and the prefixes ahead add up to the tally of the whole, so
 -- whatever is summed on the way comes to that tally at the end; the place come to is such a sum.
-use mathlib.Core.Path.{_≡_, refl, sym, ap, _∙_}
+use mathlib.Core.Path.{_≡_, refl, sym, ap}
 use mathlib.Core.List.{List, [], _∷_, _++_}
 use Prim.Native.Nat.{ℕ, suc, _+_, _≤_, _<_}
 use native.Mathlib.Omega.{arith}

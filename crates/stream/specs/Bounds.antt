@@ -13,8 +13,8 @@ slice-limit = 511
 abbrev pub slice-file-limit : ℕ
 slice-file-limit = 513
 
--- Twice the most bytes that c nodes have: at most (c + 1) / 2 of them have no parts, and each of these may be silent with a type
--- of 255 nodes.
+-- Twice the most bytes that c nodes have: at most (c + 1) / 2 of them have no parts, and each of these may carry a type of 255
+-- nodes.
 abbrev pub twice-node-bytes : ℕ → ℕ
 twice-node-bytes c = 257 * c + 255
 

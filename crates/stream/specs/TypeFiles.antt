@@ -1,10 +1,10 @@
 -- Type files: their bytes, and their reading with refusals 1 to 4 (document 01, Files, "Types"; Operations, Check).
 use mathlib.Core.List.{List, [], _∷_}
 use mathlib.Core.Path.{_≡_}
-use Prim.Native.Nat.{ℕ, _≤_}
+use Prim.Native.Nat.{ℕ}
 use lib.ListN.{getD}
 use Rattle.stream.specs.declared.Fault.the-variants.{CutShort, Unlisted, LeftOver, TypeTooLarge}
-use Rattle.stream.specs.Types.{Ty, empty, cue, level, seq, par, either, size, type-limit, Small}
+use Rattle.stream.specs.Types.{Ty, empty, cue, level, seq, par, either, type-limit, Small}
 use Rattle.stream.specs.Reading.{Reading, fault, Result, read-on, whole, next-byte, section-bytes, section, Root, tree, leaf, two-parts}
 pub mod Laws
 pub mod Examples

@@ -5,9 +5,8 @@ use mathlib.Core.List.{List, []}
 use Prim.Native.Nat.{ℕ, _+_, _≤_}
 use native.Mathlib.Omega.{arith}
 use lib.ListN.{getD}
-use Rattle.stream.specs.Prefixes.Functions.{concat}
 use Rattle.stream.specs.Prefixes.Kinds.{prefix-arity}
-use Rattle.reading.specs.SliceReads.{prefix-width, is-unfinished}
+use Rattle.reading.specs.SliceReads.{is-unfinished}
 use Rattle.reading.specs.SliceReads.Laws.{prefix-bytes-length, kind-at}
 use Rattle.writing.specs.Writing.{PrefixDue, PrefixWritten, ConcatDue, LeafConcatDue, ConcatWritten}
 use Rattle.writing.proofs.PrefixKinds.{kind-listed, Awaited, awaited, Come, come, empty-wide}

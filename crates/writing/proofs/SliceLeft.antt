@@ -17,7 +17,7 @@ use Rattle.stream.specs.Types.{Ty, empty, seq, par, size, type-limit, first-par
 use Rattle.stream.specs.Types.Laws.{size-positive}
 use Rattle.stream.specs.Levels.{value-width}
 use Rattle.stream.specs.Levels.Laws.{value-there, value-missing}
-use Rattle.stream.specs.Prefixes.{Prefix, nothing, cue-awaited, cue-come, level-awaited, level-come, in-first, crossed, beside, none-chosen, derivative}
+use Rattle.stream.specs.Prefixes.{Prefix, nothing, cue-awaited, cue-come, level-awaited, level-come, crossed, beside, none-chosen, derivative}
 use Rattle.stream.specs.Prefixes.Kinds.{prefix-arities, prefix-arity, root-width}
 use Rattle.stream.specs.Reading.{Reading, read, fault, read-on, leaf}
 use Rattle.stream.specs.Reading.Laws.{_&_, past, every}
@@ -34,7 +34,7 @@ use Rattle.writing.specs.Appending.{Holds, Appends, PartDue, Within}
 use Rattle.writing.specs.Appending.Laws.{back-length, part-length, WrittenSoFar, nothing-written, written-on, written-part, part-due, part-on}
 use Rattle.writing.specs.Writing.Laws.{part, back}
 use Rattle.writing.specs.Leaving.{leaf-leaves, LeafLeft, WalksLeafLeaving, FirstStarts, LeftBy, WalksLeaving}
-use Rattle.writing.proofs.SliceWalk.{level-root, second-reads, behind-first, failed, Begins, begun, type-kind-is, leaf-walks, Forks, parts-read, Halfway, stands, split, first-stands, first-within, first-came, second-stands, still-first, crossing, both-come}
+use Rattle.writing.proofs.SliceWalk.{level-root, second-reads, behind-first, failed, Begins, begun, type-kind-is, leaf-walks, parts-read, Halfway, stands, split, first-stands, first-within, first-came, second-stands, still-first, crossing, both-come}
 
 -- What a leaf leaves, written
 

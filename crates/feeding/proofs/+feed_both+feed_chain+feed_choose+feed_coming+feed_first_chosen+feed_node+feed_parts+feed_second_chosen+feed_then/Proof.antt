@@ -1862,7 +1862,7 @@ module _ (t : ℕ) where
   -- Its needs, in the order of the code.
 
   feed-first-chosen-chosen-part-requires : feed-first-chosen-lts.Need-chosen-part-requires calls-first-chosen first-chosen-here feed-first-chosen.Post
-  feed-first-chosen-chosen-part-requires c κs = feeding-first-chosen.part-due (feed-first-chosen-entry-before-slice-known3 c .pre .1)
+  feed-first-chosen-chosen-part-requires c κs = feeding-choose.part-due (feed-first-chosen-entry-before-slice-known3 c .pre .1)
 
   feed-first-chosen-add-feed-node : feed-first-chosen-lts.Need-add-feed-node calls-first-chosen first-chosen-here feed-first-chosen.Post
   feed-first-chosen-add-feed-node c = omega (arith, starts-inside (feed-first-chosen-entry-before-chosen-part c .pre .1 .due .node-at))
@@ -2026,7 +2026,7 @@ module _ (t : ℕ) where
   -- Its needs, in the order of the code.
 
   feed-second-chosen-chosen-part-requires : feed-second-chosen-lts.Need-chosen-part-requires calls-second-chosen second-chosen-here feed-second-chosen.Post
-  feed-second-chosen-chosen-part-requires c κs = feeding-second-chosen.part-due (feed-second-chosen-entry-before-slice-known3 c .pre .1)
+  feed-second-chosen-chosen-part-requires c κs = feeding-choose.part-due (feed-second-chosen-entry-before-slice-known3 c .pre .1)
 
   feed-second-chosen-sub-spare : feed-second-chosen-lts.Need-sub-spare calls-second-chosen second-chosen-here feed-second-chosen.Post
   feed-second-chosen-sub-spare c = feeding-second-chosen.room-at-end (feed-second-chosen-entry-before-chosen-part c .pre .1)

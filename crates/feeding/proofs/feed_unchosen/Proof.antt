@@ -3,7 +3,7 @@
 use borrow.Author.Needs.{needs}
 use native.Mathlib.Omega.{arith}
 use mathlib.Core.Path.{_≡_}
-use Rattle.feeding.proofs.FeedingChoose.{asked-of, whole-due, untyped, no-room, nothing-due, node-ends, node-forward, copy-room, waited}
+use Rattle.feeding.proofs.FeedingChoose.{asked-of, whole-due, whole-untyped, no-room, nothing-due, node-ends, node-forward, copy-room, waited}
 use Rattle.typing.specs.declared.Typed.{Typed}
 use Rattle.typing.specs.declared.Typed.the-variants.{Gives}
 use Rattle.typing.specs.Typing.{TypesNode}
@@ -119,7 +119,7 @@ same-length-2 c = search needs
 returns-2 : tie.Need-returns-2
 returns-2 c =
     let typed = type-choose-before-enum-told c in
-    record { each = λ due. untyped (asked-of (entry-before-type-choose typed .pre) due) (answered typed (c .enum-told .given .1)) }
+    record { each = λ due. whole-untyped (asked-of (entry-before-type-choose typed .pre) due) (answered typed (c .enum-told .given .1)) }
 
 same-length-3 : tie.Need-same-length-3
 same-length-3 c = search needs

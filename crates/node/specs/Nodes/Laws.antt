@@ -1,8 +1,7 @@
 -- The output type of the rules is the function's; every type that arises is within the limit exactly if the function says so.
 use mathlib.Core.Path.{_≡_, refl, ap₂}
-use Prim.Native.Nat.{_≤_}
 use Rattle.stream.specs.Types.{Ty, seq, par, Small}
-use Rattle.node.specs.Nodes.{Node, Takes, takes-pass, takes-silent, takes-cue, takes-level, takes-both, takes-left, takes-right, takes-first, takes-second, takes-then, takes-chain, takes-regroup-right, takes-regroup-left, takes-spread, takes-front, takes-choose, takes-mark-first, takes-mark-second, Arises, given, in-both-first, in-both-second, in-then-first, in-then-second, in-chain-first, in-chain-second, in-choose-first, in-choose-second, count, node-limit, Allowed, Few}
+use Rattle.node.specs.Nodes.{Node, Takes, takes-pass, takes-silent, takes-cue, takes-level, takes-both, takes-left, takes-right, takes-first, takes-second, takes-then, takes-chain, takes-regroup-right, takes-regroup-left, takes-spread, takes-front, takes-choose, takes-mark-first, takes-mark-second, Arises, given, in-both-first, in-both-second, in-then-first, in-then-second, in-chain-first, in-chain-second, in-choose-first, in-choose-second, Allowed, Few}
 use Rattle.node.specs.Nodes.Functions.{output-type, Fits}
 
 pub output-type-is : {s t : Ty} {n : Node} → Takes s n t → output-type s n ≡ t
