@@ -7,5 +7,6 @@ pub mod Buffers
 pub mod Bounds
 pub mod TypeFiles
 pub mod SliceFiles
+pub mod Longest
 pub mod Tables
 pub mod Computing

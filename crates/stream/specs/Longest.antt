@@ -1,0 +1,34 @@
+-- The longest prefix of a type (document 02, M-101, "How long a slice can get"): "a slice file such that no slice accepted for that
+-- type makes a longer one". That none is longer is `none-longer` in the laws.
+use mathlib.Core.Bool.{Bool, true, false}
+use mathlib.Core.List.{[]}
+use Prim.Native.Nat.{ℕ, _-_}
+use lib.Dec.{leb}
+use lib.ListN.{length}
+use Rattle.stream.specs.Types.{Ty, empty, cue, level, seq, par, either}
+use Rattle.stream.specs.Levels.{level-limit}
+use Rattle.stream.specs.Prefixes.{Prefix, nothing, cue-come, level-come, crossed, beside, first-chosen, second-chosen}
+use Rattle.stream.specs.SliceFiles.{prefix-bytes}
+pub mod Laws
+pub mod Examples
+
+-- How many bytes a prefix has in its file.
+abbrev pub byte-count : Prefix → ℕ
+byte-count p = length (prefix-bytes p [])
+
+-- Of a prefix of each side the longer one is chosen. "Where either's sides are equally long the first is chosen."
+abbrev pub chosen : Bool → Prefix → Prefix → Prefix
+chosen true p q = first-chosen p
+chosen false p q = second-chosen q
+
+abbrev pub longer : Prefix → Prefix → Prefix
+longer p q = chosen (leb (byte-count q) (byte-count p)) p q
+
+-- "Every cue and level has come, levels at their largest, and every sequence is crossed."
+unfoldable pub longest : Ty → Prefix
+longest empty = nothing
+longest cue = cue-come
+longest level = level-come (level-limit - 1)
+longest (seq s t) = crossed (longest s) (longest t)
+longest (par s t) = beside (longest s) (longest t)
+longest (either s t) = longer (longest s) (longest t)

@@ -1,0 +1,106 @@
+-- The longest prefix is a complete prefix of its type, and no prefix of the type has more bytes.
+use mathlib.Core.Path.{_≡_, refl}
+use mathlib.Core.Bool.{Bool, true, false}
+use mathlib.Core.List.{List, [], append-nil}
+use Prim.Native.Nat.{ℕ, suc, _+_, _-_, _≤_, _<_}
+use native.Mathlib.Omega.{arith}
+use lib.Dec.{leb}
+use lib.ListN.{length}
+use borrow.Author.Tests.{leb-true, leb-false}
+use Rattle.stream.specs.Types.{Ty, empty, cue, level, seq, par, either}
+use Rattle.stream.specs.Levels.{level-limit}
+use Rattle.stream.specs.Levels.Laws.{value-length}
+use Rattle.stream.specs.Prefixes.{Prefix, nothing, cue-awaited, cue-come, level-awaited, level-come, in-first, crossed, beside, none-chosen, first-chosen, second-chosen, Complete, whole-nothing, whole-cue, whole-level, whole-crossed, whole-beside, whole-first-chosen, whole-second-chosen, IsPrefix, of-empty, of-cue-awaited, of-cue-come, of-level-awaited, of-level-come, of-first, of-crossed, of-beside, of-none-chosen, of-first-chosen, of-second-chosen}
+use Rattle.stream.specs.Reading.{section-bytes}
+use Rattle.stream.specs.SliceFiles.{prefix-bytes, slice-file-bytes, SliceFile}
+use Rattle.stream.specs.Longest.{byte-count, chosen, longer, longest}
+
+-- Bytes behind a prefix do not count for it.
+pub byte-count-before : (p : Prefix) (r : List ℕ) → length (prefix-bytes p r) ≡ byte-count p + length r
+unfolding prefix-bytes
+byte-count-before nothing r = omega arith
+byte-count-before cue-awaited r = omega arith
+byte-count-before cue-come r = omega arith
+byte-count-before level-awaited r = omega arith
+byte-count-before (level-come v) r = omega (arith, value-length v r, value-length v [])
+byte-count-before (in-first p) r = omega (arith, byte-count-before p r)
+byte-count-before (crossed b q) r =
+    omega (arith, byte-count-before b (prefix-bytes q r), byte-count-before b (prefix-bytes q []), byte-count-before q r)
+byte-count-before (beside p q) r =
+    omega (arith, byte-count-before p (prefix-bytes q r), byte-count-before p (prefix-bytes q []), byte-count-before q r)
+byte-count-before none-chosen r = omega arith
+byte-count-before (first-chosen p) r = omega (arith, byte-count-before p r)
+byte-count-before (second-chosen p) r = omega (arith, byte-count-before p r)
+
+-- A choice is a prefix of the either, complete if both sides are, and the longer one is longer than both.
+
+chosen-is-prefix : {s t : Ty} {p q : Prefix} (b : Bool) → IsPrefix s p → IsPrefix t q → IsPrefix (either s t) (chosen b p q)
+chosen-is-prefix true h k = of-first-chosen h
+chosen-is-prefix false h k = of-second-chosen k
+
+chosen-complete : {p q : Prefix} (b : Bool) → Complete p → Complete q → Complete (chosen b p q)
+chosen-complete true c d = whole-first-chosen c
+chosen-complete false c d = whole-second-chosen d
+
+longer-than-both : (p q : Prefix) → (byte-count p < byte-count (longer p q)) × (byte-count q < byte-count (longer p q))
+unfolding prefix-bytes
+longer-than-both p q = go (leb (byte-count q) (byte-count p)) refl
+  where
+    go : (b : Bool) → leb (byte-count q) (byte-count p) ≡ b
+        → (byte-count p < byte-count (chosen b p q)) × (byte-count q < byte-count (chosen b p q))
+    go true e = (omega arith, omega (arith, leb-true (byte-count q) (byte-count p) e))
+    go false e = (omega (arith, leb-false (byte-count q) (byte-count p) e), omega arith)
+
+-- The longest prefix is complete, and a prefix.
+
+pub longest-complete : (t : Ty) → Complete (longest t)
+unfolding longest
+longest-complete empty = whole-nothing
+longest-complete cue = whole-cue
+longest-complete level = whole-level
+longest-complete (seq s t) = whole-crossed (longest-complete t)
+longest-complete (par s t) = whole-beside (longest-complete s) (longest-complete t)
+longest-complete (either s t) =
+    chosen-complete (leb (byte-count (longest t)) (byte-count (longest s))) (longest-complete s) (longest-complete t)
+
+pub longest-is-prefix : (t : Ty) → IsPrefix t (longest t)
+unfolding longest level-limit
+longest-is-prefix empty = of-empty
+longest-is-prefix cue = of-cue-come
+longest-is-prefix level = of-level-come {v = level-limit - 1} (omega arith)
+longest-is-prefix (seq s t) = of-crossed (longest-is-prefix s) (longest-complete s) (longest-is-prefix t)
+longest-is-prefix (par s t) = of-beside (longest-is-prefix s) (longest-is-prefix t)
+longest-is-prefix (either s t) =
+    chosen-is-prefix (leb (byte-count (longest t)) (byte-count (longest s))) (longest-is-prefix s) (longest-is-prefix t)
+
+-- "No slice accepted for that type makes a longer one."
+
+pub none-longer : {t : Ty} {p : Prefix} → IsPrefix t p → byte-count p ≤ byte-count (longest t)
+unfolding longest prefix-bytes
+none-longer of-empty = omega arith
+none-longer of-cue-awaited = omega arith
+none-longer of-cue-come = omega arith
+none-longer of-level-awaited = omega (arith, value-length (level-limit - 1) [])
+none-longer (of-level-come {v = v} h) = omega (arith, value-length v [], value-length (level-limit - 1) [])
+none-longer (of-first {s = s} {t = t} h) =
+    omega (arith, none-longer h, byte-count-before (longest s) (prefix-bytes (longest t) []))
+none-longer (of-crossed {s = s} {t = t} {b = b} {q = q} h c k) =
+    omega (arith, none-longer h, none-longer k, byte-count-before b (prefix-bytes q []), byte-count-before (longest s) (prefix-bytes (longest t) []))
+none-longer (of-beside {s = s} {t = t} {p = p} {q = q} h k) =
+    omega (arith, none-longer h, none-longer k, byte-count-before p (prefix-bytes q []), byte-count-before (longest s) (prefix-bytes (longest t) []))
+none-longer (of-none-chosen {s = s} {t = t}) = omega (arith, longer-than-both (longest s) (longest t))
+none-longer (of-first-chosen {s = s} {t = t} h) = omega (arith, none-longer h, longer-than-both (longest s) (longest t))
+none-longer (of-second-chosen {s = s} {t = t} h) = omega (arith, none-longer h, longer-than-both (longest s) (longest t))
+
+-- The same of files: the count comes before the bytes of the prefix.
+
+slice-file-count : (p : Prefix) → length (slice-file-bytes p) ≡ 2 + byte-count p
+unfolding slice-file-bytes section-bytes
+slice-file-count p = rw (append-nil (prefix-bytes p [])) (omega arith)
+
+pub no-file-longer : {t : Ty} {file : List ℕ} → SliceFile t file → length file ≤ length (slice-file-bytes (longest t))
+no-file-longer {t} f =
+    rw (← f .bytes, slice-file-count (f .prefix), slice-file-count (longest t)) (omega (arith, none-longer (f .is-prefix)))
+
+pub longest-slice-file : (t : Ty) → SliceFile t (slice-file-bytes (longest t))
+longest-slice-file t = record { prefix = longest t; is-prefix = longest-is-prefix t; bytes = refl }
