@@ -1,4 +1,5 @@
-//! The numbers with which document 01 and request M-100 refuse.
+//! The numbers with which document 01 and request M-100 refuse; M-101 has none of
+//! its own.
 
 /// Refusal number as the documents give it.
 pub type Number = u32;

@@ -1,4 +1,5 @@
-//! The five operations, from files to files.
+//! The six operations, from files to files: the five of document 01, and that of
+//! M-101.
 //!
 //! An accepted call answers the number of bytes written to each buffer. "These
 //! stand at the front of the lent buffer, and the bytes behind them stay.
@@ -9,6 +10,7 @@ use crate::feeding::{feed_node, Fed};
 use crate::files::{
     patch_file, read_patch_file, read_slice_file, read_type_file, slice_file, type_file,
 };
+use crate::measuring::longest_slice;
 use crate::nodes::Node;
 use crate::numbers::{Number, BUFFER_TOO_SHORT};
 use crate::slices::{join_slices, what_slice_leaves, Slice};
@@ -78,6 +80,13 @@ pub fn feed(
         write_answer(&sent, output)?,
         write_answer(&left, patch_left)?,
     ))
+}
+
+/// M-101: "From a type file, write a slice file such that no slice accepted for
+/// that type makes a longer one. ... Faults of the type are 1 to 4, then 20."
+pub fn longest(type_file: &[u8], buffer: &mut [u8]) -> Result<usize, Number> {
+    let stream = read_type_file(type_file)?;
+    write_answer(&slice_file(&longest_slice(&stream)), buffer)
 }
 
 /// A patch that the rules of Check have no number for, 20 aside.

@@ -3,12 +3,12 @@
 use std::collections::{HashMap, HashSet};
 
 use second_interpreter::{
-    check, feed_node, join, join_slices, slice_file, type_file, what_slice_leaves, Node, Slice,
-    Type,
+    check, every_slice, every_type, feed_node, join, join_slices, slice_file, type_file,
+    what_slice_leaves, Node, Slice, Type,
 };
 
 use crate::common::{answered, fed, patch};
-use crate::exhaustive::{every_string, slices_of, types_of};
+use crate::exhaustive::every_string;
 use crate::generator::{random_node, random_slice, random_type, Random};
 use crate::properties::Run;
 
@@ -66,17 +66,17 @@ fn files((first, second): &Cut) -> (Vec<u8>, Vec<u8>) {
 
 #[test]
 fn exactly_the_cuts_join_to_a_slice() {
-    for stream in [1, 3, 5].into_iter().flat_map(types_of) {
+    for stream in [1, 3, 5].into_iter().flat_map(every_type) {
         let mut found: HashMap<Vec<u8>, HashSet<_>> = HashMap::new();
-        for p in slices_of(&stream) {
+        for p in every_slice(&stream) {
             let remainder = what_slice_leaves(&stream, &p).expect("a slice of the type");
-            for q in slices_of(&remainder) {
+            for q in every_slice(&remainder) {
                 let whole = join_slices(&p, &q).expect("a slice of what is left");
                 let pairs = found.entry(slice_file(&whole)).or_default();
                 pairs.insert(files(&(p.clone(), q)));
             }
         }
-        let wholes = slices_of(&stream);
+        let wholes = every_slice(&stream);
         assert_eq!(found.len(), wholes.len(), "{stream:?}");
         for whole in wholes {
             let expected: HashSet<_> = cuts(&whole).iter().map(files).collect();
@@ -170,7 +170,7 @@ fn accepted_and_cut(stream: &Type, nodes: &[u8]) -> bool {
     if check(&start, &mut [0; 257]).is_err() {
         return false;
     }
-    for whole in slices_of(stream) {
+    for whole in every_slice(stream) {
         expect_every_cut_of_files(&start, &whole);
     }
     true
@@ -179,7 +179,7 @@ fn accepted_and_cut(stream: &Type, nodes: &[u8]) -> bool {
 #[test]
 fn every_small_patch_cut_everywhere() {
     let (mut accepted, mut choosing) = (0, 0);
-    for stream in [1, 3].into_iter().flat_map(types_of) {
+    for stream in [1, 3].into_iter().flat_map(every_type) {
         for length in 1..=3 {
             every_string(length, 18, |nodes| {
                 if accepted_and_cut(&stream, nodes) {
@@ -199,7 +199,7 @@ fn every_small_patch_cut_everywhere() {
 fn every_small_choose_cut_everywhere() {
     let is_either = |stream: &Type| stream.either_parts().is_some();
     let mut accepted = 0;
-    for stream in types_of(3).into_iter().filter(is_either) {
+    for stream in every_type(3).into_iter().filter(is_either) {
         for length in 3..=4 {
             every_string(length, 18, |parts| {
                 let nodes = [&[15], parts].concat();

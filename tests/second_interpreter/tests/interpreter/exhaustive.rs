@@ -1,66 +1,11 @@
-//! Every short string of bytes, against lists made from document 01 by building
-//! trees up instead of reading them.
+//! Every short string of bytes, against the package's lists of small types and
+//! slices, made by building trees up instead of reading them.
 
 use std::collections::HashMap;
 
-use second_interpreter::{admit, slice_file, type_file, Slice, Type};
+use second_interpreter::{admit, every_slice, every_type, longest, slice_file, type_file, Type};
 
 use crate::common::section;
-
-/// All types of exactly so many nodes.
-pub fn types_of(nodes: usize) -> Vec<Type> {
-    if nodes == 1 {
-        return vec![Type::Empty, Type::Cue, Type::Level];
-    }
-    let mut types = Vec::new();
-    for first in 1..nodes.saturating_sub(1) {
-        for one in types_of(first) {
-            for other in types_of(nodes - 1 - first) {
-                types.push(Type::sequence(one.clone(), other.clone()));
-                types.push(Type::beside(one.clone(), other.clone()));
-                types.push(Type::either(one.clone(), other));
-            }
-        }
-    }
-    types
-}
-
-/// All slices of a type whose level values have bytes of 0 to 1.
-pub fn slices_of(stream: &Type) -> Vec<Slice> {
-    match stream {
-        Type::Empty => vec![Slice::Empty],
-        Type::Cue => vec![Slice::CueNotYet, Slice::CueCome],
-        Type::Level => {
-            let values = [0, 1, 256, 257].map(Slice::LevelCome);
-            [vec![Slice::LevelNotYet], values.to_vec()].concat()
-        }
-        Type::Sequence(s, t) => {
-            let firsts = slices_of(s);
-            let mut slices: Vec<Slice> = firsts.iter().cloned().map(Slice::uncrossed).collect();
-            for first in firsts.into_iter().filter(Slice::is_complete) {
-                for second in slices_of(t) {
-                    slices.push(Slice::crossed(first.clone(), second));
-                }
-            }
-            slices
-        }
-        Type::Beside(s, t) => {
-            let mut slices = Vec::new();
-            for left in slices_of(s) {
-                for right in slices_of(t) {
-                    slices.push(Slice::beside(left.clone(), right));
-                }
-            }
-            slices
-        }
-        Type::Either(s, t) => {
-            let mut slices = vec![Slice::NoneChosen];
-            slices.extend(slices_of(s).into_iter().map(Slice::first_chosen));
-            slices.extend(slices_of(t).into_iter().map(Slice::second_chosen));
-            slices
-        }
-    }
-}
 
 /// Calls with every string of so many bytes below the bound.
 pub fn every_string(length: usize, bound: u8, mut call: impl FnMut(&[u8])) {
@@ -78,13 +23,15 @@ pub fn every_string(length: usize, bound: u8, mut call: impl FnMut(&[u8])) {
 #[test]
 fn exactly_the_types_are_read() {
     for length in 1..=6 {
-        let files: Vec<Vec<u8>> = types_of(length).iter().map(type_file).collect();
+        let files: Vec<Vec<u8>> = every_type(length).iter().map(type_file).collect();
         let mut read = 0;
         every_string(length, 7, |bytes| {
             let file = section(bytes);
             // A type that was read leaves an empty slice file cut short.
             let number = admit(&file, &[]).expect_err("no slice");
             assert_eq!(number == 11, files.contains(&file), "{bytes:?}");
+            let last = if number == 11 { 20 } else { number };
+            assert_eq!(longest(&file, &mut []), Err(last), "{bytes:?}");
             read += usize::from(number == 11);
         });
         assert_eq!(read, files.len());
@@ -93,9 +40,9 @@ fn exactly_the_types_are_read() {
 
 #[test]
 fn exactly_the_slices_are_admitted() {
-    for stream in [1, 3, 5].into_iter().flat_map(types_of) {
+    for stream in [1, 3, 5].into_iter().flat_map(every_type) {
         let stream_file = type_file(&stream);
-        let slices: HashMap<Vec<u8>, bool> = slices_of(&stream)
+        let slices: HashMap<Vec<u8>, bool> = every_slice(&stream)
             .iter()
             .map(|slice| (slice_file(slice), slice.is_complete()))
             .collect();
@@ -159,11 +106,11 @@ fn every_string_near(
 #[test]
 fn the_first_fault_of_a_slice_by_trying() {
     let mut seen = HashMap::new();
-    // Levels are left out: the values listed above are not all there are.
+    // Levels are left out: the values listed for them are not all there are.
     let no_level = |stream: &Type| !type_file(stream)[2..].contains(&2);
-    for stream in [1, 3, 5].into_iter().flat_map(types_of).filter(no_level) {
+    for stream in [1, 3, 5].into_iter().flat_map(every_type).filter(no_level) {
         let stream_file = type_file(&stream);
-        let slices: Vec<Vec<u8>> = slices_of(&stream)
+        let slices: Vec<Vec<u8>> = every_slice(&stream)
             .iter()
             .map(|slice| slice_file(slice)[2..].to_vec())
             .collect();

@@ -73,6 +73,24 @@ pub fn random_type(random: &mut Random, nodes: usize) -> Type {
     }
 }
 
+/// A type of exactly so many nodes, an odd number, whose two-part kinds are either
+/// about so many times in eight.
+pub fn full_type(random: &mut Random, nodes: usize, eithers: usize) -> Type {
+    if nodes == 1 {
+        return [Type::Empty, Type::Cue, Type::Level][random.below(3)].clone();
+    }
+    let first = 1 + 2 * random.below(nodes / 2);
+    let one = full_type(random, first, eithers);
+    let other = full_type(random, nodes - 1 - first, eithers);
+    if random.below(8) < eithers {
+        Type::either(one, other)
+    } else if random.once_in(2) {
+        Type::sequence(one, other)
+    } else {
+        Type::beside(one, other)
+    }
+}
+
 /// A nullable type of at most so many nodes.
 fn random_nullable(random: &mut Random, nodes: usize) -> Type {
     if nodes < 3 || random.once_in(3) {

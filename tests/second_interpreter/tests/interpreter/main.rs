@@ -7,6 +7,7 @@ mod cuts;
 mod exhaustive;
 mod generator;
 mod kinds;
+mod longest;
 mod program;
 mod properties;
 mod refusals;

@@ -1,8 +1,8 @@
 //! Laws that hold of random types, slices and patches, and of damaged files.
 
 use second_interpreter::{
-    admit, check, empty_slice, feed, feed_node, join, join_slices, left, output_type, patch_file,
-    slice_file, type_file, what_slice_leaves, Fed, Node, Number, Slice, Type,
+    admit, check, empty_slice, feed, feed_node, join, join_slices, left, longest, output_type,
+    patch_file, slice_file, type_file, what_slice_leaves, Fed, Node, Number, Slice, Type,
 };
 
 use crate::common::{answered, fed};
@@ -288,7 +288,7 @@ fn demand_3_on_random_runs() {
 
 /// What an operation with one buffer owes whatever its inputs: a listed number
 /// and an unaltered buffer, or bytes at the front and 20 one byte short of them.
-fn keeps_its_word(
+pub fn keeps_its_word(
     numbers: &[Number],
     operation: impl Fn(&mut [u8]) -> Result<usize, Number>,
 ) -> bool {
@@ -316,7 +316,7 @@ fn keeps_its_word(
 #[test]
 fn damaged_files_are_judged() {
     let mut random = Random::new(0x5EED_0007);
-    let mut accepted = [0; 4];
+    let mut accepted = [0; 5];
     for _ in 0..20_000 {
         let (input, node) = some_patch(&mut random);
         let slice = some_slice(&mut random, &input);
@@ -330,12 +330,14 @@ fn damaged_files_are_judged() {
         let hurt = random.below(files.len());
         files[hurt] = damaged(&mut random, &files[hurt]);
         let [stream, first, second, patch] = &files;
+        let of_types = [1, 2, 3, 4];
         let of_slices = [1, 2, 3, 4, 11, 12, 13, 14];
         let results = [
             keeps_its_word(&[1, 2, 3, 4, 5, 6, 7, 30], |buffer| check(patch, buffer)),
             keeps_its_word(&of_slices, |buffer| left(stream, first, buffer)),
             keeps_its_word(&of_slices, |buffer| join(stream, first, second, buffer)),
             fed(patch, first).is_ok(),
+            keeps_its_word(&of_types, |buffer| longest(stream, buffer)),
         ];
         for (count, result) in accepted.iter_mut().zip(results) {
             *count += usize::from(result);
@@ -364,6 +366,9 @@ fn bytes_from_nowhere_are_judged() {
         });
         let admitted = admit(&stream, &slice).err().unwrap_or(0);
         assert!([0, 1, 2, 3, 11, 12, 13, 14].contains(&admitted));
+        let of_type = (1..=3).contains(&admitted);
+        let last = if of_type { admitted } else { 20 };
+        assert_eq!(longest(&stream, &mut []), Err(last));
     }
     for number in [0, 1, 2, 3, 6, 7, 11, 12, 13, 14] {
         assert!(seen[number], "{number} never came");

@@ -1,7 +1,7 @@
 //! Which refusal comes first.
 
 use crate::common::{answered, fed, patch, section};
-use second_interpreter::{admit, check, feed, join, left, Number};
+use second_interpreter::{admit, check, feed, join, left, longest, Number};
 
 /// The number with which Check and Feed refuse a patch file.
 pub fn patch_number(file: &[u8]) -> Number {
@@ -16,11 +16,16 @@ pub fn nodes_number(stream: &[u8], nodes: &[u8]) -> Number {
     patch_number(&patch(stream, nodes))
 }
 
-/// The number of a type file, the same in Admit, Left and Join.
+/// The number of a type file, the same in Admit, Left, Join and the longest slice's
+/// operation, whatever its buffer.
 pub fn type_number(file: &[u8]) -> Number {
     let number = admit(file, &[]).expect_err("refused");
     assert_eq!(left(file, &[], &mut []), Err(number), "{file:?}");
     assert_eq!(join(file, &[], &[], &mut []), Err(number), "{file:?}");
+    assert_eq!(longest(file, &mut []), Err(number), "{file:?}");
+    let mut buffer = [7; 600];
+    assert_eq!(longest(file, &mut buffer), Err(number), "{file:?}");
+    assert_eq!(buffer, [7; 600], "{file:?}");
     number
 }
 
@@ -409,6 +414,7 @@ fn a_mebibyte_of_anything_ends() {
         let bytes = vec![byte; 1 << 20];
         assert!(answered(|buffer| check(&bytes, buffer)).is_err());
         assert!(admit(&bytes, &bytes).is_err());
+        assert!(answered(|buffer| longest(&bytes, buffer)).is_err());
         let patched = with(section(&[3, 1, 1]), &bytes);
         assert!(answered(|buffer| check(&patched, buffer)).is_err());
         assert!(fed(&patch(&[3, 1, 1], &[0]), &bytes).is_err());
