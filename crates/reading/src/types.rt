@@ -32,7 +32,7 @@ impl TypePlace {
 }
 
 // How many parts a type's kind has; this is asked here alone.
-fn type_arity(kind: u8) -> usize
+pub fn type_arity(kind: u8) -> usize
     ensures { λ r. ⌜ r ≡ type-arity kind ⌝ }
 {
     match kind {

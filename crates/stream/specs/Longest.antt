@@ -25,10 +25,10 @@ abbrev pub longer : Prefix → Prefix → Prefix
 longer p q = chosen (leb (byte-count q) (byte-count p)) p q
 
 -- "Every cue and level has come, levels at their largest, and every sequence is crossed."
-unfoldable pub longest : Ty → Prefix
-longest empty = nothing
-longest cue = cue-come
-longest level = level-come (level-limit - 1)
-longest (seq s t) = crossed (longest s) (longest t)
-longest (par s t) = beside (longest s) (longest t)
-longest (either s t) = longer (longest s) (longest t)
+unfoldable pub longest-prefix : Ty → Prefix
+longest-prefix empty = nothing
+longest-prefix cue = cue-come
+longest-prefix level = level-come (level-limit - 1)
+longest-prefix (seq s t) = crossed (longest-prefix s) (longest-prefix t)
+longest-prefix (par s t) = beside (longest-prefix s) (longest-prefix t)
+longest-prefix (either s t) = longer (longest-prefix s) (longest-prefix t)

@@ -48,7 +48,7 @@ fn onward(moved: Moved, before: usize) -> Moved
 }
 
 // Writes a section's count.
-fn put_count(count: usize, out: &mut [u8])
+pub fn put_count(count: usize, out: &mut [u8])
     requires { ⌜ (count ≤ 65535) × (2 ≤ length (now out)) ⌝ }
     ensures { λ _. ⌜ now (out .exit) ≡ at-front (count / 256 ∷ count % 256 ∷ []) (now (out .entry)) ⌝ }
 {

@@ -5,7 +5,7 @@ use mathlib.Core.List.{List, [], _∷_, map}
 use Prim.Native.Nat.{ℕ}
 use Rattle.stream.specs.Types.{Ty, empty, cue, level, seq, par, either}
 use Rattle.stream.specs.SliceFiles.{prefix-bytes}
-use Rattle.stream.specs.Longest.{longest}
+use Rattle.stream.specs.Longest.{longest-prefix}
 use Rattle.stream.specs.Computing.{stream-definitions}
 
 abbrev table : List (Ty × List ℕ)
@@ -27,6 +27,6 @@ table =
     ∷ []
 
 pub longest-examples :
-    map (λ (row : Ty × List ℕ). prefix-bytes (longest (row .0)) []) table ≡ map (λ (row : Ty × List ℕ). row .1) table
+    map (λ (row : Ty × List ℕ). prefix-bytes (longest-prefix (row .0)) []) table ≡ map (λ (row : Ty × List ℕ). row .1) table
 unfolding stream-definitions
 longest-examples = refl

@@ -4,16 +4,17 @@ use mathlib.Core.Bool.{Bool, true, false}
 use mathlib.Core.List.{List, [], append-nil}
 use Prim.Native.Nat.{ℕ, suc, _+_, _-_, _≤_, _<_}
 use native.Mathlib.Omega.{arith}
+use native.Mathlib.Nat.{le-trans}
 use lib.Dec.{leb}
 use lib.ListN.{length}
 use borrow.Author.Tests.{leb-true, leb-false}
 use Rattle.stream.specs.Types.{Ty, empty, cue, level, seq, par, either}
 use Rattle.stream.specs.Levels.{level-limit}
 use Rattle.stream.specs.Levels.Laws.{value-length}
-use Rattle.stream.specs.Prefixes.{Prefix, nothing, cue-awaited, cue-come, level-awaited, level-come, in-first, crossed, beside, none-chosen, first-chosen, second-chosen, Complete, whole-nothing, whole-cue, whole-level, whole-crossed, whole-beside, whole-first-chosen, whole-second-chosen, IsPrefix, of-empty, of-cue-awaited, of-cue-come, of-level-awaited, of-level-come, of-first, of-crossed, of-beside, of-none-chosen, of-first-chosen, of-second-chosen}
+use Rattle.stream.specs.Prefixes.{Prefix, nothing, cue-awaited, cue-come, level-awaited, level-come, in-first, crossed, beside, none-chosen, first-chosen, second-chosen, Complete, whole-nothing, whole-cue, whole-level, whole-crossed, whole-beside, whole-first-chosen, whole-second-chosen, IsPrefix, of-empty, of-cue-awaited, of-cue-come, of-level-awaited, of-level-come, of-first, of-crossed, of-beside, of-none-chosen, of-first-chosen, of-second-chosen, derivative}
 use Rattle.stream.specs.Reading.{section-bytes}
 use Rattle.stream.specs.SliceFiles.{prefix-bytes, slice-file-bytes, SliceFile}
-use Rattle.stream.specs.Longest.{byte-count, chosen, longer, longest}
+use Rattle.stream.specs.Longest.{byte-count, chosen, longer, longest-prefix}
 
 -- Bytes behind a prefix do not count for it.
 pub byte-count-before : (p : Prefix) (r : List ℕ) → length (prefix-bytes p r) ≡ byte-count p + length r
@@ -53,54 +54,89 @@ longer-than-both p q = go (leb (byte-count q) (byte-count p)) refl
 
 -- The longest prefix is complete, and a prefix.
 
-pub longest-complete : (t : Ty) → Complete (longest t)
-unfolding longest
-longest-complete empty = whole-nothing
-longest-complete cue = whole-cue
-longest-complete level = whole-level
-longest-complete (seq s t) = whole-crossed (longest-complete t)
-longest-complete (par s t) = whole-beside (longest-complete s) (longest-complete t)
-longest-complete (either s t) =
-    chosen-complete (leb (byte-count (longest t)) (byte-count (longest s))) (longest-complete s) (longest-complete t)
+pub longest-prefix-complete : (t : Ty) → Complete (longest-prefix t)
+unfolding longest-prefix
+longest-prefix-complete empty = whole-nothing
+longest-prefix-complete cue = whole-cue
+longest-prefix-complete level = whole-level
+longest-prefix-complete (seq s t) = whole-crossed (longest-prefix-complete t)
+longest-prefix-complete (par s t) = whole-beside (longest-prefix-complete s) (longest-prefix-complete t)
+longest-prefix-complete (either s t) =
+    chosen-complete (leb (byte-count (longest-prefix t)) (byte-count (longest-prefix s))) (longest-prefix-complete s) (longest-prefix-complete t)
 
-pub longest-is-prefix : (t : Ty) → IsPrefix t (longest t)
-unfolding longest level-limit
-longest-is-prefix empty = of-empty
-longest-is-prefix cue = of-cue-come
-longest-is-prefix level = of-level-come {v = level-limit - 1} (omega arith)
-longest-is-prefix (seq s t) = of-crossed (longest-is-prefix s) (longest-complete s) (longest-is-prefix t)
-longest-is-prefix (par s t) = of-beside (longest-is-prefix s) (longest-is-prefix t)
-longest-is-prefix (either s t) =
-    chosen-is-prefix (leb (byte-count (longest t)) (byte-count (longest s))) (longest-is-prefix s) (longest-is-prefix t)
+pub longest-prefix-is-prefix : (t : Ty) → IsPrefix t (longest-prefix t)
+unfolding longest-prefix level-limit
+longest-prefix-is-prefix empty = of-empty
+longest-prefix-is-prefix cue = of-cue-come
+longest-prefix-is-prefix level = of-level-come {v = level-limit - 1} (omega arith)
+longest-prefix-is-prefix (seq s t) = of-crossed (longest-prefix-is-prefix s) (longest-prefix-complete s) (longest-prefix-is-prefix t)
+longest-prefix-is-prefix (par s t) = of-beside (longest-prefix-is-prefix s) (longest-prefix-is-prefix t)
+longest-prefix-is-prefix (either s t) =
+    chosen-is-prefix (leb (byte-count (longest-prefix t)) (byte-count (longest-prefix s))) (longest-prefix-is-prefix s) (longest-prefix-is-prefix t)
 
 -- "No slice accepted for that type makes a longer one."
 
-pub none-longer : {t : Ty} {p : Prefix} → IsPrefix t p → byte-count p ≤ byte-count (longest t)
-unfolding longest prefix-bytes
+pub none-longer : {t : Ty} {p : Prefix} → IsPrefix t p → byte-count p ≤ byte-count (longest-prefix t)
+unfolding longest-prefix prefix-bytes
 none-longer of-empty = omega arith
 none-longer of-cue-awaited = omega arith
 none-longer of-cue-come = omega arith
 none-longer of-level-awaited = omega (arith, value-length (level-limit - 1) [])
 none-longer (of-level-come {v = v} h) = omega (arith, value-length v [], value-length (level-limit - 1) [])
 none-longer (of-first {s = s} {t = t} h) =
-    omega (arith, none-longer h, byte-count-before (longest s) (prefix-bytes (longest t) []))
+    omega (arith, none-longer h, byte-count-before (longest-prefix s) (prefix-bytes (longest-prefix t) []))
 none-longer (of-crossed {s = s} {t = t} {b = b} {q = q} h c k) =
-    omega (arith, none-longer h, none-longer k, byte-count-before b (prefix-bytes q []), byte-count-before (longest s) (prefix-bytes (longest t) []))
+    omega (arith, none-longer h, none-longer k, byte-count-before b (prefix-bytes q []), byte-count-before (longest-prefix s) (prefix-bytes (longest-prefix t) []))
 none-longer (of-beside {s = s} {t = t} {p = p} {q = q} h k) =
-    omega (arith, none-longer h, none-longer k, byte-count-before p (prefix-bytes q []), byte-count-before (longest s) (prefix-bytes (longest t) []))
-none-longer (of-none-chosen {s = s} {t = t}) = omega (arith, longer-than-both (longest s) (longest t))
-none-longer (of-first-chosen {s = s} {t = t} h) = omega (arith, none-longer h, longer-than-both (longest s) (longest t))
-none-longer (of-second-chosen {s = s} {t = t} h) = omega (arith, none-longer h, longer-than-both (longest s) (longest t))
+    omega (arith, none-longer h, none-longer k, byte-count-before p (prefix-bytes q []), byte-count-before (longest-prefix s) (prefix-bytes (longest-prefix t) []))
+none-longer (of-none-chosen {s = s} {t = t}) = omega (arith, longer-than-both (longest-prefix s) (longest-prefix t))
+none-longer (of-first-chosen {s = s} {t = t} h) = omega (arith, none-longer h, longer-than-both (longest-prefix s) (longest-prefix t))
+none-longer (of-second-chosen {s = s} {t = t} h) = omega (arith, none-longer h, longer-than-both (longest-prefix s) (longest-prefix t))
+
+-- Nor is a later slice longer: what is left of a type has no longer prefix than the type.
+pub none-longer-later : {t : Ty} {p : Prefix} → IsPrefix t p → byte-count (longest-prefix (derivative t p)) ≤ byte-count (longest-prefix t)
+unfolding longest-prefix derivative prefix-bytes
+none-longer-later of-empty = omega arith
+none-longer-later of-cue-awaited = omega arith
+none-longer-later of-cue-come = omega arith
+none-longer-later of-level-awaited = omega arith
+none-longer-later (of-level-come h) = omega (arith, value-length (level-limit - 1) [])
+none-longer-later (of-first {s = s} {t = t} {p = p} h) =
+    omega (
+      arith,
+      none-longer-later h,
+      byte-count-before (longest-prefix (derivative s p)) (prefix-bytes (longest-prefix t) []),
+      byte-count-before (longest-prefix s) (prefix-bytes (longest-prefix t) []),
+    )
+none-longer-later (of-crossed {s = s} {t = t} h c k) =
+    omega (arith, none-longer-later k, byte-count-before (longest-prefix s) (prefix-bytes (longest-prefix t) []))
+none-longer-later (of-beside {s = s} {t = t} {p = p} {q = q} h k) =
+    omega (
+      arith,
+      none-longer-later h,
+      none-longer-later k,
+      byte-count-before (longest-prefix (derivative s p)) (prefix-bytes (longest-prefix (derivative t q)) []),
+      byte-count-before (longest-prefix s) (prefix-bytes (longest-prefix t) []),
+    )
+none-longer-later of-none-chosen = omega arith
+none-longer-later (of-first-chosen {s = s} {t = t} h) = omega (arith, none-longer-later h, longer-than-both (longest-prefix s) (longest-prefix t))
+none-longer-later (of-second-chosen {s = s} {t = t} h) = omega (arith, none-longer-later h, longer-than-both (longest-prefix s) (longest-prefix t))
 
 -- The same of files: the count comes before the bytes of the prefix.
 
-slice-file-count : (p : Prefix) → length (slice-file-bytes p) ≡ 2 + byte-count p
+pub slice-file-count : (p : Prefix) → length (slice-file-bytes p) ≡ 2 + byte-count p
 unfolding slice-file-bytes section-bytes
 slice-file-count p = rw (append-nil (prefix-bytes p [])) (omega arith)
 
-pub no-file-longer : {t : Ty} {file : List ℕ} → SliceFile t file → length file ≤ length (slice-file-bytes (longest t))
+pub no-file-longer : {t : Ty} {file : List ℕ} → SliceFile t file → length file ≤ length (slice-file-bytes (longest-prefix t))
 no-file-longer {t} f =
-    rw (← f .bytes, slice-file-count (f .prefix), slice-file-count (longest t)) (omega (arith, none-longer (f .is-prefix)))
+    rw (← f .bytes, slice-file-count (f .prefix), slice-file-count (longest-prefix t)) (omega (arith, none-longer (f .is-prefix)))
 
-pub longest-slice-file : (t : Ty) → SliceFile t (slice-file-bytes (longest t))
-longest-slice-file t = record { prefix = longest t; is-prefix = longest-is-prefix t; bytes = refl }
+pub no-file-longer-later : {t : Ty} {p : Prefix} {file : List ℕ} → IsPrefix t p → SliceFile (derivative t p) file
+    → length file ≤ length (slice-file-bytes (longest-prefix t))
+no-file-longer-later {t} {p} h f =
+    le-trans (no-file-longer f)
+    (rw (slice-file-count (longest-prefix (derivative t p)), slice-file-count (longest-prefix t)) (omega (arith, none-longer-later h)))
+
+pub longest-slice-file : (t : Ty) → SliceFile t (slice-file-bytes (longest-prefix t))
+longest-slice-file t = record { prefix = longest-prefix t; is-prefix = longest-prefix-is-prefix t; bytes = refl }
