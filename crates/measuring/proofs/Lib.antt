@@ -1,0 +1,3 @@
+pub mod PlannedParts
+pub mod LongestWalk
+pub mod LongestFile
