@@ -12,6 +12,7 @@ use Rattle.stream.specs.Prefixes.{Prefix, derivative, Concat}
 use Rattle.stream.specs.Reading.{Result, accepted, refused}
 use Rattle.stream.specs.TypeFiles.{type-file-bytes}
 use Rattle.stream.specs.SliceFiles.{slice-file-bytes}
+use Rattle.stream.specs.Longest.{longest-prefix}
 use Rattle.node.specs.Nodes.{Patch}
 use Rattle.node.specs.Feeding.{FeedsPatch}
 use Rattle.node.specs.PatchFiles.{Checked, patch-file-bytes}
@@ -21,7 +22,7 @@ use Rattle.meaning.specs.Answers.{on-slice, on-slices, on-patch}
 pub mod Laws
 
 -- What the files of a call are read as, or the first fault in them: a type and a slice, two slices, a patch and a slice. (Check
--- reads a patch file, `patch-file`.)
+-- reads a patch file, `patch-file`, and Longest a type file, `type-file`.)
 abbrev pub type-and-slice : (type slice : List ℕ) → Result (Ty × Prefix)
 type-and-slice type slice = on-slice type slice (λ t p. accepted (t, p))
 
@@ -32,7 +33,7 @@ abbrev pub patch-and-slice : (patch slice : List ℕ) → Result (Patch × Prefi
 patch-and-slice patch slice = on-patch patch slice (λ a p. accepted (a, p))
 
 -- The files that are due for what was read: Check "writes its output type file", Admit writes nothing, Left what the slice leaves,
--- Join the two slices as one, Feed "the output slice file and the patch file left".
+-- Join the two slices as one, Feed "the output slice file and the patch file left", Longest the longest slice of the type.
 abbrev pub DueFromCheck : Checked → List (List ℕ) → Type 0
 DueFromCheck c files = files ≡ type-file-bytes (c .output) ∷ []
 
@@ -48,6 +49,9 @@ DueFromJoin (p, q) files = (both : Prefix) × Concat p q both × (files ≡ slic
 abbrev pub DueFromFeed : Patch × Prefix → List (List ℕ) → Type 0
 DueFromFeed (a, p) files =
     (sent : Prefix) × (next : Patch) × FeedsPatch a p sent next × (files ≡ slice-file-bytes sent ∷ patch-file-bytes next ∷ [])
+
+abbrev pub DueFromLongest : Ty → List (List ℕ) → Type 0
+DueFromLongest t files = files ≡ slice-file-bytes (longest-prefix t) ∷ []
 
 -- Each file fits the buffer that is lent for it; and what the buffers hold once they are written: "These stand at the front of the
 -- lent buffer, and the bytes behind them stay."

@@ -1,5 +1,5 @@
--- The starred cases of document 01, 1 to 9, and calls on choices (document 02, M-100), each as one table: a call by the contents of
--- the sections that it is handed, and what comes back.
+-- The starred cases of document 01, 1 to 9, and of document 02 calls on choices (M-100) and for the longest slice (M-101), each as one
+-- table: a call by the contents of the sections that it is handed, and what comes back.
 use mathlib.Core.Path.{_≡_, refl}
 use mathlib.Core.List.{List, [], _∷_, _++_, map}
 use Prim.Native.Nat.{ℕ}
@@ -7,13 +7,14 @@ use Rattle.stream.specs.Faults.{number}
 use Rattle.stream.specs.Reading.{Result, accepted, refused, section-bytes}
 use Rattle.stream.specs.Reading.Examples.{copies}
 use Rattle.node.specs.Computing.{node-definitions}
-use Rattle.meaning.specs.Answers.{check, admit, join, feed, FedFiles}
+use Rattle.meaning.specs.Answers.{check, admit, join, feed, longest, FedFiles}
 
 pub data Question : Type 0 where
   checking : (input nodes : List ℕ) → Question
   admitting : (type slice : List ℕ) → Question
   joining : (type first second : List ℕ) → Question
   feeding : (input nodes slice : List ℕ) → Question
+  measuring : (type : List ℕ) → Question
 
 -- What comes back: the number of a refusal, or the files written.
 pub data Answer : Type 0 where
@@ -36,6 +37,7 @@ answered (checking input nodes) = told (λ w. w ∷ []) (check (two-sections inp
 answered (admitting type slice) = told (λ c. []) (admit (a-section type) (a-section slice))
 answered (joining type first second) = told (λ w. w ∷ []) (join (a-section type) (a-section first) (a-section second))
 answered (feeding input nodes slice) = told (λ (w : FedFiles). w .output ∷ w .patch ∷ []) (feed (two-sections input nodes) (a-section slice))
+answered (measuring type) = told (λ w. w ∷ []) (longest (a-section type))
 
 abbrev pub sends-and-leaves : (output input nodes : List ℕ) → Answer
 sends-and-leaves output input nodes = files (a-section output ∷ two-sections input nodes ∷ [])
@@ -106,3 +108,26 @@ choices =
 pub choice-cases : map (λ (row : Question × Answer). answered (row .0)) choices ≡ map (λ (row : Question × Answer). row .1) choices
 unfolding node-definitions check admit join feed
 choice-cases = refl
+
+abbrev pub longest-slices : List (Question × Answer)
+longest-slices =
+    -- of equally long sides the first is chosen, whichever has more nodes; else the longer one
+    (measuring (5 ∷ 4 ∷ 1 ∷ 1 ∷ 2 ∷ []), writes-file (9 ∷ 7 ∷ 2 ∷ 2 ∷ []))
+    ∷ (measuring (5 ∷ 2 ∷ 4 ∷ 1 ∷ 1 ∷ []), writes-file (9 ∷ 4 ∷ 255 ∷ 255 ∷ []))
+    ∷ (measuring (5 ∷ 1 ∷ 2 ∷ []), writes-file (10 ∷ 4 ∷ 255 ∷ 255 ∷ []))
+    -- a sequence is crossed, also one that brings nothing
+    ∷ (measuring (3 ∷ 0 ∷ 0 ∷ []), writes-file (6 ∷ 0 ∷ 0 ∷ []))
+    ∷ (measuring (3 ∷ 1 ∷ 4 ∷ 1 ∷ 2 ∷ []), writes-file (6 ∷ 2 ∷ 7 ∷ 2 ∷ 4 ∷ 255 ∷ 255 ∷ []))
+    -- 255 nodes, of which 128 are levels: 511 bytes and the count
+    ∷ (measuring (copies 127 (4 ∷ 2 ∷ []) (2 ∷ [])), writes-file (copies 127 (7 ∷ 4 ∷ 255 ∷ 255 ∷ []) (4 ∷ 255 ∷ 255 ∷ [])))
+    -- the faults of a type
+    ∷ (measuring [], number-alone 1)
+    ∷ (measuring (3 ∷ 1 ∷ []), number-alone 1)
+    ∷ (measuring (3 ∷ 1 ∷ 200 ∷ []), number-alone 2)
+    ∷ (measuring (1 ∷ 1 ∷ []), number-alone 3)
+    ∷ (measuring (copies 128 (4 ∷ 2 ∷ []) (2 ∷ [])), number-alone 4)
+    ∷ []
+
+pub longest-cases : map (λ (row : Question × Answer). answered (row .0)) longest-slices ≡ map (λ (row : Question × Answer). row .1) longest-slices
+unfolding node-definitions longest
+longest-cases = refl

@@ -1,6 +1,6 @@
--- What else follows from the promises, call by call: what Check, Left and Join write and what Admit says, which numbers each operation
--- gives and when 20 comes, how long an answer is, that bytes stay bytes, that a promise leaves no choice, and that neither the cut of
--- a stream nor the order of two lanes changes the show.
+-- What else follows from the promises, call by call: what Check, Left, Join and Longest write and what Admit says, which numbers each
+-- operation gives and when 20 comes, how long an answer is, that bytes stay bytes, that a promise leaves no choice, that no slice of a run
+-- is longer than Longest says, and that neither the cut of a stream nor the order of two lanes changes the show.
 use mathlib.Core.Path.{_≡_, refl, sym, _∙_}
 use mathlib.Core.Bool.{true}
 use mathlib.Core.Logic.{_↔_, Iff·trans, _⊎_}
@@ -8,13 +8,14 @@ use mathlib.Core.List.{List, _∷_}
 use Prim.Native.Nat.{ℕ, _≤_}
 use lib.ListN.{length}
 use Rattle.stream.specs.Bounds.{type-file-limit, slice-file-limit, patch-file-limit}
-use Rattle.stream.specs.Faults.{patch-numbers, contains}
+use Rattle.stream.specs.Faults.{type-numbers, patch-numbers, contains}
 use Rattle.stream.specs.Types.{Ty, par, Small}
 use Rattle.stream.specs.Prefixes.{Prefix, beside, IsPrefix, Complete, empty-prefix, derivative, Concat}
 use Rattle.stream.specs.Prefixes.Laws.{concats, concat-only}
 use Rattle.stream.specs.Reading.{Bytes, accepted}
 use Rattle.stream.specs.TypeFiles.{type-file-bytes, TypeFile}
 use Rattle.stream.specs.SliceFiles.{slice-file-bytes, SliceFile}
+use Rattle.stream.specs.Longest.{longest-prefix}
 use Rattle.node.specs.Nodes.{Node, Patch, Allowed}
 use Rattle.node.specs.Feeding.{Feeds, FeedsPatch}
 use Rattle.node.specs.Feeding.Laws.{feeds, feeds-only}
@@ -22,13 +23,13 @@ use Rattle.node.specs.PatchFiles.{patch-file-bytes, PatchFile}
 use Rattle.meaning.specs.declared.Written.{Written}
 use Rattle.meaning.specs.declared.Admitted.{Admitted}
 use Rattle.meaning.specs.declared.Fed.{Fed}
-use Rattle.meaning.specs.Answers.{check, left, join, feed, fits-one, fits-both, admit-numbers, feed-numbers}
-use Rattle.meaning.specs.Answers.Laws.{lanes-join, check-accepted, left-accepted, join-accepted, feed-accepted-of-bytes, check-answers, admit-answers, left-answers, joins, check-refuses, admit-refuses, left-refuses, join-refuses, feed-refuses, check-sized, left-sized, join-sized, feed-sized-of-bytes}
-use Rattle.meaning.specs.Promises.{CheckPromise, AdmitPromise, LeftPromise, JoinPromise, FeedPromise}
+use Rattle.meaning.specs.Answers.{check, left, join, feed, longest, fits-one, fits-both, admit-numbers, feed-numbers}
+use Rattle.meaning.specs.Answers.Laws.{lanes-join, check-accepted, left-accepted, join-accepted, feed-accepted-of-bytes, longest-accepted, longest-of, check-answers, admit-answers, left-answers, joins, check-refuses, admit-refuses, left-refuses, join-refuses, feed-refuses, longest-refuses, check-sized, left-sized, join-sized, feed-sized-of-bytes, longest-sized}
+use Rattle.meaning.specs.Promises.{CheckPromise, AdmitPromise, LeftPromise, JoinPromise, FeedPromise, LongestPromise}
 use Rattle.demands.specs.Calls.{Wrote, WroteBoth, TooShortFor}
-use Rattle.demands.specs.Calls.Laws.{writes-aside, feeds-aside, writes-exactly, admits-complete, writes-listed, admits-listed, feeds-listed, writes-twenty, feeds-twenty, writes-bounded, feeds-bounded, writes-never-twenty, feeds-never-twenty, writes-bytes, feeds-bytes, writes-alike, admits-alike, feeds-alike}
-use Rattle.demands.specs.Runs.{Call, ByteSlices, RunEnd, Ran, Joined, AsOne}
-use Rattle.demands.specs.Runs.Laws.{run-patch, runs-alike, runs-agree, one-joined, one-patch, one-type, one-prefix}
+use Rattle.demands.specs.Calls.Laws.{writes-aside, feeds-aside, writes-exactly, admits-complete, writes-listed, admits-listed, feeds-listed, writes-twenty, feeds-twenty, writes-bounded, feeds-bounded, writes-never-twenty, feeds-never-twenty, writes-bytes, feeds-bytes, writes-alike, admits-alike, feeds-alike, one-type}
+use Rattle.demands.specs.Runs.{Call, ByteSlices, RunEnd, Ran, Joined, AsOne, NoneLonger}
+use Rattle.demands.specs.Runs.Laws.{run-patch, runs-alike, runs-agree, one-joined, one-patch, one-prefix, run-slices-fit, run-outputs-fit}
 use Rattle.demands.specs.Runs.Files.{OnFiles, on-files}
 use Rattle.demands.specs.Demands.{demand-2-slice, demand-2-sends}
 
@@ -172,6 +173,36 @@ module _ {patch slice output-lent patch-lent output-after patch-after : List ℕ
       → (answer ≡ also) × (output-after ≡ output-also) × (patch-after ≡ patch-also)
   one-answer-feed other = feeds-alike call other
 
+-- A call of Longest
+
+module _ (type : List ℕ) {lent lent-after : List ℕ} {answer : Written} (call : LongestPromise type lent answer lent-after) where
+  pub listed-longest : contains (0 ∷ 20 ∷ type-numbers) (answer .number) ≡ true
+  listed-longest = writes-listed call (longest-refuses type)
+
+  pub twenty-longest : answer .number ≡ 20 ↔ TooShortFor (fits-one (length lent)) (longest type)
+  twenty-longest = writes-twenty call (longest-refuses type)
+
+  pub aside-longest : Bytes type → (answer .number ≡ 0) ⊎ (answer .number ≡ 20) ↔ TypeFile type
+  aside-longest b = Iff·trans (writes-aside call (longest-refuses type)) (longest-accepted type b)
+
+  pub bound-longest : Bytes type → answer .written ≤ slice-file-limit
+  bound-longest b = writes-bounded call (longest-sized type b)
+
+  pub never-twenty-longest : Bytes type → slice-file-limit ≤ length lent → answer .number ≡ 20 → ⊥
+  never-twenty-longest b h = writes-never-twenty call (longest-refuses type) (longest-sized type b) h
+
+  pub bytes-longest : Bytes type → Bytes lent → Bytes lent-after
+  bytes-longest b c = writes-bytes call (longest-sized type b) c
+
+  pub one-answer-longest : {also : Written} {also-after : List ℕ} → LongestPromise type lent also also-after → (answer ≡ also) × (lent-after ≡ also-after)
+  one-answer-longest other = writes-alike call other
+
+-- Longest writes the longest slice of the type.
+pub longest-writes : {type lent lent-after : List ℕ} {answer : Written} → LongestPromise type lent answer lent-after → (t : TypeFile type)
+    → length (slice-file-bytes (longest-prefix (t .type))) ≤ length lent
+    → Wrote (slice-file-bytes (longest-prefix (t .type))) lent answer lent-after
+longest-writes call t h = writes-exactly call (longest-of t) h
+
 -- A call on the patch that a run has come to: that is a patch file, takes the prefixes of its input type, and is fed as the rules
 -- say.
 
@@ -190,6 +221,19 @@ module _ {start : List ℕ} {calls : List Call} {r : RunEnd} (ran : Ran start ca
       → length (slice-file-bytes sent) ≤ length output-lent → length (patch-file-bytes next) ≤ length patch-lent
       → WroteBoth (slice-file-bytes sent) (patch-file-bytes next) output-lent patch-lent answer output-after patch-after
   run-sends taken rule h k = demand-2-sends call (run-accepted ran patch b) taken rule h k
+
+-- What a link has to carry: no slice that a run takes is longer than the longest slice of the input type at the start, and no output
+-- longer than that of the output type. (The input type file is the first section of the patch; Check writes the output type file.)
+
+module _ {start : List ℕ} {calls : List Call} {r : RunEnd} (ran : Ran start calls r) (patch : PatchFile start) (b : ByteSlices calls)
+    {lent lent-after : List ℕ} {answer : Written} where
+  pub run-slices-none-longer : LongestPromise (type-file-bytes (patch .trees .input)) lent answer lent-after → answer .number ≡ 0
+      → NoneLonger (answer .written) (r .slices)
+  run-slices-none-longer call zero = run-slices-fit ran patch b call zero
+
+  pub run-outputs-none-longer : LongestPromise (type-file-bytes (patch .output)) lent answer lent-after → answer .number ≡ 0
+      → NoneLonger (answer .written) (r .outputs)
+  run-outputs-none-longer call zero = run-outputs-fit ran patch b call zero
 
 -- The rules of a node define an output and a node left, and one only.
 

@@ -1,19 +1,19 @@
--- The user's three demands, whole and in order. A statement takes the promise of the call that it speaks of: the very
+-- The user's three demands, whole and in order, and what a request of document 02 demands beside them. A statement takes the promise of the call that it speaks of: the very
 -- proposition that is the `ensures` of that operation (crates/wosthile/src/exports.rt), with the bytes handed in, the answer,
 -- and each lent buffer as it is afterwards. The prover shows the promise of every call, so nobody has to read it. What a reader
 -- has to believe is what the conclusions are written in: reading with the first fault (TypeFiles, SliceFiles, PatchFiles,
--- Checking), the rules (IsPrefix and Concat in Prefixes, Takes and Allowed in Nodes, Feeds in Feeding), and what is said of calls
--- and runs (Calls, Runs). `Bytes` says that a list of numbers is one of bytes, as whatever a byte slice holds is; nobody has to
+-- Checking), the rules (IsPrefix and Concat in Prefixes, Takes and Allowed in Nodes, Feeds in Feeding), the longest slice of a type
+-- (Longest), and what is said of calls and runs (Calls, Runs). `Bytes` says that a list of numbers is one of bytes, as whatever a byte slice holds is; nobody has to
 -- test it. `Consequences` has what else follows; the laws have the proofs.
 use mathlib.Core.Path.{_≡_}
 use mathlib.Core.Logic.{_↔_, Iff·trans}
 use mathlib.Core.List.{List, [], _∷_, _++_}
 use Prim.Native.Nat.{ℕ, _≤_}
-use lib.ListN.{length}
+use lib.ListN.{length, take}
 use Rattle.stream.specs.Bounds.{type-file-limit, slice-file-limit, patch-file-limit}
 use Rattle.stream.specs.Prefixes.{Prefix, derivative}
 use Rattle.stream.specs.Reading.{Bytes}
-use Rattle.stream.specs.TypeFiles.{TypeFile}
+use Rattle.stream.specs.TypeFiles.{type-file, TypeFile}
 use Rattle.stream.specs.SliceFiles.{slice-file-bytes, SliceFile}
 use Rattle.node.specs.Nodes.{Patch}
 use Rattle.node.specs.Feeding.{FeedsPatch}
@@ -21,10 +21,10 @@ use Rattle.node.specs.PatchFiles.{patch-file, patch-file-bytes, PatchFile}
 use Rattle.meaning.specs.declared.Written.{Written}
 use Rattle.meaning.specs.declared.Admitted.{Admitted}
 use Rattle.meaning.specs.declared.Fed.{Fed}
-use Rattle.meaning.specs.Answers.Laws.{check-accepted, admit-accepted, left-accepted, join-accepted, feed-accepted, feed-accepted-of-bytes, check-sized, left-sized, join-sized, feed-sized, feed-sized-of-bytes}
-use Rattle.meaning.specs.Promises.{CheckPromise, AdmitPromise, LeftPromise, JoinPromise, FeedPromise}
-use Rattle.demands.specs.Calls.{type-and-slice, two-slices, patch-and-slice, DueFromCheck, DueFromAdmit, DueFromLeft, DueFromJoin, DueFromFeed, Decided, WroteBoth}
-use Rattle.demands.specs.Calls.Laws.{check-decided, admit-decided, left-decided, join-decided, feed-decided, check-kept, admit-kept, left-kept, join-kept, feed-kept, writes-zero, admits-zero, feeds-zero, feeds-as-check}
+use Rattle.meaning.specs.Answers.Laws.{check-accepted, admit-accepted, left-accepted, join-accepted, feed-accepted, feed-accepted-of-bytes, longest-accepted, check-sized, left-sized, join-sized, longest-sized, feed-sized, feed-sized-of-bytes}
+use Rattle.meaning.specs.Promises.{CheckPromise, AdmitPromise, LeftPromise, JoinPromise, FeedPromise, LongestPromise}
+use Rattle.demands.specs.Calls.{type-and-slice, two-slices, patch-and-slice, DueFromCheck, DueFromAdmit, DueFromLeft, DueFromJoin, DueFromFeed, DueFromLongest, Decided, WroteBoth}
+use Rattle.demands.specs.Calls.Laws.{check-decided, admit-decided, left-decided, join-decided, feed-decided, longest-decided, check-kept, admit-kept, left-kept, join-kept, feed-kept, longest-kept, writes-zero, admits-zero, feeds-zero, feeds-as-check, none-admitted-longer, longest-admits}
 use Rattle.demands.specs.Runs.{Call, ByteSlices, RunEnd, Ran, Faithful, Through}
 use Rattle.demands.specs.Runs.Laws.{feed-by-rules, feed-defined, run-faithful, run-faithful-so-far, every-list-runs}
 
@@ -54,6 +54,10 @@ pub demand-1-feed : {file slice output-lent patch-lent output-after patch-after 
     (output-lent ∷ patch-lent ∷ []) (output-after ∷ patch-after ∷ [])
 demand-1-feed call bytes = feed-decided call bytes
 
+pub demand-1-longest : (type : List ℕ) {lent lent-after : List ℕ} {answer : Written} → LongestPromise type lent answer lent-after
+    → Decided (type-file type) DueFromLongest (answer .number) (answer .written ∷ []) (lent ∷ []) (lent-after ∷ [])
+demand-1-longest type call = longest-decided type call
+
 -- Nothing is left for the caller to test first. (The exports have no `requires`; and a promise asks nothing of what is handed
 -- in: whatever that is, some answer and buffers keep it.)
 
@@ -64,7 +68,8 @@ pub promises-can-be-kept :
     × ((type first second lent : List ℕ) → (answer : Written) × (lent-after : List ℕ) × JoinPromise type first second lent answer lent-after)
     × ((file slice output-lent patch-lent : List ℕ) → (answer : Fed) × (output-after : List ℕ) × (patch-after : List ℕ)
     × FeedPromise file slice output-lent patch-lent answer output-after patch-after)
-promises-can-be-kept = (check-kept, admit-kept, left-kept, join-kept, feed-kept)
+    × ((type lent : List ℕ) → (answer : Written) × (lent-after : List ℕ) × LongestPromise type lent answer lent-after)
+promises-can-be-kept = (check-kept, admit-kept, left-kept, join-kept, feed-kept, longest-kept)
 
 -- Every call ends, (Rattle proves of each function that it ends; one without that proof is not built)
 -- and a refused one alters no byte of a lent buffer." (`is-refused` and `is-short` in Decided: the buffers afterwards are the
@@ -109,6 +114,12 @@ pub demand-2-join : (type first second : List ℕ) {lent lent-after : List ℕ} 
     → answer .number ≡ 0 ↔ ((t : TypeFile type) × (p : SliceFile (t .type) first) × SliceFile (derivative (t .type) (p .prefix)) second)
 demand-2-join type first second call b c d h = Iff·trans (writes-zero call (join-sized type first second b c d) h) (join-accepted type first second b c d)
 
+-- (Longest takes no slice: a type, exactly when it is one.)
+
+pub demand-2-longest : (type : List ℕ) {lent lent-after : List ℕ} {answer : Written} → LongestPromise type lent answer lent-after
+    → Bytes type → slice-file-limit ≤ length lent → answer .number ≡ 0 ↔ TypeFile type
+demand-2-longest type call b h = Iff·trans (writes-zero call (longest-sized type b) h) (longest-accepted type b)
+
 -- Given long enough buffers, a feed sends the output and leaves the patch that those rules define." (For every prefix they define an
 -- output and a patch, and no other: one-rule in Consequences.)
 
@@ -144,3 +155,17 @@ demand-3 ran patch b = run-faithful ran patch b
 pub demand-3-after-every-feed : {start : List ℕ} {r : RunEnd} (calls more : List Call) → Ran start (calls ++ more) r → (patch : PatchFile start)
     → ByteSlices (calls ++ more) → (t : Through start calls more r) × Faithful patch (t .so-far)
 demand-3-after-every-feed calls more ran patch b = run-faithful-so-far calls more ran patch b
+
+-- Document 02, M-101. "From a type file, write a slice file such that no slice accepted for that type makes a longer one." (Whatever
+-- slice Admit accepts for the type is no longer than the file that Longest wrote; and that file Admit accepts too, as a complete
+-- slice.)
+
+pub none-longer : (type slice : List ℕ) {lent lent-after : List ℕ} {answer : Written} {seen : Admitted}
+    → LongestPromise type lent answer lent-after → answer .number ≡ 0 → AdmitPromise type slice seen → seen .number ≡ 0
+    → Bytes type → Bytes slice → length slice ≤ answer .written
+none-longer type slice call zero admits admitted b c = none-admitted-longer type call zero b slice admits admitted c
+
+pub longest-admitted : (type : List ℕ) {lent lent-after : List ℕ} {answer : Written} {seen : Admitted}
+    → LongestPromise type lent answer lent-after → answer .number ≡ 0 → Bytes type
+    → AdmitPromise type (take (answer .written) lent-after) seen → seen ≡ record { number = 0; complete = 1 }
+longest-admitted type call zero b admits = longest-admits type call zero b admits

@@ -83,3 +83,8 @@ pub record Through (start : List ℕ) (calls more : List Call) (r : RunEnd) : Ty
   pub rest : RunEnd
   pub goes-on : Ran (so-far .file) more rest
   pub comes-to : r ≡ record { file = rest .file; slices = so-far .slices ++ rest .slices; outputs = so-far .outputs ++ rest .outputs }
+
+-- No file of the list has more than n bytes.
+abbrev pub NoneLonger : ℕ → List (List ℕ) → Type 0
+NoneLonger n [] = Unit
+NoneLonger n (file ∷ files) = (length file ≤ n) × NoneLonger n files

@@ -1,4 +1,4 @@
--- What each operation answers, from the bytes handed in (document 01, Operations).
+-- What each operation answers, from the bytes handed in (document 01, Operations; document 02, M-101).
 use mathlib.Core.Bool.{Bool, true, false, _&&_}
 use mathlib.Core.List.{List, [], _∷_, _++_}
 use Prim.Native.Nat.{ℕ, _+_, _*_}
@@ -13,6 +13,7 @@ use Rattle.stream.specs.Prefixes.Functions.{complete, concat}
 use Rattle.stream.specs.Reading.{Result, accepted, refused, go-on, require}
 use Rattle.stream.specs.TypeFiles.{type-file, type-file-bytes}
 use Rattle.stream.specs.SliceFiles.{slice-file, slice-file-bytes}
+use Rattle.stream.specs.Longest.{longest-prefix}
 use Rattle.node.specs.Feeding.Functions.{sends, patch-left}
 use Rattle.node.specs.PatchFiles.{patch-file, patch-file-bytes}
 use Rattle.meaning.specs.declared.Written.{Written}
@@ -60,6 +61,10 @@ fed-files a p = record { output = slice-file-bytes (sends (a .input) (a .node) p
 
 unfoldable pub feed : List ℕ → List ℕ → Result FedFiles
 feed patch slice = on-patch patch slice (λ a p. accepted (fed-files a p))
+
+-- "From a type file, write a slice file such that no slice accepted for that type makes a longer one" (document 02, M-101).
+unfoldable pub longest : List ℕ → Result (List ℕ)
+longest type = go-on (type-file type) (λ t. accepted (slice-file-bytes (longest-prefix t)))
 
 -- "Last 20: the buffer is too short for this answer"; for Feed "20 if either buffer is too short".
 unfoldable pub with-room : {A : Type 0} → (A → Bool) → Result A → Result A
@@ -114,7 +119,7 @@ first-section (h ∷ []) = h ∷ []
 first-section (h ∷ l ∷ s) = h ∷ l ∷ take (h * 256 + l) s
 
 -- The numbers that document 01 lists for Admit, Left and Join ("1 to 4 as above", 11 to 14) and for Feed ("As Check without 20; 11
--- to 14"), 20 aside; for Check they are a patch's.
+-- to 14"), 20 aside; for Check they are a patch's, and for Longest a type's ("Faults of the type are 1 to 4, then 20").
 abbrev pub admit-numbers : List ℕ
 admit-numbers = type-numbers ++ slice-numbers
 

@@ -1,4 +1,4 @@
--- The promises of the five operations: each is the text of an `ensures`, and what the demands take of a call (crates/demands).
+-- The promises of the six operations: each is the text of an `ensures`, and what the demands take of a call (crates/demands).
 use mathlib.Core.Path.{_≡_}
 use mathlib.Core.Bool.{Bool}
 use mathlib.Core.List.{List}
@@ -7,7 +7,7 @@ use Rattle.stream.specs.Reading.{Result}
 use Rattle.meaning.specs.declared.Written.{Written}
 use Rattle.meaning.specs.declared.Admitted.{Admitted}
 use Rattle.meaning.specs.declared.Fed.{Fed}
-use Rattle.meaning.specs.Answers.{check, admit, left, join, feed, into-one, into-both, written, admitted, fed, after}
+use Rattle.meaning.specs.Answers.{check, admit, left, join, feed, longest, into-one, into-both, written, admitted, fed, after}
 
 -- What an operation with one lent buffer promises: `outcome` is what it has to write, 20 aside.
 pub record Writes (outcome : Result (List ℕ)) (lent : List ℕ) (answer : Written) (lent-after : List ℕ) : Type 0 where
@@ -34,3 +34,6 @@ pub record FeedPromise (patch slice output-lent patch-lent : List ℕ) (answer :
   pub answers : answer ≡ fed (into-both output-lent patch-lent (feed patch slice))
   pub output-buffer : output-after ≡ after (λ w. w .output) (into-both output-lent patch-lent (feed patch slice)) output-lent
   pub patch-buffer : patch-after ≡ after (λ w. w .patch) (into-both output-lent patch-lent (feed patch slice)) patch-lent
+
+abbrev pub LongestPromise : (type lent : List ℕ) → Written → List ℕ → Type 0
+LongestPromise type lent answer lent-after = Writes (longest type) lent answer lent-after

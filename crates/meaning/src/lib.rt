@@ -6,7 +6,7 @@ ghost use mathlib.Core.Path.{_≡_};
 ghost use Rattle.stream.specs.Reading.{refused};
 ghost use Rattle.meaning.specs.Answers.{written, admitted, fed};
 
-// Check, Left and Join: document 01's number, and how many bytes stand at the front of the lent buffer.
+// Check, Left, Join and Longest: document 01's number, and how many bytes stand at the front of the lent buffer.
 #[repr(C)]
 pub struct Written {
     pub number: u32,

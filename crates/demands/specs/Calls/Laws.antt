@@ -24,11 +24,14 @@ use Rattle.meaning.specs.declared.Written.{Written}
 use Rattle.meaning.specs.declared.Admitted.{Admitted}
 use Rattle.meaning.specs.declared.Fed.{Fed}
 use Rattle.stream.specs.Bounds.{slice-file-limit, patch-file-limit}
-use Rattle.meaning.specs.Answers.{with-room, number-of, value-of, as-number, after, fits-one, fits-both, written, admitted, fed, FedFiles, check, left, join, feed, admit, fed-files, into-both}
-use Rattle.meaning.specs.Answers.Laws.{number-positive, enough-room, room-accepted, room-refusals, both-fit, check-refused-feed, Refuses, WritesSized, FeedsSized}
-use Rattle.meaning.specs.Promises.{Writes, Admits, CheckPromise, AdmitPromise, LeftPromise, JoinPromise, FeedPromise}
-use Rattle.demands.specs.Calls.{type-and-slice, two-slices, patch-and-slice, DueFromCheck, DueFromAdmit, DueFromLeft, DueFromJoin, DueFromFeed, RoomFor, Wrote, WroteBoth, Decided, is-accepted, is-refused, is-short, TooShortFor, Ty}
-use Rattle.stream.specs.TypeFiles.{type-file, type-file-bytes}
+use Rattle.meaning.specs.Answers.{with-room, number-of, value-of, as-number, after, fits-one, fits-both, written, admitted, fed, FedFiles, check, left, join, feed, admit, longest, fed-files, into-both}
+use Rattle.meaning.specs.Answers.Laws.{number-positive, enough-room, room-accepted, room-refusals, both-fit, check-refused-feed, admit-answers, admit-accepted, longest-of, longest-accepted, Refuses, WritesSized, FeedsSized}
+use Rattle.meaning.specs.Promises.{Writes, Admits, CheckPromise, AdmitPromise, LeftPromise, JoinPromise, FeedPromise, LongestPromise}
+use Rattle.demands.specs.Calls.{type-and-slice, two-slices, patch-and-slice, DueFromCheck, DueFromAdmit, DueFromLeft, DueFromJoin, DueFromFeed, DueFromLongest, RoomFor, Wrote, WroteBoth, Decided, is-accepted, is-refused, is-short, TooShortFor, Ty}
+use Rattle.stream.specs.TypeFiles.{type-file, type-file-bytes, TypeFile}
+use Rattle.stream.specs.TypeFiles.Laws.{type-file-complete}
+use Rattle.stream.specs.Longest.{longest-prefix}
+use Rattle.stream.specs.Longest.Laws.{longest-prefix-is-prefix, longest-prefix-complete, no-file-longer}
 use Rattle.stream.specs.SliceFiles.{slice-file, slice-file-bytes}
 use Rattle.stream.specs.SliceFiles.Laws.{slice-file-sound}
 use Rattle.node.specs.PatchFiles.{patch-file, patch-file-bytes}
@@ -157,6 +160,25 @@ module _ {outcome : Result (List ℕ)} {lent : List ℕ} {answer : Written} {len
   writes-exactly {file} e h =
       let o = enough-room (fits-one (length lent)) outcome e (le-leb (length file) (length lent) h) in
       (promise .answers ∙ ap written o, promise .buffer ∙ ap (λ r. after (λ f. f) r lent) o)
+
+  -- An accepted call has written the file that it had to.
+  pub record WroteDue : Type 0 where
+    pub file : List ℕ
+    pub due : outcome ≡ accepted file
+    pub long : answer .written ≡ length file
+    pub in-front : take (answer .written) lent-after ≡ file
+
+  pub writes-accepted : answer .number ≡ 0 → WroteDue
+  unfolding written after
+  writes-accepted z =
+      let a = zero-accepted (with-room (fits-one (length lent)) outcome) .0 (sym told ∙ z) in
+      let says : answer .written ≡ length (a .0) = ap (λ (w : Written). w .written) (promise .answers ∙ ap written (a .1)) in
+      record {
+        file = a .0;
+        due = room-accepted (fits-one (length lent)) outcome (a .0) (a .1) .0;
+        long = says;
+        in-front = ap₂ take says (promise .buffer ∙ ap (λ r. after (λ f. f) r lent) (a .1)) ∙ take-append-seam (a .0) (drop (length (a .0)) lent);
+      }
 
   pub writes-zero : {most : ℕ} → WritesSized most outcome → most ≤ length lent → answer .number ≡ 0 ↔ IsAccepted outcome
   writes-zero l h = rw told (zero-with-room (fits-one (length lent)) outcome (all-fit l h))
@@ -295,6 +317,9 @@ pub feed-kept : (patch slice output-lent patch-lent : List ℕ)
     → (answer : Fed) × (output-after : List ℕ) × (patch-after : List ℕ) × FeedPromise patch slice output-lent patch-lent answer output-after patch-after
 feed-kept patch slice output-lent patch-lent = (_, _, _, record { answers = refl; output-buffer = refl; patch-buffer = refl })
 
+pub longest-kept : (type lent : List ℕ) → (answer : Written) × (lent-after : List ℕ) × LongestPromise type lent answer lent-after
+longest-kept type lent = writes-kept (longest type) lent
+
 pub writes-alike : {outcome : Result (List ℕ)} {lent x y : List ℕ} {a b : Written} → Writes outcome lent a x → Writes outcome lent b y
     → (a ≡ b) × (x ≡ y)
 writes-alike h k = (h .answers ∙ sym (k .answers), h .buffer ∙ sym (k .buffer))
@@ -403,6 +428,42 @@ join-decided type first second call =
     writes-decided (λ (x : Prefix × Prefix). slice-file-bytes (concat (x .0) (x .1))) joined-only (two-slices type first second)
     (rw (three-read (type-file type) (λ t. slice-file t first) (λ t p. slice-file (derivative t p) second)
     (λ p q. accepted (slice-file-bytes (concat p q)))) at call)
+
+pub longest-decided : (type : List ℕ) {lent lent-after : List ℕ} {answer : Written} → LongestPromise type lent answer lent-after
+    → Decided (type-file type) DueFromLongest (answer .number) (answer .written ∷ []) (lent ∷ []) (lent-after ∷ [])
+unfolding longest
+longest-decided type call = writes-decided (λ t. slice-file-bytes (longest-prefix t)) (λ t files due. due) (type-file type) call
+
+-- A type file is read in one way.
+pub one-type : {file : List ℕ} (a b : TypeFile file) → a .type ≡ b .type
+one-type {file} a b =
+    let x : type-file file ≡ accepted (a .type) = rw (a .bytes) at (type-file-complete (a .type) (a .small)) in
+    let y : type-file file ≡ accepted (b .type) = rw (b .bytes) at (type-file-complete (b .type) (b .small)) in cc
+
+-- What Longest writes, beside what Admit says of slices of the same type.
+
+module _ (type : List ℕ) {lent lent-after : List ℕ} {answer : Written} (call : LongestPromise type lent answer lent-after) (zero : answer .number ≡ 0)
+    (b : Bytes type) where
+  longest-type : TypeFile type
+  longest-type = let w = writes-accepted call zero in longest-accepted type b .0 (w .file, w .due)
+
+  longest-due : writes-accepted call zero .file ≡ slice-file-bytes (longest-prefix (longest-type .type))
+  longest-due = let d = writes-accepted call zero .due in let e = longest-of longest-type in cc
+
+  pub none-admitted-longer : (slice : List ℕ) {seen : Admitted} → AdmitPromise type slice seen → seen .number ≡ 0 → Bytes slice → length slice ≤ answer .written
+  none-admitted-longer slice admits z c =
+      let both = admit-accepted type slice b c .0 (admits-zero admits .0 z) in
+      let same : longest-prefix (longest-type .type) ≡ longest-prefix (both .0 .type) = ap longest-prefix (one-type longest-type (both .0)) in
+      rw (writes-accepted call zero .long, longest-due, same) (no-file-longer (both .1))
+
+  pub longest-admits : {seen : Admitted} → AdmitPromise type (take (answer .written) lent-after) seen → seen ≡ record { number = 0; complete = 1 }
+  unfolding admitted
+  longest-admits {seen} admits =
+      let t = longest-type .type in
+      let is : take (answer .written) lent-after ≡ slice-file-bytes (longest-prefix t) = writes-accepted call zero .in-front ∙ longest-due in
+      let says : admit type (slice-file-bytes (longest-prefix t)) ≡ accepted true
+      = rw (longest-type .bytes) at (admit-answers (longest-type .small) (longest-prefix-is-prefix t)) ∙ ap accepted (complete-complete (longest-prefix-complete t)) in
+      admits .answers ∙ ap (λ file. admitted (admit type file)) is ∙ ap admitted says
 
 -- Feed, which has two buffers. The rules leave no other files than the functions do.
 

@@ -22,17 +22,19 @@ use Rattle.node.specs.Feeding.Laws.{Preserved, preserved, leaves-allowed, feeds
 use Rattle.node.specs.Feeding.Lists.{Pieces, no-more, piece, concat-all, derivative-all, sends-all, leaves-all, sends-pieces, concat-all-is-prefix, derivative-concat-all, sends-concat-all, leaves-concat-all, leaves-all-allowed}
 use Rattle.node.specs.PatchFiles.{patch-file-bytes, PatchFile, patch-file, Checked}
 use Rattle.stream.specs.Buffers.{at-front}
+use Rattle.meaning.specs.declared.Written.{Written}
 use Rattle.meaning.specs.declared.Fed.{Fed}
 use Rattle.meaning.specs.Answers.{left, FedFiles, feed, fed-files}
-use Rattle.meaning.specs.Answers.Laws.{feed-of-patch, feed-answers}
-use Rattle.meaning.specs.Promises.{FeedPromise}
+use Rattle.meaning.specs.Answers.Laws.{feed-of-patch, feed-answers, longest-answers}
+use Rattle.meaning.specs.Promises.{FeedPromise, LongestPromise}
 use Rattle.demands.specs.Calls.{WroteBoth}
-use Rattle.demands.specs.Calls.Laws.{feeds-exactly, feeds-accepted, feed-kept, feeds-alike, left-only}
-use Rattle.demands.specs.Runs.{Call, ByteSlices, RunEnd, Ran, no-call, accepted-call, refused-call, Joined, alone, and-next, AsOne, Faithful, Through}
+use Rattle.demands.specs.Calls.Laws.{writes-accepted, feeds-exactly, feeds-accepted, feed-kept, feeds-alike, left-only}
+use Rattle.demands.specs.Runs.{Call, ByteSlices, RunEnd, Ran, no-call, accepted-call, refused-call, Joined, alone, and-next, AsOne, Faithful, Through, NoneLonger}
 use Rattle.stream.specs.Prefixes.Functions.{concat}
 use Rattle.node.specs.Nodes.Laws.{output-small, allowed-fits}
-use Rattle.stream.specs.TypeFiles.{type-file, TypeFile}
-use Rattle.stream.specs.TypeFiles.Laws.{type-file-complete}
+use Rattle.stream.specs.TypeFiles.{type-file-bytes}
+use Rattle.stream.specs.Longest.{longest-prefix}
+use Rattle.stream.specs.Longest.Laws.{no-file-longer, no-file-longer-later, longest-slice-file}
 use Rattle.node.specs.PatchFiles.Laws.{patch-file-complete}
 use native.Mathlib.Nat.{le-trans}
 
@@ -341,11 +343,6 @@ module _ {start : List ℕ} {calls others : List Call} {r q : RunEnd} {p : Prefi
 
 -- A file is read in one way.
 
-pub one-type : {file : List ℕ} (a b : TypeFile file) → a .type ≡ b .type
-one-type {file} a b =
-    let x : type-file file ≡ accepted (a .type) = rw (a .bytes) at (type-file-complete (a .type) (a .small)) in
-    let y : type-file file ≡ accepted (b .type) = rw (b .bytes) at (type-file-complete (b .type) (b .small)) in cc
-
 pub one-prefix : {t : Ty} {file : List ℕ} → Small t → (a b : SliceFile t file) → a .prefix ≡ b .prefix
 one-prefix w a b = one-slice w (a .is-prefix) (b .is-prefix) (a .bytes ∙ sym (b .bytes))
 
@@ -355,3 +352,35 @@ one-patch {file} a b =
     let y : patch-file file ≡ accepted (record { patch = b .trees; output = b .output }) = rw (b .bytes) at (patch-file-complete (b .allowed)) in
     let same : _≡_ {A = Checked} (record { patch = a .trees; output = a .output }) (record { patch = b .trees; output = b .output }) = cc in
     (ap (λ (c : Checked). c .patch) same, ap (λ (c : Checked). c .output) same)
+
+-- No slice of a run, and no output, is longer than the longest slice of its type at the start.
+
+pieces-fit : {t : Ty} {n : ℕ} (ps : List Prefix) → Pieces t ps → length (slice-file-bytes (longest-prefix t)) ≤ n → NoneLonger n (map slice-file-bytes ps)
+pieces-fit [] no-more h = tt
+pieces-fit (p ∷ ps) (piece k rest) h = (
+  le-trans (no-file-longer (record { prefix = p; is-prefix = k; bytes = refl })) h,
+  pieces-fit ps rest (le-trans (no-file-longer-later k (longest-slice-file _)) h),
+)
+
+-- What Longest tells of a type of at most 255 nodes.
+longest-told : (t : Ty) {lent lent-after : List ℕ} {answer : Written} → Small t → LongestPromise (type-file-bytes t) lent answer lent-after → answer .number ≡ 0
+    → length (slice-file-bytes (longest-prefix t)) ≤ answer .written
+longest-told t small call zero =
+    let w = writes-accepted call zero in
+    let same : slice-file-bytes (longest-prefix t) ≡ w .file = let d = w .due in let e = longest-answers t small in cc in
+    omega (arith, ap length same, w .long)
+
+module _ {start : List ℕ} {calls : List Call} {r : RunEnd} (ran : Ran start calls r) (patch : PatchFile start) (b : ByteSlices calls)
+    {lent lent-after : List ℕ} {answer : Written} where
+  pub run-slices-fit : LongestPromise (type-file-bytes (patch .trees .input)) lent answer lent-after → answer .number ≡ 0 → NoneLonger (answer .written) (r .slices)
+  run-slices-fit call zero =
+      let t = trace ran patch b in
+      rw (t .slices) (pieces-fit (t .pieces) (t .are-pieces) (longest-told (patch .trees .input) (patch .allowed .input-small) call zero))
+
+  pub run-outputs-fit : LongestPromise (type-file-bytes (patch .output)) lent answer lent-after → answer .number ≡ 0 → NoneLonger (answer .written) (r .outputs)
+  run-outputs-fit call zero =
+      let t = trace ran patch b in
+      let a = patch .allowed in
+      rw (t .outputs)
+      (pieces-fit (sends-all (patch .trees .input) (patch .trees .node) (t .pieces)) (sends-pieces (t .pieces) (a .types) (t .are-pieces))
+      (longest-told (patch .output) (output-small (a .types) (allowed-fits a)) call zero))

@@ -1,13 +1,13 @@
 -- Calls that tell the readings of document 01 apart (docs/DECISIONS.md): the order of the files in one call, the lengths that
--- 20 compares, what stands in a buffer afterwards, and Admit's answer.
+-- 20 compares, what stands in a buffer afterwards, Admit's answer, and the longest slice.
 use mathlib.Core.Path.{_≡_, refl}
 use mathlib.Core.List.{List, [], _∷_, _++_, map}
 use Prim.Native.Nat.{ℕ}
 use Rattle.stream.specs.Reading.{Result, accepted}
-use Rattle.stream.specs.Reading.Examples.{section-of}
+use Rattle.stream.specs.Reading.Examples.{section-of, copies}
 use Rattle.node.specs.Computing.{node-definitions}
 use Rattle.node.specs.PatchFiles.Examples.{sections}
-use Rattle.meaning.specs.Answers.{check, admit, left, join, feed, FedFiles, with-room, fits-one, fits-both, number-of, written, admitted, fed, after}
+use Rattle.meaning.specs.Answers.{check, admit, left, join, feed, longest, FedFiles, with-room, fits-one, fits-both, number-of, written, admitted, fed, after}
 
 -- A patch that passes a cue, and a slice in which it has come.
 abbrev passing : List ℕ
@@ -84,3 +84,15 @@ pub admit-examples :
     ∷ record { number = 14; complete = 0 } ∷ []
 unfolding node-definitions admit admitted
 admit-examples = refl
+
+-- The longest slice of a type: of 255 nodes with 128 levels it has 513 bytes, which fit a buffer of 513, and not one of 512.
+abbrev longest-in : ℕ → List ℕ → Result (List ℕ)
+longest-in lent type = with-room (fits-one lent) (longest (section-of type))
+
+pub longest-examples :
+    written (longest-in 513 (copies 127 (4 ∷ 2 ∷ []) (2 ∷ []))) ∷ written (longest-in 512 (copies 127 (4 ∷ 2 ∷ []) (2 ∷ [])))
+    ∷ written (longest-in 6 (5 ∷ 1 ∷ 2 ∷ [])) ∷ written (longest-in 5 (5 ∷ 1 ∷ 2 ∷ [])) ∷ written (longest-in 0 (5 ∷ 1 ∷ 200 ∷ [])) ∷ []
+    ≡ record { number = 0; written = 513 } ∷ record { number = 20; written = 0 }
+    ∷ record { number = 0; written = 6 } ∷ record { number = 20; written = 0 } ∷ record { number = 2; written = 0 } ∷ []
+unfolding node-definitions longest with-room written
+longest-examples = refl

@@ -22,15 +22,17 @@ use Rattle.stream.specs.Reading.{Bytes, Result, accepted, refused, IsAccepted, 
 use Rattle.stream.specs.Reading.Laws.{bytes-nil, go-on-accepted, require-accepted}
 use Rattle.stream.specs.Reading.Refusals.{Refusals, go-on-refusals, require-refusals, refusals-too, listed-first, listed-second}
 use Rattle.stream.specs.TypeFiles.{type-bytes, type-file, type-file-bytes, TypeFile}
-use Rattle.stream.specs.TypeFiles.Laws.{type-file-complete, type-file-sound, type-file-length, type-section-is-bytes, type-file-refusals}
+use Rattle.stream.specs.TypeFiles.Laws.{type-file-complete, type-file-sound, type-file-length, type-section-is-bytes, type-file-accepted, type-file-refusals}
 use Rattle.stream.specs.SliceFiles.{slice-file, slice-file-bytes, SliceFile}
 use Rattle.stream.specs.SliceFiles.Laws.{prefix-short, slice-file-complete, slice-file-sound, slice-file-accepted, slice-file-length, slice-file-is-bytes, slice-file-refusals}
+use Rattle.stream.specs.Longest.{longest-prefix}
+use Rattle.stream.specs.Longest.Laws.{longest-prefix-is-prefix}
 use Rattle.node.specs.Nodes.{Node, Allowed, patch-of}
 use Rattle.node.specs.Nodes.Laws.{output-small, allowed-fits}
 use Rattle.node.specs.Feeding.Laws.{preserved, leaves-allowed}
 use Rattle.node.specs.PatchFiles.{Checked, node-bytes, patch-file, patch-file-bytes, PatchFile}
 use Rattle.node.specs.PatchFiles.Laws.{patch-file-complete, patch-file-sound, patch-file-accepted, patch-file-length, patch-file-is-bytes, patch-file-refusals}
-use Rattle.meaning.specs.Answers.{check, admit, left, join, FedFiles, feed, with-room, fits-both, admit-numbers, feed-numbers, first-section, fed-files}
+use Rattle.meaning.specs.Answers.{check, admit, left, join, FedFiles, feed, longest, with-room, fits-both, admit-numbers, feed-numbers, first-section, fed-files}
 
 -- No refusal has the number 0, and none has more than two digits.
 pub number-bounds : (e : Fault) → (1 ≤ number e) × (number e ≤ 99)
@@ -94,6 +96,10 @@ feed-of-patch slice a = rw (patch-file-complete a)
 pub feed-answers : {s t : Ty} {n : Node} {p : Prefix} → Allowed s n t → IsPrefix s p
     → feed (patch-file-bytes (patch-of s n)) (slice-file-bytes p) ≡ accepted (fed-files (patch-of s n) p)
 feed-answers {p = p} a h = feed-of-patch (slice-file-bytes p) a ∙ rw (slice-file-complete h (prefix-short h (a .input-small)))
+
+pub longest-answers : (t : Ty) → Small t → longest (type-file-bytes t) ≡ accepted (slice-file-bytes (longest-prefix t))
+unfolding longest
+longest-answers t w = rw (type-file-complete t w)
 
 -- What is accepted, 20 aside
 
@@ -174,6 +180,18 @@ join-accepted type first second b c d = (
       let q = slice-file-sound (derivative t p) second (y .0) d (y .1) in
       (x .typed, x .sliced, record { prefix = y .0; is-prefix = q .1; bytes = q .0 })),
   (λ x. (_, joins (x .0) (x .1) (x .2) (concats _ (x .1 .is-prefix) (x .2 .is-prefix)))),
+)
+
+-- Longest of a type file.
+pub longest-of : {type : List ℕ} (t : TypeFile type) → longest type ≡ accepted (slice-file-bytes (longest-prefix (t .type)))
+longest-of t = rw (t .bytes) at (longest-answers (t .type) (t .small))
+
+pub longest-accepted : (type : List ℕ) → Bytes type → IsAccepted (longest type) ↔ TypeFile type
+unfolding longest
+longest-accepted type b = (
+  (λ a. let x = go-on-accepted (type-file type) (λ t. accepted (slice-file-bytes (longest-prefix t))) (a .0) (a .1) in
+      type-file-accepted type b .0 (x .0, x .1)),
+  (λ t. (_, longest-of t)),
 )
 
 -- What Check refuses, Feed refuses too, whatever the slice.
@@ -259,6 +277,11 @@ feed-refuses patch slice =
       not-20 = refl;
     }
 
+pub longest-refuses : (type : List ℕ) → Refuses type-numbers (longest type)
+unfolding longest
+longest-refuses type =
+    record { only = go-on-refusals (Listed type-numbers) (type-file type) _ (type-file-refusals type) (λ t. tt); not-20 = refl }
+
 -- What the operations write: no file is longer than n, and all are bytes.
 
 pub record Sized (n : ℕ) (file : List ℕ) : Type 0 where
@@ -317,6 +340,15 @@ join-file type first second file b c o e =
 
 pub join-sized : (type first second : List ℕ) → Bytes type → Bytes first → Bytes second → WritesSized slice-file-limit (join type first second)
 join-sized type first second b c d = record { sized = λ file e. join-file type first second file b c d e }
+
+longest-file : (type file : List ℕ) → Bytes type → longest type ≡ accepted file → Sized slice-file-limit file
+longest-file type file b e =
+    let t = longest-accepted type b .0 (file, e) in
+    let d : slice-file-bytes (longest-prefix (t .type)) ≡ file = let z = longest-of t in cc in
+    rw (← d) (slice-sized (longest-prefix-is-prefix (t .type)) (t .small))
+
+pub longest-sized : (type : List ℕ) → Bytes type → WritesSized slice-file-limit (longest type)
+longest-sized type b = record { sized = λ file e. longest-file type file b e }
 
 pub record FedSized (w : FedFiles) : Type 0 where
   pub output : Sized slice-file-limit (w .output)
