@@ -3,14 +3,15 @@
  *
  * A stream has a type: a tree of cues and 16-bit levels, of parts that follow one another, of parts that run side by
  * side, and of parts of which one is chosen. A slice says what has come of a stream since the slice before. A patch is
- * a tree of nodes that takes a stream of one type to a stream of another. Five operations work on the files of all
+ * a tree of nodes that takes a stream of one type to a stream of another. Six operations work on the files of all
  * three:
  *
- *   wosthile_check   is this a patch, and which type has the stream that it sends?
- *   wosthile_admit   is this a slice of that type, and has everything come?
- *   wosthile_left    what the slice leaves of the type: what is still to come
- *   wosthile_join    two slices, the second of what the first leaves, as one slice
- *   wosthile_feed    what the patch sends for a slice, and the patch that is left for the next slice
+ *   wosthile_check     is this a patch, and which type has the stream that it sends?
+ *   wosthile_admit     is this a slice of that type, and has everything come?
+ *   wosthile_left      what the slice leaves of the type: what is still to come
+ *   wosthile_join      two slices, the second of what the first leaves, as one slice
+ *   wosthile_feed      what the patch sends for a slice, and the patch that is left for the next slice
+ *   wosthile_longest   the longest slice of a type, by which the packets of a link are sized
  *
  * Files. A section is a count of two bytes, the high byte first, and then that many bytes. They hold one tree in
  * preorder: the root, then its parts from left to right. Each node of a tree begins with the byte of its kind
@@ -76,7 +77,7 @@
 #include <stdint.h>
 
 /* The release, for people. */
-#define WOSTHILE_RELEASE "1.1.0"
+#define WOSTHILE_RELEASE "1.2.0"
 
 /* The binary interface: changes whenever a struct or a function below asks for compiling again. See wosthile_abi. */
 #define WOSTHILE_ABI 1
@@ -323,6 +324,31 @@ wosthile_written wosthile_join(const uint8_t *type, size_t type_len, const uint8
  */
 wosthile_fed wosthile_feed(const uint8_t *patch, size_t patch_len, const uint8_t *slice, size_t slice_len,
                            uint8_t *output, size_t output_len, uint8_t *left, size_t left_len);
+
+/*
+ * Writes to slice the file of a longest slice of the type, at most WOSTHILE_SLICE_FILE_MAX bytes: no slice that
+ * wosthile_admit accepts for this type has a longer file; the one written is accepted and complete. Refuses the type
+ * with 1 to 4, then with 20.
+ *
+ * Every cue and every level has come, the levels at their largest, and every sequence is crossed. Of an either the side
+ * is chosen whose slice is longer, in bytes and not in nodes; where both are equally long, the first.
+ *
+ *   type      its longest slice
+ *   0         0
+ *   1         2
+ *   2         4 255 255
+ *   3 s t     6, the longest of s, the longest of t
+ *   4 s t     7, the longest of s, the longest of t
+ *   5 s t     9, the longest of s; or 10, the longest of t, if that is the longer of the two
+ *
+ * So 5 4 1 1 2 gives 9 7 2 2, and 5 2 4 1 1 gives 9 4 255 255: both sides have three bytes, and the first is chosen.
+ *
+ * Whoever sizes the packets of a link calls it twice, before the show: with the input type of the patch, its first
+ * section, for the slices that the show takes; and with the type that wosthile_check writes, for those that it gives.
+ * This holds to the end of the show. Every later slice is one of what the slices before it leave, and the longest of
+ * what is left is never longer than the longest of the whole; nor is a slice that wosthile_join makes of several.
+ */
+wosthile_written wosthile_longest(const uint8_t *type, size_t type_len, uint8_t *slice, size_t slice_len);
 
 /*
  * The WOSTHILE_ABI that the archive was built for, for callers that do not include this header.
