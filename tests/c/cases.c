@@ -1,5 +1,6 @@
 /*
- * Calls of Check, Admit, Left and Join through the header alone, each with the answer that documents 01 and 02 give.
+ * Calls of Check, Admit, Left, Join and Longest through the header alone, each with the answer that documents 01 and 02
+ * give.
  * Every file is in memory of its exact size, where a sanitizer sees a byte too many. Every lent buffer is between two
  * margins, which show a byte written beside it: the archive itself has no sanitizer in it.
  */
@@ -252,7 +253,7 @@ static const struct admit_row admit_rows[] = {
     {"none chosen at the byte, before the cut", FILE_OF(3, 5, 1, 2, 1), FILE_OF(6, 8), {14, 0}},
 };
 
-/* An operation that writes: Check of a patch, Left of a type and a slice, Join of a type and two slices. */
+/* An operation that writes: Check of a patch, Left of a type and a slice, Join of a type and two, Longest of a type. */
 struct writing_row {
     const char *name;
     struct bytes file, first, second; /* the patch or the type, and the slices; none where it takes fewer */
@@ -355,6 +356,72 @@ static const struct writing_row join_rows[] = {
     {"an unlisted kind after a choice", FILE_OF(5, 1, 2), FILE_OF(9, 1), FILE_OF(15), 12, NONE},
 };
 
+static const struct writing_row longest_rows[] = {
+    {"empty", FILE_OF(0), NONE, NONE, 0, FILE_OF(0)},
+    {"a cue has come", FILE_OF(1), NONE, NONE, 0, FILE_OF(2)},
+    {"a level is at its largest", FILE_OF(2), NONE, NONE, 0, FILE_OF(4, 255, 255)},
+    {"a sequence is crossed", FILE_OF(3, 1, 2), NONE, NONE, 0, FILE_OF(6, 2, 4, 255, 255)},
+    {"a sequence of empty parts is crossed", FILE_OF(3, 0, 0), NONE, NONE, 0, FILE_OF(6, 0, 0)},
+    {"a sequence in a first part", FILE_OF(3, 3, 1, 2, 0), NONE, NONE, 0, FILE_OF(6, 6, 2, 4, 255, 255, 0)},
+    {"a sequence in a second part", FILE_OF(3, 0, 3, 2, 1), NONE, NONE, 0, FILE_OF(6, 0, 6, 4, 255, 255, 2)},
+    {"both sides have come", FILE_OF(4, 2, 1), NONE, NONE, 0, FILE_OF(7, 4, 255, 255, 2)},
+    {"empty sides", FILE_OF(4, 0, 0), NONE, NONE, 0, FILE_OF(7, 0, 0)},
+    {"a sequence beside a sequence", FILE_OF(4, 3, 1, 1, 3, 0, 2), NONE, NONE, 0,
+     FILE_OF(7, 6, 2, 2, 6, 0, 4, 255, 255)},
+
+    {"the first is longer", FILE_OF(5, 2, 1), NONE, NONE, 0, FILE_OF(9, 4, 255, 255)},
+    {"the second is longer", FILE_OF(5, 1, 2), NONE, NONE, 0, FILE_OF(10, 4, 255, 255)},
+    {"the first is a byte longer", FILE_OF(5, 5, 4, 1, 1, 0, 2), NONE, NONE, 0, FILE_OF(9, 9, 7, 2, 2)},
+    {"the second is a byte longer", FILE_OF(5, 2, 5, 4, 1, 1, 0), NONE, NONE, 0, FILE_OF(10, 9, 7, 2, 2)},
+    {"the second is of more nodes and bytes", FILE_OF(5, 4, 1, 1, 4, 1, 4, 1, 1), NONE, NONE, 0,
+     FILE_OF(10, 7, 2, 7, 2, 2)},
+
+    {"equally long, empty parts", FILE_OF(5, 0, 0), NONE, NONE, 0, FILE_OF(9, 0)},
+    {"equally long, cues", FILE_OF(5, 1, 1), NONE, NONE, 0, FILE_OF(9, 2)},
+    {"equally long, levels", FILE_OF(5, 2, 2), NONE, NONE, 0, FILE_OF(9, 4, 255, 255)},
+    {"equally long, nothing and a cue", FILE_OF(5, 0, 1), NONE, NONE, 0, FILE_OF(9, 0)},
+    {"equally long, a cue and nothing", FILE_OF(5, 1, 0), NONE, NONE, 0, FILE_OF(9, 2)},
+    {"equally long, two cues and a level", FILE_OF(5, 4, 1, 1, 2), NONE, NONE, 0, FILE_OF(9, 7, 2, 2)},
+    {"equally long, a crossing and a level", FILE_OF(5, 3, 0, 0, 2), NONE, NONE, 0, FILE_OF(9, 6, 0, 0)},
+    {"equally long, choices", FILE_OF(5, 5, 1, 1, 5, 1, 1), NONE, NONE, 0, FILE_OF(9, 9, 2)},
+    {"equally long, the second in the first", FILE_OF(5, 5, 1, 2, 5, 2, 1), NONE, NONE, 0, FILE_OF(9, 10, 4, 255, 255)},
+    {"equally long, in a first part, a side and a second part", FILE_OF(3, 5, 1, 0, 4, 5, 1, 1, 5, 0, 1), NONE, NONE, 0,
+     FILE_OF(6, 9, 2, 7, 9, 2, 9, 0)},
+
+    {"bytes and not nodes, a level and two cues", FILE_OF(5, 2, 4, 1, 1), NONE, NONE, 0, FILE_OF(9, 4, 255, 255)},
+    {"bytes and not nodes, a level and a sequence", FILE_OF(5, 2, 3, 1, 0), NONE, NONE, 0, FILE_OF(9, 4, 255, 255)},
+    {"bytes and not nodes, fewer nodes second", FILE_OF(5, 4, 1, 4, 1, 1, 4, 2, 2), NONE, NONE, 0,
+     FILE_OF(10, 7, 4, 255, 255, 4, 255, 255)},
+    {"bytes and not nodes, fewer nodes first", FILE_OF(5, 4, 2, 2, 4, 1, 4, 1, 1), NONE, NONE, 0,
+     FILE_OF(9, 7, 4, 255, 255, 4, 255, 255)},
+    {"of the slice and not of the type", FILE_OF(5, 5, 0, 0, 2), NONE, NONE, 0, FILE_OF(10, 4, 255, 255)},
+    {"of the slice and not of a nest of choices", FILE_OF(5, 4, 2, 2, 5, 1, 5, 1, 5, 1, 1), NONE, NONE, 0,
+     FILE_OF(9, 7, 4, 255, 255, 4, 255, 255)},
+
+    {"a choice in a first part", FILE_OF(3, 5, 1, 2, 1), NONE, NONE, 0, FILE_OF(6, 10, 4, 255, 255, 2)},
+    {"a choice in a second part", FILE_OF(3, 1, 5, 2, 1), NONE, NONE, 0, FILE_OF(6, 2, 9, 4, 255, 255)},
+    {"a choice on each side", FILE_OF(4, 5, 1, 2, 5, 2, 1), NONE, NONE, 0, FILE_OF(7, 10, 4, 255, 255, 9, 4, 255, 255)},
+    {"what is behind a part that is not chosen", FILE_OF(4, 5, 4, 2, 2, 3, 1, 1, 1), NONE, NONE, 0,
+     FILE_OF(7, 9, 7, 4, 255, 255, 4, 255, 255, 2)},
+    {"a choice in a chosen sequence", FILE_OF(5, 1, 3, 5, 1, 2, 1), NONE, NONE, 0, FILE_OF(10, 6, 10, 4, 255, 255, 2)},
+
+    {"no type file", NONE, NONE, NONE, 1, NONE},
+    {"type file of one byte", RAW(0), NONE, NONE, 1, NONE},
+    {"type section without contents", RAW(0, 0), NONE, NONE, 1, NONE},
+    {"type section longer than the file", RAW(0, 2, 1), NONE, NONE, 1, NONE},
+    {"length before contents", RAW(0, 2, 200), NONE, NONE, 1, NONE},
+    {"type section that claims 65535 bytes", RAW(255, 255, 1), NONE, NONE, 1, NONE},
+    {"type tree cut short", FILE_OF(3, 1), NONE, NONE, 1, NONE},
+    {"either with one part", FILE_OF(5, 2), NONE, NONE, 1, NONE},
+    {"unlisted type kind", FILE_OF(200), NONE, NONE, 2, NONE},
+    {"unlisted type kind below", FILE_OF(4, 1, 19), NONE, NONE, 2, NONE},
+    {"unlisted type kind in a part that would not be chosen", FILE_OF(5, 4, 2, 2, 19), NONE, NONE, 2, NONE},
+    {"bytes after the type", FILE_OF(1, 1), NONE, NONE, 3, NONE},
+    {"bytes after the type are not looked at", FILE_OF(1, 200), NONE, NONE, 3, NONE},
+    {"bytes after the type section", RAW(0, 1, 1, 0), NONE, NONE, 3, NONE},
+    {"a patch file is no type file", PATCH_OF((1), (0)), NONE, NONE, 3, NONE},
+};
+
 static void check_admit(const struct admit_row *row)
 {
     uint8_t *type = copy_of(row->type);
@@ -366,9 +433,9 @@ static void check_admit(const struct admit_row *row)
     free(slice);
 }
 
-enum writing { CHECK, LEFT, JOIN };
+enum writing { CHECK, LEFT, JOIN, LONGEST };
 
-static const char *const writing_names[] = {"Check", "Left", "Join"};
+static const char *const writing_names[] = {"Check", "Left", "Join", "Longest"};
 
 /* The call, on copies of the row's files. */
 static wosthile_written call(enum writing operation, const struct writing_row *row, uint8_t *const copies[3],
@@ -380,8 +447,10 @@ static wosthile_written call(enum writing operation, const struct writing_row *r
         return wosthile_check(copies[0], file, buffer, room);
     case LEFT:
         return wosthile_left(copies[0], file, copies[1], first, buffer, room);
-    default:
+    case JOIN:
         return wosthile_join(copies[0], file, copies[1], first, copies[2], second, buffer, room);
+    default:
+        return wosthile_longest(copies[0], file, buffer, room);
     }
 }
 
@@ -428,6 +497,25 @@ static void check_patch(const struct check_row *row)
     check_writing(CHECK, &written);
 }
 
+/* Longest; what it writes is a slice of the type, and a complete one. */
+static void check_longest(const struct writing_row *row)
+{
+    uint8_t slice[WOSTHILE_SLICE_FILE_MAX];
+    check_writing(LONGEST, row);
+    if (row->number == WOSTHILE_ACCEPTED) {
+        size_t written = wosthile_longest(row->file.at, row->file.count, slice, sizeof slice).written;
+        wosthile_admitted seen = wosthile_admit(row->file.at, row->file.count, slice, written);
+        count(seen.number == 0 && seen.complete == 1, "Admit of what Longest writes", row->name, written);
+    }
+}
+
+static void check_longest_of(const char *name, struct bytes type, uint32_t number, struct bytes answer)
+{
+    const struct bytes none = NONE;
+    struct writing_row row = {name, type, none, none, number, answer};
+    check_longest(&row);
+}
+
 static void check_admit_of(const char *name, struct bytes type, struct bytes slice, wosthile_admitted answer)
 {
     struct admit_row row = {name, type, slice, answer};
@@ -454,6 +542,13 @@ static void check_limit(void)
 
     struct writing_row left = {"255 nodes, nothing has come", largest, nothing, none, 0, largest};
     check_writing(LEFT, &left);
+
+    check_longest_of("255 nodes", largest, 0, all);
+    check_longest_of("257 nodes", larger, 4, none);
+    check_longest_of("128 forks and nothing more", forks, 1, none);
+    check_longest_of("255 forks and nothing more", more_forks, 4, none);
+    check_longest_of("a 256th node is needed", needed, 4, none);
+    check_longest_of("a 256th node is needed before it is unlisted", needed_unlisted, 4, none);
 
     struct bytes files[] = {largest, larger, forks, more_forks, needed, needed_unlisted, all, nothing};
     release(files, sizeof files / sizeof files[0]);
@@ -637,9 +732,10 @@ static void check_long_files(void)
 {
     const struct bytes lane = RAW(4, 2), level = RAW(2), come = RAW(7, 4, 1, 2), last = RAW(4, 255, 255);
     const struct bytes awaited = RAW(7, 3), not_yet = RAW(3), type = FILE_OF(1), slice = FILE_OF(2);
-    const struct bytes claim = RAW(255, 255, 1), slice_claim = RAW(255, 255, 2);
+    const struct bytes claim = RAW(255, 255, 1), slice_claim = RAW(255, 255, 2), at_most = RAW(7, 4, 255, 255);
+    const struct bytes none = NONE;
     struct bytes levels = repeated(lane, 127, level), all = repeated(come, 127, last);
-    struct bytes nothing = repeated(awaited, 127, not_yet);
+    struct bytes largest = repeated(at_most, 127, last), nothing = repeated(awaited, 127, not_yet);
     struct bytes type_mebibyte = lengthened(type, 1 << 20), slice_mebibyte = lengthened(slice, 1 << 20);
     struct bytes type_section = lengthened(claim, 65537), slice_section = lengthened(slice_claim, 65537);
 
@@ -652,7 +748,12 @@ static void check_long_files(void)
     count(all.count == WOSTHILE_SLICE_FILE_MAX && levels.count == WOSTHILE_TYPE_FILE_MAX, "sizes", join.name, 0);
     check_writing(JOIN, &join);
 
-    struct bytes files[] = {levels, all, nothing, type_mebibyte, slice_mebibyte, type_section, slice_section};
+    count(largest.count == WOSTHILE_SLICE_FILE_MAX, "sizes", "128 levels at their largest", 0);
+    check_longest_of("128 levels at their largest", levels, 0, largest);
+    check_longest_of("a type file of a mebibyte", type_mebibyte, 3, none);
+    check_longest_of("a type section of 65535 bytes", type_section, 3, none);
+
+    struct bytes files[] = {levels, all, largest, nothing, type_mebibyte, slice_mebibyte, type_section, slice_section};
     release(files, sizeof files / sizeof files[0]);
 }
 
@@ -680,6 +781,76 @@ static void check_shared_memory(void)
     buffer[0] = 9;
     wosthile_written left = wosthile_left(cue, sizeof cue, cue, sizeof cue, buffer, 0);
     count(left.number == 20 && left.written == 0 && buffer[0] == 9, "Left", "a pointer with length 0", 0);
+    wosthile_written longest = wosthile_longest(cue, 0, buffer, sizeof buffer);
+    count(longest.number == 1 && longest.written == 0 && buffer[0] == 9, "Longest", "a pointer with length 0", 0);
+    longest = wosthile_longest(cue, sizeof cue, buffer, 0);
+    count(longest.number == 20 && longest.written == 0 && buffer[0] == 9, "Longest", "a buffer of length 0", 0);
+}
+
+/*
+ * A type of the most nodes whose forks are one below the other, all in first parts or all in second parts, with its
+ * longest slice. A fork's other part is a leaf; of an either that is not chosen, and then it has no bytes in the slice.
+ */
+struct nest {
+    const char *name;
+    size_t forks;
+    struct bytes fork, leaf, deepest;
+    struct bytes in_first, in_second; /* what a fork is in the slice, by the part in which the next one is */
+    struct bytes leaf_come, deepest_come;
+};
+
+static const struct nest nests[] = {
+    {"sequences of levels", 127, RAW(3), RAW(2), RAW(2), RAW(6), RAW(6), RAW(4, 255, 255), RAW(4, 255, 255)},
+    {"sides of levels", 127, RAW(4), RAW(2), RAW(2), RAW(7), RAW(7), RAW(4, 255, 255), RAW(4, 255, 255)},
+    {"sequences of cues", 127, RAW(3), RAW(1), RAW(1), RAW(6), RAW(6), RAW(2), RAW(2)},
+    {"sides of empty parts", 127, RAW(4), RAW(0), RAW(0), RAW(7), RAW(7), RAW(0), RAW(0)},
+    {"eithers of cues, a level below", 127, RAW(5), RAW(1), RAW(2), RAW(9), RAW(10), NONE, RAW(4, 255, 255)},
+    {"eithers of levels, the last equally long", 126, RAW(5), RAW(2), RAW(5, 2, 2), RAW(9), RAW(10), NONE,
+     RAW(9, 4, 255, 255)},
+    {"eithers of empty parts, the last equally long", 126, RAW(5), RAW(0), RAW(5, 0, 1), RAW(9), RAW(10), NONE,
+     RAW(9, 0)},
+    {"eithers of levels, the last shorter", 125, RAW(5), RAW(2), RAW(5, 2, 5, 1, 1), RAW(9), RAW(10), NONE,
+     RAW(9, 4, 255, 255)},
+};
+
+/* The file of a tree nested in first parts: the forks, the deepest part, and as many leaves. */
+static struct bytes nested_in_first(struct bytes fork, size_t forks, struct bytes deepest, struct bytes leaf)
+{
+    const struct bytes none = NONE;
+    struct bytes above = repeated(fork, forks, none);
+    const struct bytes front = {above.at + 2, above.count - 2};
+    struct bytes behind = file_of((struct section){deepest, leaf, forks, none});
+    const struct bytes end = {behind.at + 2, behind.count - 2};
+    struct bytes file = file_of((struct section){front, none, 0, end});
+    struct bytes files[] = {above, behind};
+    release(files, sizeof files / sizeof files[0]);
+    return file;
+}
+
+/* The file of a tree nested in second parts: each fork with its leaf, and the deepest part. */
+static struct bytes nested_in_second(struct bytes fork, size_t forks, struct bytes deepest, struct bytes leaf)
+{
+    const struct bytes none = NONE;
+    struct bytes one = file_of((struct section){fork, none, 0, leaf});
+    const struct bytes each = {one.at + 2, one.count - 2};
+    struct bytes file = repeated(each, forks, deepest);
+    release(&one, 1);
+    return file;
+}
+
+static void check_nest(const struct nest *nest)
+{
+    size_t forks = nest->forks;
+    struct bytes files[] = {
+        nested_in_first(nest->fork, forks, nest->deepest, nest->leaf),
+        nested_in_first(nest->in_first, forks, nest->deepest_come, nest->leaf_come),
+        nested_in_second(nest->fork, forks, nest->deepest, nest->leaf),
+        nested_in_second(nest->in_second, forks, nest->deepest_come, nest->leaf_come),
+    };
+    count(files[0].count == WOSTHILE_TYPE_FILE_MAX && files[2].count == WOSTHILE_TYPE_FILE_MAX, "sizes", nest->name, 0);
+    check_longest_of(nest->name, files[0], 0, files[1]);
+    check_longest_of(nest->name, files[2], 0, files[3]);
+    release(files, sizeof files / sizeof files[0]);
 }
 
 int main(void)
@@ -698,6 +869,12 @@ int main(void)
     }
     for (size_t row = 0; row < sizeof join_rows / sizeof join_rows[0]; row++) {
         check_writing(JOIN, &join_rows[row]);
+    }
+    for (size_t row = 0; row < sizeof longest_rows / sizeof longest_rows[0]; row++) {
+        check_longest(&longest_rows[row]);
+    }
+    for (size_t nest = 0; nest < sizeof nests / sizeof nests[0]; nest++) {
+        check_nest(&nests[nest]);
     }
     const struct bytes cue = RAW(1), level = RAW(2);
     check_large_outputs("choose, both give 255 nodes", level, level, 0);
