@@ -1,6 +1,6 @@
 /*
  * Longest, held to Admit alone, for every type of a few nodes. The types and their slices are found byte by byte: what
- * the library calls cut short is made longer, and what it accepts counts. So no rule of a kind is written down here.
+ * the library calls cut short is made longer, and what it accepts counts. So no rule of a type is written down here.
  *
  * For each type: no accepted slice has a longer file than the one that Longest writes. Of the complete slices of that
  * length, with every level at its largest, it is the first in the order of their bytes: where an either's sides are
@@ -10,7 +10,7 @@
 
 enum { NODES_MAX = 7, CONTENTS_MAX = 3 * NODES_MAX, TYPES_LEAST = 10000 };
 
-/* A file of one section that is made longer and shorter at its end. */
+/* A file of one section that grows at its end. */
 struct growing {
     uint8_t bytes[2 + CONTENTS_MAX + 3];
     size_t count;

@@ -2,8 +2,9 @@
  * How much stack the calls need. Each is made on a stack that was painted before, with the deepest files there are:
  * types of 127 forks, nested in the first parts or in the second, and slices that go all the way down; patches of 31
  * forks, nested likewise, that give types of 255 nodes, and for Feed have at their deepest node the deepest stream; and
- * patches of choose and chain, of which a slice chooses the nested side, the other one or none. The most that any call
- * has used, beside an empty thread, is held to WOSTHILE_STACK_MAX.
+ * patches of choose and chain, of which a slice chooses the nested side, the other one or none. Longest has types of
+ * forks of one kind and of each in turn, nested on one side and on each in turn, above leaves of every kind. The most
+ * that any call has used, beside an empty thread, is held to WOSTHILE_STACK_MAX.
  */
 #define _XOPEN_SOURCE 700 /* for pthread_attr_setstack */
 #include <pthread.h>
@@ -426,7 +427,36 @@ static void make_choosing(struct files *files, struct choosing choosing, struct 
     put_choosing_slice(&files->first, choices, choosing.way, depth);
 }
 
-enum operation { NOTHING, CHECK, ADMIT, LEFT, JOIN, FEED };
+/* A type for Longest. Its forks are sequences, lanes or eithers, nested on one side; or each of these in turn. */
+struct type_nest {
+    int forks, sides, leaf;
+};
+
+enum { FORK_KINDS = 3, FORKS_IN_TURN = FORK_KINDS, SIDES_IN_TURN = 2, LEAF_KINDS = 3 };
+enum { TYPE_NESTS = (FORKS_IN_TURN + 1) * (SIDES_IN_TURN + 1) * LEAF_KINDS };
+
+static struct type_nest type_nest_of(int which)
+{
+    return (struct type_nest){which / LEAF_KINDS / (SIDES_IN_TURN + 1), which / LEAF_KINDS % (SIDES_IN_TURN + 1),
+                              which % LEAF_KINDS};
+}
+
+static void make_type_nest(struct file *type, struct type_nest nest)
+{
+    struct leaf leaf = LEAF((uint8_t)nest.leaf);
+    size_t contents = begin(type);
+    for (int level = 0; level < TYPE_FORKS; level++) {
+        int fork = 3 + (nest.forks == FORKS_IN_TURN ? level % FORK_KINDS : nest.forks);
+        put_above(type, 1, fork, leaf, nest.sides == SIDES_IN_TURN ? level % 2 : nest.sides);
+    }
+    put_leaf(type, leaf);
+    for (int level = TYPE_FORKS - 1; level >= 0; level--) {
+        put_behind(type, 1, leaf, nest.sides == SIDES_IN_TURN ? level % 2 : nest.sides);
+    }
+    end(type, contents);
+}
+
+enum operation { NOTHING, CHECK, ADMIT, LEFT, JOIN, FEED, LONGEST };
 
 struct call {
     const struct files *files;
@@ -460,6 +490,9 @@ static void *make(void *word)
         call->number = wosthile_feed(whole->bytes, whole->length, first->bytes, first->length, answer, sizeof answer,
                                      patch_left, sizeof patch_left)
                            .number;
+        break;
+    case LONGEST:
+        call->number = wosthile_longest(whole->bytes, whole->length, answer, sizeof answer).number;
         break;
     default:
         call->number = 0;
@@ -535,10 +568,27 @@ static size_t most_of_choosing(enum operation operation)
     return greatest;
 }
 
+/* The most that Longest uses on any of its types. */
+static size_t most_of_longest(void)
+{
+    static struct files files;
+    size_t greatest = 0;
+    for (int which = 0; which < TYPE_NESTS; which++) {
+        files = (struct files){0};
+        make_type_nest(&files.whole, type_nest_of(which));
+        size_t need = most(LONGEST, &files, 1);
+        greatest = need > greatest ? need : greatest;
+    }
+    return greatest;
+}
+
 enum { STREAMS = 8, PATCHES = 6 };
 
 static size_t need_of(enum operation operation, const struct files *streams, const struct files *patches)
 {
+    if (operation == LONGEST) {
+        return most_of_longest();
+    }
     if (operation != CHECK && operation != FEED) {
         return most(operation, streams, STREAMS);
     }
@@ -550,7 +600,7 @@ static size_t need_of(enum operation operation, const struct files *streams, con
 int main(void)
 {
     static struct files streams[STREAMS], patches[PATCHES];
-    static const char *const names[] = {"", "Check", "Admit", "Left", "Join", "Feed"};
+    static const char *const names[] = {"", "Check", "Admit", "Left", "Join", "Feed", "Longest"};
     int fits = 1;
     make_lanes(&streams[0], FIRST_PARTS);
     make_lanes(&streams[1], SECOND_PARTS);
@@ -563,7 +613,7 @@ int main(void)
         make_pairs(&patches[2 + side].whole, side);
         make_thens(&patches[4 + side].whole, side);
     }
-    for (int operation = CHECK; operation <= FEED; operation++) {
+    for (int operation = CHECK; operation <= LONGEST; operation++) {
         size_t need = need_of(operation, streams, patches);
         printf("stack of %s: %zu bytes at most, %d stated\n", names[operation], need, WOSTHILE_STACK_MAX);
         fits = fits && need <= WOSTHILE_STACK_MAX;
