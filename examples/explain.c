@@ -17,9 +17,13 @@ static const char help[] =
     "\n"
     "  SHOW      a show file: its patch; then frame by frame what comes and what is sent for it; how it ends. Lanes\n"
     "            have the names in X.lanes beside X.show. With --all also every slice byte by byte.\n"
-    "  --patch   a patch: the type of its input, its nodes with the types that each takes and gives, its output type\n"
-    "  --type    a type\n"
+    "  --patch   a patch: the type of its input, its nodes with the types that each takes and gives, its output type,\n"
+    "            and the longest slice of its input and of its output\n"
+    "  --type    a type, and its longest slice byte by byte\n"
     "  --slice   a slice of a type, whether it is complete, and what it leaves of the type\n"
+    "\n"
+    "The longest slice of a type is for whoever sizes the packets of a link: it is told in bytes of a slice file, and\n"
+    "no slice of a stream of that type, be it the first or a later one, makes a longer file.\n"
     "\n"
     "Bytes are counted from 0 at the front of the file; a count or a length has two bytes, the high byte first. What\n"
     "is refused is told with its number, the number's sentence, and the place of the fault.\n"
@@ -40,6 +44,17 @@ static void explain_type_section(const struct listed *listed, const char *what, 
     type_text(line, (struct file){listed->file.bytes + 2, end - 2});
     printf("%s%s%s\n", what, whole ? ": " : "", whole ? line : "");
     list_type(listed, end);
+}
+
+/* How long the slices of an accepted type can get; if they are wanted, with the bytes, as --slice takes them. */
+static void print_longest(const char *which, struct file type, bool with_bytes)
+{
+    uint8_t slice[WOSTHILE_SLICE_FILE_MAX];
+    size_t length = wosthile_longest(type.bytes, type.length, slice, sizeof slice).written;
+    printf("Longest slice of %s: %zu bytes as a file\n", which, length);
+    for (size_t place = 0; with_bytes && place < length; place++) {
+        printf("%s%u%s", place == 0 ? "    " : " ", slice[place], place + 1 == length ? "\n" : "");
+    }
 }
 
 static enum status explain_type(struct file type)
@@ -117,6 +132,8 @@ static enum status explain_patch(const struct listed *listed, const struct side_
     if (fault.number == WOSTHILE_ACCEPTED) {
         struct listed output = {.file = type_file(&tree->nodes[0].output), .names = out};
         explain_type_section(&output, "Output type, a file that Check writes", output.file.length, true);
+        print_longest("the input type", (struct file){listed->file.bytes, 2 + section_of(listed->file).length}, false);
+        print_longest("the output type", output.file, false);
     } else {
         char place[MESSAGE_BYTES];
         patch_fault_text(place, sizeof place, listed->file, listed->names, listed->show);
@@ -270,7 +287,14 @@ static enum status explain_words(int count, char **words)
         return explain_slice(given_file(&first), given_file(&second));
     }
     struct listed listed = {.file = given_file(&first)};
-    return strcmp(words[1], "--patch") == 0 ? explain_patch(&listed, NULL) : explain_type(listed.file);
+    if (strcmp(words[1], "--patch") == 0) {
+        return explain_patch(&listed, NULL);
+    }
+    enum status status = explain_type(listed.file);
+    if (status == STATUS_DONE) {
+        print_longest("this type", listed.file, true);
+    }
+    return status;
 }
 
 /* How many files, or their bytes, follow a word; 0 if it is the name of a show. */

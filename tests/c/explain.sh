@@ -35,7 +35,7 @@ explains_all_slices() {
         [ "$(grep -c '^frame [0-9]*, the slice' "$folder/out")" -eq "$3" ]
 }
 
-# A refusal with its number and its place in words: refused NUMBER PLACE WORDS
+# A refusal with its number and its place in words, and with no longest slice: refused NUMBER PLACE WORDS
 refused() {
     local number=$1 place=$2
     shift 2
@@ -46,6 +46,12 @@ refused() {
         echo "explain $*: not refused with $number at '$place'"
         return 1
     fi
+    tells_no_longest
+}
+
+tells_no_longest() {
+    grep -i 'longest' "$folder/out" && echo "a longest slice of what is refused, or was not asked for" && return 1
+    return 0
 }
 
 # Bytes again and again: times 3 '4 1'
@@ -182,6 +188,50 @@ explains_what_is_accepted() {
         explains 0 --patch "$folder/patch" && diff "$folder/by-bytes" "$folder/out"
 }
 
+# A type's longest slice, its length and its bytes: longest LENGTH BYTES TYPE. Given back, it is a complete slice.
+longest() {
+    local length=$1 bytes=$2 type=$3
+    explains 0 --type "$type" || return 1
+    if [ "$(tail -n 2 "$folder/out")" != "Longest slice of this type: $length bytes as a file"$'\n'"    $bytes" ]; then
+        cat "$folder/out"
+        echo "explain --type '$type': '$bytes' of $length bytes is due"
+        return 1
+    fi
+    explains 0 --slice "$type" "$(tail -n 1 "$folder/out")" && grep -q '^The slice is complete\.' "$folder/out" &&
+        tells_no_longest
+}
+
+# The longest slices of a patch, of its input and of its output: longest_both INPUT OUTPUT WORDS
+longest_both() {
+    local input=$1 output=$2
+    shift 2
+    explains 0 "$@" && diff - <(grep -i 'longest' "$folder/out") <<END
+Longest slice of the input type: $input bytes as a file
+Longest slice of the output type: $output bytes as a file
+END
+}
+
+# Where both sides of an either are equally long the first is told; bytes count, and not nodes.
+explains_longest_types() {
+    longest 3 '0 1 0' '0 1 0' &&
+        longest 9 '0 7 7 2 6 4 255 255 2' '0 5 4 1 3 2 1' &&
+        longest 6 '0 4 10 4 255 255' '0 3 5 1 2' &&
+        longest 6 '0 4 9 7 2 2' '0 5 5 4 1 1 2' &&
+        longest 6 '0 4 9 4 255 255' '0 5 5 2 4 1 1' &&
+        longest 513 "1 255 $(times 127 '7 4 255 255')4 255 255" "0 255 $(times 127 '4 2') 2"
+}
+
+# A patch has one for its input and one for its output; a show's patch too, and none if it is refused.
+explains_longest_of_patches() {
+    printf '\0\6\0\1\1\0\1\5' >"$folder/refused.show"
+    printf '\0\7\0\1\1\0\2\21\2\0\3\0\1\2' >"$folder/marked.show"
+    longest_both 3 3 --patch '0 1 1 0 1 0' &&
+        longest_both 3 6 --patch '0 1 1 0 2 17 2' &&
+        longest_both 9 3 --patch '0 5 3 4 1 2 1 0 1 8' &&
+        longest_both 3 6 "$folder/marked.show" && longest_both 3 6 "$folder/marked.show" --all &&
+        explains 1 "$folder/refused.show" && tells_no_longest
+}
+
 # Words and files that cannot be used.
 explains_nothing() {
     explains 2 && explains 2 --patch && explains 2 --slice '0 1 1' && explains 2 --type '0 1 300' &&
@@ -239,6 +289,8 @@ holds "counts that promise too much" explains_unread_sections
 holds "each number" explains_each_number
 holds "wrong lengths in a show" explains_wrong_lengths
 holds "what is accepted" explains_what_is_accepted
+holds "longest slices of types" explains_longest_types
+holds "longest slices of patches" explains_longest_of_patches
 holds "words and files that cannot be used" explains_nothing
 [ "$failed" -eq 0 ] && echo "explain, $compiler ${words[*]}: all held"
 exit "$failed"
