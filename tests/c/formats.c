@@ -194,6 +194,13 @@ static struct answer call_feed(const struct call *call)
     return (struct answer){fed.number, 0, {fed.output, fed.patch}};
 }
 
+static struct answer call_longest(const struct call *call)
+{
+    const struct bytes *type = &call->files[0];
+    wosthile_written written = wosthile_longest(type->at, type->count, call->lent[0], call->rooms[0]);
+    return (struct answer){written.number, 0, {written.written, 0}};
+}
+
 /* An operation as the page writes it. The rooms are those of its buffers where the line gives none. */
 struct operation {
     const char *word;
@@ -209,6 +216,7 @@ static const struct operation operations[] = {
     {"left", 2, 1, {"leaves", NULL}, {WOSTHILE_TYPE_FILE_MAX, 0}, call_left},
     {"join", 3, 1, {"gives", NULL}, {WOSTHILE_SLICE_FILE_MAX, 0}, call_join},
     {"feed", 2, 2, {"sends", "leaves"}, {WOSTHILE_SLICE_FILE_MAX, WOSTHILE_PATCH_FILE_MAX}, call_feed},
+    {"longest", 1, 1, {"gives", NULL}, {WOSTHILE_SLICE_FILE_MAX, 0}, call_longest},
 };
 
 enum { OPERATIONS = sizeof operations / sizeof operations[0] };
