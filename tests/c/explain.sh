@@ -232,6 +232,11 @@ explains_longest_of_patches() {
         explains 1 "$folder/refused.show" && tells_no_longest
 }
 
+# The README tells a link engineer what is stored for the show that it names.
+readme_tells_longest() {
+    grep '^Longest slice of ' README.md | diff - <(grep '^Longest slice of ' examples/shows/choose_a_sky_north.explained)
+}
+
 # Words and files that cannot be used.
 explains_nothing() {
     explains 2 && explains 2 --patch && explains 2 --slice '0 1 1' && explains 2 --type '0 1 300' &&
@@ -291,6 +296,7 @@ holds "wrong lengths in a show" explains_wrong_lengths
 holds "what is accepted" explains_what_is_accepted
 holds "longest slices of types" explains_longest_types
 holds "longest slices of patches" explains_longest_of_patches
+holds "longest slices in the README" readme_tells_longest
 holds "words and files that cannot be used" explains_nothing
 [ "$failed" -eq 0 ] && echo "explain, $compiler ${words[*]}: all held"
 exit "$failed"
