@@ -4,11 +4,12 @@ use crate::check;
 use crate::feed;
 use crate::join;
 use crate::left;
+use crate::longest;
 use meaning::Admitted;
 use meaning::Fed;
 use meaning::Written;
 ghost use mathlib.Core.Path.{_≡_};
-ghost use Rattle.meaning.specs.Promises.{CheckPromise, AdmitPromise, LeftPromise, JoinPromise, FeedPromise};
+ghost use Rattle.meaning.specs.Promises.{CheckPromise, AdmitPromise, LeftPromise, JoinPromise, FeedPromise, LongestPromise};
 
 #[no_mangle]
 pub extern "C" fn wosthile_check(patch: &[u8], out: &mut [u8]) -> Written
@@ -43,6 +44,13 @@ pub extern "C" fn wosthile_feed(patch: &[u8], slice: &[u8], out: &mut [u8], next
     ensures { λ r. ⌜ FeedPromise (now (patch .entry)) (now (slice .entry)) (now (out .entry)) (now (next .entry)) r (now (out .exit)) (now (next .exit)) ⌝ }
 {
     feed(patch, slice, out, next)
+}
+
+#[no_mangle]
+pub extern "C" fn wosthile_longest(ty: &[u8], out: &mut [u8]) -> Written
+    ensures { λ r. ⌜ LongestPromise (now (ty .entry)) (now (out .entry)) r (now (out .exit)) ⌝ }
+{
+    longest(ty, out)
 }
 
 // The binary interface that a program is built for: WOSTHILE_ABI of the header.

@@ -5,6 +5,8 @@ use leaf_feeding::Stepped;
 use meaning::Admitted;
 use meaning::Fed;
 use meaning::Written;
+use measuring::plan_longest;
+use measuring::write_longest_file;
 use patch_reading::PatchPlace;
 use patch_reading::PatchRead;
 use patch_reading::read_patch_file;
@@ -21,7 +23,7 @@ use typing::type_node;
 use writing::slices::read_slice_file;
 use writing::write_joined_file;
 use writing::write_section;
-ghost use Rattle.meaning.specs.Promises.{CheckPromise, AdmitPromise, LeftPromise, JoinPromise, FeedPromise};
+ghost use Rattle.meaning.specs.Promises.{CheckPromise, AdmitPromise, LeftPromise, JoinPromise, FeedPromise, LongestPromise};
 ghost use Rattle.patch_reading.specs.PatchReads.{AcceptedPatch};
 ghost use Rattle.wosthile.specs.FeedReads.{Refuses, FeedRead, FewRead, SendDue};
 ghost use Rattle.wosthile.specs.PatchWriting.{PatchWriteDue, PatchWritten};
@@ -277,6 +279,29 @@ pub fn feed(patch: &[u8], slice: &[u8], out: &mut [u8], next: &mut [u8]) -> Fed
                     let remains = prefix.remains;
                     send_on(patch, place, slice, &left[..remains], out, next)
                 }
+            }
+        }
+    }
+}
+
+// The file of the longest slice of the type. Its length is known once the type has been planned, before a byte is written.
+pub fn longest(ty: &[u8], out: &mut [u8]) -> Written
+    ensures { λ r. ⌜ LongestPromise (now (ty .entry)) (now (out .entry)) r (now (out .exit)) ⌝ }
+{
+    match read_type_file(ty) {
+        TypeRead::Refused(fault) => Written::refused(fault),
+        TypeRead::Whole(place) => {
+            let start = place.start;
+            let mut plan = [0u8; TypePlace::MAX_NODES];
+            let planned = plan_longest(ty, start, &mut plan);
+            let length = 2 + planned.width;
+            if out.len() < length {
+                return Written::refused(Fault::NoRoom);
+            }
+            write_longest_file(&ty[start..], &plan, planned.width, out);
+            Written {
+                number: ACCEPTED,
+                written: length,
             }
         }
     }

@@ -82,11 +82,11 @@ pub longest-short : (t : Ty) → Small t → byte-count (longest-prefix t) ≤ 5
 longest-short t small = slice-length (longest-prefix t) (prefix-short (longest-prefix-is-prefix t) small)
 
 -- What the planner answers is what the writer asks, of the types from `at` on.
-module _ {types lent after : List ℕ} {at : ℕ} {planned : Planned} (due : PlanDue types at lent) (plans : Plans types at lent after planned) where
+module _ {types lent after : List ℕ} {at : ℕ} {planned : Planned} (plans : Plans types at lent after planned) (due : PlanDue types at lent) where
   pub planned-width : planned .width ≡ byte-count (longest-prefix (due .type))
   planned-width = plans .each due .wide
 
-  pub as-planned : AsPlanned (part at types) after (planned .width)
+  unfoldable pub as-planned : AsPlanned (part at types) after (planned .width)
   as-planned =
       record {
         type = due .type;
