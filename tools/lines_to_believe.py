@@ -16,7 +16,7 @@ import sys
 
 ROOT = os.path.join(os.path.dirname(os.path.abspath(__file__)), "..", "crates")
 PAGE = ("demands", "Demands")
-PROMISES = {"CheckPromise", "AdmitPromise", "LeftPromise", "JoinPromise", "FeedPromise"}
+PROMISES = {"CheckPromise", "AdmitPromise", "LeftPromise", "JoinPromise", "FeedPromise", "LongestPromise"}
 
 COMMENT = re.compile(r"(^|\s)--(\s.*)?$")
 USE = re.compile(r"use (\S+?)\.\{(.*)\}$")

@@ -3,20 +3,19 @@
 use mathlib.Core.Path.{_≡_, refl, sym, ap, ap₂, _∙_}
 use mathlib.Core.Bool.{Bool, true, false}
 use mathlib.Core.List.{List, [], _∷_, _++_, append-assoc, append-nil}
-use Prim.Native.Nat.{ℕ, suc, _+_, _-_, _≤_, _<_}
+use Prim.Native.Nat.{ℕ, suc, _+_, _≤_, _<_}
 use native.Mathlib.Omega.{arith}
 use lib.Dec.{leb}
-use lib.ListN.{length, getD, set, drop, length-append, length-drop, length-set}
+use lib.ListN.{length, getD, set, drop, length-append, length-drop}
 use lib.Seq.{drop-drop, getD-drop}
 use native.Mathlib.Nat.{add-zero}
 use Rattle.stream.specs.Types.{Ty, empty, cue, level, seq, par, either, size, type-limit, kind}
 use Rattle.stream.specs.Types.Laws.{size-positive}
-use Rattle.stream.specs.Levels.{level-limit}
 use Rattle.stream.specs.Levels.Laws.{value-append}
 use Rattle.stream.specs.Buffers.{at-front}
 use Rattle.stream.specs.TypeFiles.{type-bytes}
 use Rattle.stream.specs.SliceFiles.{prefix-bytes}
-use Rattle.stream.specs.Longest.{byte-count, chosen, longest-prefix}
+use Rattle.stream.specs.Longest.{byte-count, chosen, largest-level, longest-prefix}
 use Rattle.reading.specs.TypeReads.{TypeAt, SomeTypeAt, TypeEnds}
 use Rattle.reading.specs.TypeReads.Laws.{type-drop, starts-inside}
 use Rattle.writing.specs.Writing.{Begun}
@@ -114,7 +113,7 @@ opened level =
       unvalued = λ h. absurd (h refl);
       types = λ r. refl;
       planned = λ r. refl;
-      owes = λ r. ap (λ l. 4 ∷ l) (value-append (level-limit - 1) [] r);
+      owes = λ r. ap (λ l. 4 ∷ l) (value-append largest-level [] r);
       total = refl;
     }
 opened (seq s t) =

@@ -6,26 +6,24 @@ use mathlib.Core.List.{List, [], _∷_, _++_, append-assoc}
 use Prim.Native.Nat.{ℕ, suc, _+_, _-_, _≤_, _<_}
 use native.Mathlib.Omega.{arith}
 use lib.Dec.{leb}
-use lib.ListN.{length, getD, drop, set, length-append, length-set}
+use lib.ListN.{length, getD, drop, set, length-append}
 use lib.Seq.{set-at}
 use borrow.Author.Tests.{le-leb, lt-leb, leb-true, leb-false}
-use Rattle.stream.specs.Types.{Ty, empty, cue, level, seq, par, either, size, kind, first-part, second-part, Small}
+use Rattle.stream.specs.Types.{Ty, empty, cue, level, seq, par, either, size, kind, first-part, second-part}
 use Rattle.stream.specs.Types.Kinds.{type-arities, type-arity}
 use Rattle.stream.specs.Types.Laws.{size-positive}
 use Rattle.stream.specs.Buffers.{at-front}
-use Rattle.stream.specs.Levels.{level-limit}
 use Rattle.stream.specs.Levels.Laws.{value-length}
 use Rattle.stream.specs.Prefixes.Kinds.{root-width}
 use Rattle.stream.specs.Reading.Laws.{_&_, past, every}
 use Rattle.stream.specs.SliceFiles.{prefix-bytes}
-use Rattle.stream.specs.Longest.{byte-count, longest-prefix}
+use Rattle.stream.specs.Longest.{byte-count, largest-level, longest-prefix}
 use Rattle.stream.specs.Longest.Laws.{byte-count-before}
-use Rattle.reading.specs.TypeReads.{TypeAt}
-use Rattle.reading.specs.TypeReads.Laws.{kind-at, starts-inside, ends-inside, first-at, second-at, fork-size}
+use Rattle.reading.specs.TypeReads.Laws.{kind-at, starts-inside, first-at, second-at, fork-size}
 use Rattle.writing.specs.Writing.{Begun}
 use Rattle.writing.specs.Writing.Laws.{part, back, begins, goes-on, room-left, length-kept, front-length}
 use Rattle.measuring.specs.declared.Planned.{Planned}
-use Rattle.measuring.specs.Planning.{longest-kind, passed-over, plan-choice, plan, PlanDue, IsPlanned, Plans, ChoiceDue, Chooses}
+use Rattle.measuring.specs.Planning.{longest-kind, passed-over, plan, PlanDue, IsPlanned, Plans, ChoiceDue, Chooses}
 use Rattle.measuring.specs.Planning.Laws.{plan-length, plan-before, longest-short}
 
 -- A kind with parts is 3, 4 or 5.
@@ -41,7 +39,7 @@ leaf-plan : (t : Ty) → type-arity (kind t) ≡ 0
 unfolding plan longest-prefix prefix-bytes size
 leaf-plan empty h = (refl, refl, refl)
 leaf-plan cue h = (refl, refl, refl)
-leaf-plan level h = (refl, omega (arith, value-length (level-limit - 1) []), refl)
+leaf-plan level h = (refl, omega (arith, value-length largest-level []), refl)
 leaf-plan (seq s t) h = absurd (omega arith)
 leaf-plan (par s t) h = absurd (omega arith)
 leaf-plan (either s t) h = absurd (omega arith)
@@ -110,9 +108,6 @@ over-first k (j ∷ a) x h = refl
 
 module _ {types : List ℕ} {at : ℕ} {lent : List ℕ} (due : PlanDue types at lent) where
   -- The type has a byte at its place, and there is room for one.
-  pub inside : at + size (due .type) ≤ length types
-  inside = ends-inside (due .stands)
-
   pub there : at < length types
   there = starts-inside (due .stands)
 
@@ -161,7 +156,7 @@ module _ {types : List ℕ} {at : ℕ} {lent : List ℕ} (written : ℕ) where
       first-planned = first-done .each first-due
 
       -- Where the first part ends, and where its plan does.
-      pub middle : first .end ≡ at + 1 + size (first-part (due .type))
+      middle : first .end ≡ at + 1 + size (first-part (due .type))
       middle = first-planned .ends
 
       pub forward : at < first .end

@@ -3,26 +3,29 @@
 use mathlib.Core.Path.{_≡_}
 use mathlib.Core.Bool.{Bool, true, false}
 use mathlib.Core.List.{List, [], _∷_}
-use Prim.Native.Nat.{ℕ, _+_, _-_, _≤_, _<_}
+use Prim.Native.Nat.{ℕ, _+_, _≤_, _<_}
 use lib.Dec.{leb}
 use lib.ListN.{length, getD, set}
 use Rattle.measuring.specs.declared.Planned.{Planned}
 use Rattle.stream.specs.Types.{Ty, empty, cue, level, seq, par, either, size}
-use Rattle.stream.specs.Levels.{level-limit, value-bytes}
+use Rattle.stream.specs.Levels.{value-bytes}
 use Rattle.stream.specs.Buffers.{at-front}
 use Rattle.stream.specs.SliceFiles.{prefix-bytes, slice-file-bytes}
-use Rattle.stream.specs.Longest.{byte-count, longest-prefix}
+use Rattle.stream.specs.Longest.{byte-count, largest-level, longest-prefix}
 use Rattle.reading.specs.TypeReads.{TypeAt}
 pub mod Laws
 
 -- The kind that the longest prefix of a type begins with, by the type's kind, of an either if its first part is chosen; of a byte
 -- that is no type's kind nobody asks.
+abbrev pub longest-kinds : List ℕ
+longest-kinds = 0 ∷ 2 ∷ 4 ∷ 6 ∷ 7 ∷ 9 ∷ []
+
 abbrev pub longest-kind : ℕ → ℕ
-longest-kind k = getD (0 ∷ 2 ∷ 4 ∷ 6 ∷ 7 ∷ 9 ∷ []) k 9
+longest-kind k = getD longest-kinds k 9
 
 -- The bytes of the largest value.
 abbrev pub largest-value : List ℕ
-largest-value = value-bytes (level-limit - 1) []
+largest-value = value-bytes largest-level []
 
 -- The mark at the root of a part that is not chosen.
 abbrev pub passed-over : List ℕ → List ℕ

@@ -7,7 +7,6 @@ use reading::types::type_arity;
 use writing::copy;
 use writing::put_count;
 ghost use mathlib.Core.Path.{_≡_};
-ghost use mathlib.Core.List.{[]};
 ghost use Prim.Native.Nat.{_≤_};
 ghost use lib.ListN.{length};
 ghost use Rattle.stream.specs.Buffers.{at-front};
@@ -70,6 +69,7 @@ pub fn plan_longest(types: &[u8], at: usize, plan: &mut [u8]) -> Planned
     let middle = first.end;
     let behind = middle - at;
     let second = plan_longest(types, middle, &mut plan[behind..]);
+    // Of an either one part is written, of the other kinds both.
     if kind == 5 {
         let width = choose_longer(first.width, second.width, behind, plan);
         return Planned {
@@ -92,7 +92,8 @@ fn put_largest(out: &mut [u8])
     copy(&largest, out);
 }
 
-// Writes the longest prefix of the type at the front of `types`, as it was planned; it has `width` bytes.
+// Writes the longest prefix of the type at the front of `types`, as it was planned; it has `width` bytes. A level has its value behind
+// the kind.
 fn write_longest(types: &[u8], plan: &[u8], width: usize, out: &mut [u8])
     requires { ⌜ LongestDue (now types) (now plan) width (now out) ⌝ }
     ensures { λ _. ⌜ LongestWritten (now (types .entry)) (now (plan .entry)) width (now (out .entry)) (now (out .exit)) ⌝ }

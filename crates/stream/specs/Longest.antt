@@ -1,5 +1,5 @@
 -- The longest prefix of a type (document 02, M-101, "How long a slice can get"): "a slice file such that no slice accepted for that
--- type makes a longer one". That none is longer is `none-longer` in the laws.
+-- type makes a longer one". That none is longer is `no-prefix-longer` in the laws.
 use mathlib.Core.Bool.{Bool, true, false}
 use mathlib.Core.List.{[]}
 use Prim.Native.Nat.{ℕ, _-_}
@@ -25,10 +25,14 @@ abbrev pub longer : Prefix → Prefix → Prefix
 longer p q = chosen (leb (byte-count q) (byte-count p)) p q
 
 -- "Every cue and level has come, levels at their largest, and every sequence is crossed."
+
+abbrev pub largest-level : ℕ
+largest-level = level-limit - 1
+
 unfoldable pub longest-prefix : Ty → Prefix
 longest-prefix empty = nothing
 longest-prefix cue = cue-come
-longest-prefix level = level-come (level-limit - 1)
+longest-prefix level = level-come largest-level
 longest-prefix (seq s t) = crossed (longest-prefix s) (longest-prefix t)
 longest-prefix (par s t) = beside (longest-prefix s) (longest-prefix t)
 longest-prefix (either s t) = longer (longest-prefix s) (longest-prefix t)

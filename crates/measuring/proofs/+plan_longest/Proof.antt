@@ -9,7 +9,7 @@ use mathlib.Core.Path.{_≡_, sym, _∙_}
 use Prim.Native.Nat.{ℕ, _-_, _<_}
 use lib.ListN.{length, getD, length-set}
 use Rattle.stream.specs.Types.Kinds.{type-arity}
-use Rattle.measuring.proofs.PlannedParts.{inside, there, some, leaf-planned, first-due, forward, middle, behind-within, second-due, both-kept, first-few, second-few, choice-due, both-planned, choice-planned}
+use Rattle.measuring.proofs.PlannedParts.{there, some, leaf-planned, first-due, forward, behind-within, second-due, both-kept, first-few, second-few, choice-due, both-planned, choice-planned}
 use Rattle.measuring.proofs.plan_longest.Reads as plan-longest
 use Rattle.measuring.proofs.plan_longest.Kinds as plan-longest-kinds
 use Rattle.measuring.proofs.+plan_longest.Lts-plan_longest as lts

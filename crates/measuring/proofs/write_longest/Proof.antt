@@ -7,8 +7,8 @@ use mathlib.Core.Path.{_≡_}
 use mathlib.Core.List.{[]}
 use Prim.Native.Nat.{_+_, _-_, _<_}
 use lib.ListN.{length, getD, set, length-set}
-use Rattle.stream.specs.Levels.{level-limit}
 use Rattle.stream.specs.Levels.Laws.{value-length}
+use Rattle.stream.specs.Longest.{largest-level}
 use Rattle.writing.specs.Appending.Laws.{part-length}
 use Rattle.measuring.specs.Planning.{LongestDue}
 use Rattle.measuring.proofs.LongestWalk.{Writing, to-write, starts, kept, stands, inside, plan-inside, further, passed-on, byte-room, without-value, value-room, with-value, all-written}
@@ -119,7 +119,7 @@ add-written-2 c =
     omega (
       arith,
       value-room (so-far turn (due-in turn)) (wanted turn (due-in turn)) (branch .before .if1 .left) (branch .if2 .taken),
-      value-length (level-limit - 1) [],
+      value-length largest-level [],
       kept (so-far turn (due-in turn)),
     )
 
@@ -138,7 +138,7 @@ loop-again-2 c =
     let branch = then2-before-slice-known2 c in
     let turn = branch .before .before in
     λ due.
-    with-value (so-far turn due) (wanted turn due) (branch .before .if1 .left) (branch .if2 .taken) (omega (arith, value-length (level-limit - 1) []))
+    with-value (so-far turn due) (wanted turn due) (branch .before .if1 .left) (branch .if2 .taken) (omega (arith, value-length largest-level []))
     (c .before .before .put-largest .ensures)
 
 slice-write-out-2 : tie.Need-slice-write-out-2 Inv-loop μ-loop

@@ -2,7 +2,7 @@
 use mathlib.Core.Path.{_≡_, refl}
 use mathlib.Core.Bool.{Bool, true, false}
 use mathlib.Core.List.{List, [], append-nil}
-use Prim.Native.Nat.{ℕ, suc, _+_, _-_, _≤_, _<_}
+use Prim.Native.Nat.{ℕ, _+_, _≤_, _<_}
 use native.Mathlib.Omega.{arith}
 use native.Mathlib.Nat.{le-trans}
 use lib.Dec.{leb}
@@ -14,7 +14,7 @@ use Rattle.stream.specs.Levels.Laws.{value-length}
 use Rattle.stream.specs.Prefixes.{Prefix, nothing, cue-awaited, cue-come, level-awaited, level-come, in-first, crossed, beside, none-chosen, first-chosen, second-chosen, Complete, whole-nothing, whole-cue, whole-level, whole-crossed, whole-beside, whole-first-chosen, whole-second-chosen, IsPrefix, of-empty, of-cue-awaited, of-cue-come, of-level-awaited, of-level-come, of-first, of-crossed, of-beside, of-none-chosen, of-first-chosen, of-second-chosen, derivative}
 use Rattle.stream.specs.Reading.{section-bytes}
 use Rattle.stream.specs.SliceFiles.{prefix-bytes, slice-file-bytes, SliceFile}
-use Rattle.stream.specs.Longest.{byte-count, chosen, longer, longest-prefix}
+use Rattle.stream.specs.Longest.{byte-count, chosen, longer, largest-level, longest-prefix}
 
 -- Bytes behind a prefix do not count for it.
 pub byte-count-before : (p : Prefix) (r : List ℕ) → length (prefix-bytes p r) ≡ byte-count p + length r
@@ -68,7 +68,7 @@ pub longest-prefix-is-prefix : (t : Ty) → IsPrefix t (longest-prefix t)
 unfolding longest-prefix level-limit
 longest-prefix-is-prefix empty = of-empty
 longest-prefix-is-prefix cue = of-cue-come
-longest-prefix-is-prefix level = of-level-come {v = level-limit - 1} (omega arith)
+longest-prefix-is-prefix level = of-level-come {v = largest-level} (omega arith)
 longest-prefix-is-prefix (seq s t) = of-crossed (longest-prefix-is-prefix s) (longest-prefix-complete s) (longest-prefix-is-prefix t)
 longest-prefix-is-prefix (par s t) = of-beside (longest-prefix-is-prefix s) (longest-prefix-is-prefix t)
 longest-prefix-is-prefix (either s t) =
@@ -76,51 +76,51 @@ longest-prefix-is-prefix (either s t) =
 
 -- "No slice accepted for that type makes a longer one."
 
-pub none-longer : {t : Ty} {p : Prefix} → IsPrefix t p → byte-count p ≤ byte-count (longest-prefix t)
+pub no-prefix-longer : {t : Ty} {p : Prefix} → IsPrefix t p → byte-count p ≤ byte-count (longest-prefix t)
 unfolding longest-prefix prefix-bytes
-none-longer of-empty = omega arith
-none-longer of-cue-awaited = omega arith
-none-longer of-cue-come = omega arith
-none-longer of-level-awaited = omega (arith, value-length (level-limit - 1) [])
-none-longer (of-level-come {v = v} h) = omega (arith, value-length v [], value-length (level-limit - 1) [])
-none-longer (of-first {s = s} {t = t} h) =
-    omega (arith, none-longer h, byte-count-before (longest-prefix s) (prefix-bytes (longest-prefix t) []))
-none-longer (of-crossed {s = s} {t = t} {b = b} {q = q} h c k) =
-    omega (arith, none-longer h, none-longer k, byte-count-before b (prefix-bytes q []), byte-count-before (longest-prefix s) (prefix-bytes (longest-prefix t) []))
-none-longer (of-beside {s = s} {t = t} {p = p} {q = q} h k) =
-    omega (arith, none-longer h, none-longer k, byte-count-before p (prefix-bytes q []), byte-count-before (longest-prefix s) (prefix-bytes (longest-prefix t) []))
-none-longer (of-none-chosen {s = s} {t = t}) = omega (arith, longer-than-both (longest-prefix s) (longest-prefix t))
-none-longer (of-first-chosen {s = s} {t = t} h) = omega (arith, none-longer h, longer-than-both (longest-prefix s) (longest-prefix t))
-none-longer (of-second-chosen {s = s} {t = t} h) = omega (arith, none-longer h, longer-than-both (longest-prefix s) (longest-prefix t))
+no-prefix-longer of-empty = omega arith
+no-prefix-longer of-cue-awaited = omega arith
+no-prefix-longer of-cue-come = omega arith
+no-prefix-longer of-level-awaited = omega (arith, value-length largest-level [])
+no-prefix-longer (of-level-come {v = v} h) = omega (arith, value-length v [], value-length largest-level [])
+no-prefix-longer (of-first {s = s} {t = t} h) =
+    omega (arith, no-prefix-longer h, byte-count-before (longest-prefix s) (prefix-bytes (longest-prefix t) []))
+no-prefix-longer (of-crossed {s = s} {t = t} {b = b} {q = q} h c k) =
+    omega (arith, no-prefix-longer h, no-prefix-longer k, byte-count-before b (prefix-bytes q []), byte-count-before (longest-prefix s) (prefix-bytes (longest-prefix t) []))
+no-prefix-longer (of-beside {s = s} {t = t} {p = p} {q = q} h k) =
+    omega (arith, no-prefix-longer h, no-prefix-longer k, byte-count-before p (prefix-bytes q []), byte-count-before (longest-prefix s) (prefix-bytes (longest-prefix t) []))
+no-prefix-longer (of-none-chosen {s = s} {t = t}) = omega (arith, longer-than-both (longest-prefix s) (longest-prefix t))
+no-prefix-longer (of-first-chosen {s = s} {t = t} h) = omega (arith, no-prefix-longer h, longer-than-both (longest-prefix s) (longest-prefix t))
+no-prefix-longer (of-second-chosen {s = s} {t = t} h) = omega (arith, no-prefix-longer h, longer-than-both (longest-prefix s) (longest-prefix t))
 
 -- Nor is a later slice longer: what is left of a type has no longer prefix than the type.
-pub none-longer-later : {t : Ty} {p : Prefix} → IsPrefix t p → byte-count (longest-prefix (derivative t p)) ≤ byte-count (longest-prefix t)
+pub left-no-longer : {t : Ty} {p : Prefix} → IsPrefix t p → byte-count (longest-prefix (derivative t p)) ≤ byte-count (longest-prefix t)
 unfolding longest-prefix derivative prefix-bytes
-none-longer-later of-empty = omega arith
-none-longer-later of-cue-awaited = omega arith
-none-longer-later of-cue-come = omega arith
-none-longer-later of-level-awaited = omega arith
-none-longer-later (of-level-come h) = omega (arith, value-length (level-limit - 1) [])
-none-longer-later (of-first {s = s} {t = t} {p = p} h) =
+left-no-longer of-empty = omega arith
+left-no-longer of-cue-awaited = omega arith
+left-no-longer of-cue-come = omega arith
+left-no-longer of-level-awaited = omega arith
+left-no-longer (of-level-come h) = omega (arith, value-length largest-level [])
+left-no-longer (of-first {s = s} {t = t} {p = p} h) =
     omega (
       arith,
-      none-longer-later h,
+      left-no-longer h,
       byte-count-before (longest-prefix (derivative s p)) (prefix-bytes (longest-prefix t) []),
       byte-count-before (longest-prefix s) (prefix-bytes (longest-prefix t) []),
     )
-none-longer-later (of-crossed {s = s} {t = t} h c k) =
-    omega (arith, none-longer-later k, byte-count-before (longest-prefix s) (prefix-bytes (longest-prefix t) []))
-none-longer-later (of-beside {s = s} {t = t} {p = p} {q = q} h k) =
+left-no-longer (of-crossed {s = s} {t = t} h c k) =
+    omega (arith, left-no-longer k, byte-count-before (longest-prefix s) (prefix-bytes (longest-prefix t) []))
+left-no-longer (of-beside {s = s} {t = t} {p = p} {q = q} h k) =
     omega (
       arith,
-      none-longer-later h,
-      none-longer-later k,
+      left-no-longer h,
+      left-no-longer k,
       byte-count-before (longest-prefix (derivative s p)) (prefix-bytes (longest-prefix (derivative t q)) []),
       byte-count-before (longest-prefix s) (prefix-bytes (longest-prefix t) []),
     )
-none-longer-later of-none-chosen = omega arith
-none-longer-later (of-first-chosen {s = s} {t = t} h) = omega (arith, none-longer-later h, longer-than-both (longest-prefix s) (longest-prefix t))
-none-longer-later (of-second-chosen {s = s} {t = t} h) = omega (arith, none-longer-later h, longer-than-both (longest-prefix s) (longest-prefix t))
+left-no-longer of-none-chosen = omega arith
+left-no-longer (of-first-chosen {s = s} {t = t} h) = omega (arith, left-no-longer h, longer-than-both (longest-prefix s) (longest-prefix t))
+left-no-longer (of-second-chosen {s = s} {t = t} h) = omega (arith, left-no-longer h, longer-than-both (longest-prefix s) (longest-prefix t))
 
 -- The same of files: the count comes before the bytes of the prefix.
 
@@ -130,13 +130,13 @@ slice-file-count p = rw (append-nil (prefix-bytes p [])) (omega arith)
 
 pub no-file-longer : {t : Ty} {file : List ℕ} → SliceFile t file → length file ≤ length (slice-file-bytes (longest-prefix t))
 no-file-longer {t} f =
-    rw (← f .bytes, slice-file-count (f .prefix), slice-file-count (longest-prefix t)) (omega (arith, none-longer (f .is-prefix)))
+    rw (← f .bytes, slice-file-count (f .prefix), slice-file-count (longest-prefix t)) (omega (arith, no-prefix-longer (f .is-prefix)))
 
 pub no-file-longer-later : {t : Ty} {p : Prefix} {file : List ℕ} → IsPrefix t p → SliceFile (derivative t p) file
     → length file ≤ length (slice-file-bytes (longest-prefix t))
 no-file-longer-later {t} {p} h f =
     le-trans (no-file-longer f)
-    (rw (slice-file-count (longest-prefix (derivative t p)), slice-file-count (longest-prefix t)) (omega (arith, none-longer-later h)))
+    (rw (slice-file-count (longest-prefix (derivative t p)), slice-file-count (longest-prefix t)) (omega (arith, left-no-longer h)))
 
 pub longest-slice-file : (t : Ty) → SliceFile t (slice-file-bytes (longest-prefix t))
 longest-slice-file t = record { prefix = longest-prefix t; is-prefix = longest-prefix-is-prefix t; bytes = refl }
