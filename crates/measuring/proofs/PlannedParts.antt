@@ -156,7 +156,7 @@ module _ {types : List ℕ} {at : ℕ} {lent : List ℕ} (written : ℕ) where
       first-planned = first-done .each first-due
 
       -- Where the first part ends, and where its plan does.
-      middle : first .end ≡ at + 1 + size (first-part (due .type))
+      pub middle : first .end ≡ at + 1 + size (first-part (due .type))
       middle = first-planned .ends
 
       pub forward : at < first .end
