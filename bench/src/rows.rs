@@ -107,6 +107,7 @@ impl Row {
                 let answer = library::feed(&files[0], &files[1], first, &mut lent.patch);
                 return (answer.number, [answer.output, answer.patch]);
             }
+            Operation::Longest => library::longest(&files[0], first),
         };
         (answer.number, [answer.written, 0])
     }
@@ -125,6 +126,7 @@ impl Row {
                     |(output, patch)| (ACCEPTED, [output, patch]),
                 );
             }
+            Operation::Longest => second_interpreter::longest(&files[0], first),
         };
         answer.map_or_else(|number| (number, [0, 0]), |value| (ACCEPTED, [value, 0]))
     }

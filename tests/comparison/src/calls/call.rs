@@ -13,6 +13,7 @@ pub enum Operation {
     Left,
     Join,
     Feed,
+    Longest,
 }
 
 /// A lent buffer, and the length of its longest answer.
@@ -37,12 +38,13 @@ const PATCH_BUFFER: Buffer = Buffer {
 
 impl Operation {
     /// Every operation, in the order of the table.
-    pub const ALL: [Operation; 5] = [
+    pub const ALL: [Operation; 6] = [
         Operation::Check,
         Operation::Admit,
         Operation::Left,
         Operation::Join,
         Operation::Feed,
+        Operation::Longest,
     ];
 
     /// What its files are called.
@@ -52,6 +54,7 @@ impl Operation {
             Operation::Admit | Operation::Left => &["type", "slice"],
             Operation::Join => &["type", "first slice", "second slice"],
             Operation::Feed => &["patch", "slice"],
+            Operation::Longest => &["type"],
         }
     }
 
@@ -60,7 +63,7 @@ impl Operation {
         match self {
             Operation::Check | Operation::Left => &[TYPE_BUFFER],
             Operation::Admit => &[],
-            Operation::Join => &[SLICE_BUFFER],
+            Operation::Join | Operation::Longest => &[SLICE_BUFFER],
             Operation::Feed => &[SLICE_BUFFER, PATCH_BUFFER],
         }
     }
@@ -68,6 +71,11 @@ impl Operation {
     /// Whether its first file is a patch; of the others it is a type.
     pub fn takes_patch(self) -> bool {
         matches!(self, Operation::Check | Operation::Feed)
+    }
+
+    /// Whether it reads a slice.
+    pub fn takes_slice(self) -> bool {
+        !matches!(self, Operation::Check | Operation::Longest)
     }
 }
 

@@ -102,6 +102,9 @@ fn library_answer(operation: Operation, files: &[&[u8]], lent: &mut [&mut [u8]])
                 written: [answer.output, answer.patch],
             }
         }
+        (Operation::Longest, [stream], [lent]) => {
+            Answer::of_written(library::longest(stream, lent))
+        }
         _ => unreachable!("a call has the files and the buffers of its operation"),
     }
 }
@@ -125,6 +128,9 @@ pub fn second_answer(operation: Operation, files: &[&[u8]], lent: &mut [&mut [u8
         (Operation::Feed, [patch, slice], [output, left]) => {
             second_interpreter::feed(patch, slice, output, left)
                 .map(|(output, patch)| answer.written = [output, patch])
+        }
+        (Operation::Longest, [stream], [lent]) => {
+            second_interpreter::longest(stream, lent).map(|written| answer.written[0] = written)
         }
         _ => unreachable!("a call has the files and the buffers of its operation"),
     };

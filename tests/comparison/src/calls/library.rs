@@ -79,6 +79,12 @@ extern "C" {
         left: *mut u8,
         left_length: usize,
     ) -> Fed;
+    fn wosthile_longest(
+        type_file: *const u8,
+        type_length: usize,
+        slice: *mut u8,
+        slice_length: usize,
+    ) -> Written;
 }
 
 /// Bytes of length 0 go as NULL, which the header allows.
@@ -169,6 +175,19 @@ pub fn feed(patch: &[u8], slice: &[u8], output: &mut [u8], left: &mut [u8]) -> F
             output.len(),
             start_mut(left),
             left.len(),
+        )
+    }
+}
+
+/// Calls `wosthile_longest`.
+pub fn longest(type_file: &[u8], slice: &mut [u8]) -> Written {
+    // SAFETY: as for Check.
+    unsafe {
+        wosthile_longest(
+            start(type_file),
+            type_file.len(),
+            start_mut(slice),
+            slice.len(),
         )
     }
 }

@@ -1,4 +1,4 @@
-//! Random calls of the five operations: type-directed, most of them accepted, and damaged ones.
+//! Random calls of the six operations: type-directed, most of them accepted, and damaged ones.
 
 use crate::calls::call::{Buffer, Call, Operation};
 use crate::formats::files::section;
@@ -8,11 +8,25 @@ use crate::generators::feeds::feed_files;
 use crate::generators::patch_damage::damage_patch;
 use crate::generators::patches::any_patch;
 use crate::generators::random::Random;
+use crate::generators::sides::type_with_sides;
 use crate::generators::slices::slice_of;
-use crate::generators::types::{forks, write_type, Style};
+use crate::generators::types::{forks, write_type, Style, MOST_FORKS};
 
 /// A buffer that is longer than any answer has so many bytes more.
 const TOO_LONG: usize = 500;
+
+/// The operations that are drawn equally often.
+const OFTEN: [Operation; 5] = [
+    Operation::Check,
+    Operation::Admit,
+    Operation::Left,
+    Operation::Join,
+    Operation::Feed,
+];
+
+/// The chance, in a hundred, of a call of Longest. It is drawn less often: what it writes is held to
+/// a hundred other slices, which takes as long as many calls.
+const LONGEST: usize = 5;
 
 /// A stream of calls that follows from a seed.
 #[derive(Debug)]
@@ -57,22 +71,49 @@ impl Iterator for Calls {
 
 /// A call whose files are in order, with a buffer that is long enough.
 fn accepted(random: &mut Random) -> Call {
-    let operation = random.pick(&Operation::ALL);
+    let operation = if random.chance(LONGEST) {
+        Operation::Longest
+    } else {
+        random.pick(&OFTEN)
+    };
     let mut files = match operation {
         Operation::Check => vec![any_patch(random)],
         Operation::Feed => feed_files(random).to_vec(),
+        Operation::Longest => vec![section(&type_for_longest(random))],
         _ => stream_files(random).to_vec(),
     };
     files.truncate(operation.files().len());
     Call::roomy(operation, files)
 }
 
-/// The files of a type, of a slice of it, and of a slice of what that one leaves.
-fn stream_files(random: &mut Random) -> [Vec<u8>; 3] {
-    let mut tree = Vec::new();
+/// The tree of any type.
+fn any_type(random: &mut Random) -> Vec<u8> {
     let style = Style::any(random);
     let forks = forks(random);
-    write_type(random, &style, forks, &mut tree);
+    type_of_style(random, &style, forks)
+}
+
+fn type_of_style(random: &mut Random, style: &Style, forks: usize) -> Vec<u8> {
+    let mut tree = Vec::new();
+    write_type(random, style, forks, &mut tree);
+    tree
+}
+
+/// The tree of a type: any, of the greatest length, with the deepest choices, or with choices between
+/// sides that are about equally long.
+fn type_for_longest(random: &mut Random) -> Vec<u8> {
+    let style = match random.below(20) {
+        0..=8 => return any_type(random),
+        9 => Style::levels(random),
+        10 => Style::nested(random),
+        _ => return type_with_sides(random),
+    };
+    type_of_style(random, &style, MOST_FORKS)
+}
+
+/// The files of a type, of a slice of it, and of a slice of what that one leaves.
+fn stream_files(random: &mut Random) -> [Vec<u8>; 3] {
+    let tree = any_type(random);
     let first = slice_of(random, &tree);
     let second = slice_of(random, &first.left);
     [

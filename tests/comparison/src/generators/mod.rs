@@ -7,6 +7,7 @@ pub mod feeds;
 pub mod patch_damage;
 pub mod patches;
 pub mod random;
+pub mod sides;
 pub mod slices;
 mod targets;
 pub mod types;

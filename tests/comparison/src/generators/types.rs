@@ -6,7 +6,7 @@ use crate::generators::random::Random;
 /// A type of 255 nodes has so many forks.
 pub const MOST_FORKS: usize = 127;
 
-/// The chance, in a hundred, that the parts of an either are alike where they can be.
+/// How often the parts of an either are alike, unless a style says otherwise.
 const ALIKE: usize = 20;
 
 /// Which way a tree grows.
@@ -47,6 +47,8 @@ impl Shape {
 pub struct Style {
     shape: Shape,
     choices: usize,
+    /// That the parts of an either are alike where they can be.
+    alike: usize,
     /// Among the forks that are no choice.
     sequences: usize,
     empties: usize,
@@ -59,6 +61,7 @@ impl Style {
         Style {
             shape: random.pick(&Shape::ALL),
             choices: random.pick(&[0, 0, 10, 30, 100]),
+            alike: ALIKE,
             sequences: random.pick(&[0, 20, 50, 80, 100]),
             empties: random.pick(&[0, 10, 50]),
             levels: random.pick(&[0, 50, 100]),
@@ -70,6 +73,7 @@ impl Style {
         Style {
             shape: random.pick(&Shape::ALL),
             choices: random.pick(&[0, 0, 10, 20]),
+            alike: ALIKE,
             sequences: random.pick(&[50, 70, 90]),
             empties: random.pick(&[0, 0, 10]),
             levels: random.pick(&[0, 50, 100]),
@@ -81,6 +85,26 @@ impl Style {
         Style {
             choices: random.pick(&[40, 60]),
             ..Style::following(random)
+        }
+    }
+
+    /// Choices one inside another, as deep as the forks go: parts that are alike would share them.
+    pub fn nested(random: &mut Random) -> Self {
+        Style {
+            shape: random.pick(&[Shape::DeepLeft, Shape::DeepRight]),
+            choices: random.pick(&[90, 100]),
+            alike: 0,
+            ..Style::any(random)
+        }
+    }
+
+    /// Without choices, and with a level at every leaf: of its size it has the longest slice.
+    pub fn levels(random: &mut Random) -> Self {
+        Style {
+            choices: 0,
+            empties: 0,
+            levels: 100,
+            ..Style::any(random)
         }
     }
 
@@ -113,7 +137,7 @@ pub fn write_type(random: &mut Random, style: &Style, forks: usize, out: &mut Ve
     }
     let kind = style.fork(random);
     out.push(kind);
-    if kind == EITHER && forks % 2 == 1 && random.chance(ALIKE) {
+    if kind == EITHER && forks % 2 == 1 && random.chance(style.alike) {
         let begin = out.len();
         write_type(random, style, forks / 2, out);
         out.extend_from_within(begin..);

@@ -51,7 +51,7 @@ fn is_possible(operation: Operation, number: u32) -> bool {
         fault::SLICE_CUT_SHORT
         | fault::SLICE_UNLISTED
         | fault::SLICE_LEFT_OVER
-        | fault::SLICE_MISPLACED => operation != Operation::Check,
+        | fault::SLICE_MISPLACED => operation.takes_slice(),
         fault::NO_ROOM => operation != Operation::Admit,
         _ => true,
     }
@@ -79,18 +79,17 @@ impl Tally {
             .position(|number| *number == answer.number && is_possible(operation, *number))
             .ok_or_else(|| format!("{operation:?} answers {}", answer.number))?;
         self.counts[operation as usize][column] += 1;
-        if operation == Operation::Admit && answer.complete == 1 {
-            self.complete += 1;
-        }
-        if operation == Operation::Check {
-            self.patches.add(&call.files[0], answer);
-        }
-        if !operation.takes_patch() && answer.number == fault::ACCEPTED {
-            self.streams.add(&call.files);
-        }
-        if operation == Operation::Feed && answer.number == fault::ACCEPTED {
-            self.feeds
-                .add(Position::Alone, &call.files, &agreed.files)?;
+        self.complete += u64::from(answer.complete);
+        match (operation, answer.number) {
+            (Operation::Check, _) => self.patches.add(&call.files[0], answer),
+            (Operation::Admit | Operation::Left | Operation::Join, fault::ACCEPTED) => {
+                self.streams.add(&call.files);
+            }
+            (Operation::Feed, fault::ACCEPTED) => {
+                self.feeds
+                    .add(Position::Alone, &call.files, &agreed.files)?;
+            }
+            _ => {}
         }
         Ok(())
     }
