@@ -6,13 +6,15 @@ use std::time::{Duration, Instant};
 
 use comparison::calls::library;
 use comparison::convention::{self, number, Output, Stop};
-use comparison::{compare, limits, Calls, Random, Runs, Tally};
+use comparison::formats::fault;
+use comparison::{compare, limits, Call, Calls, Operation, Random, Rivals, Runs, Tally};
 
 const HELP: &str = "\
 compare (--calls N | --seconds N) [--seed S]
 
 Compares the library with the second interpreter, in single calls and, after every hundred of them,
-in a run of feeds. Prints what was met, or the first difference.
+in a run of feeds. What Longest wrote is held to other slices of its type. Prints what was met, or
+the first difference.
 
   --calls N    makes so many calls
   --seconds N  goes on for so long
@@ -57,12 +59,29 @@ fn options(words: &[&str]) -> Result<Options, Stop> {
     })
 }
 
+fn compare_call(
+    call: &Call,
+    rivals: &mut Rivals,
+    noise: &mut Random,
+    tally: &mut Tally,
+) -> Result<(), String> {
+    let agreed = compare(call, noise)?;
+    tally.add(call, &agreed)?;
+    if call.operation == Operation::Longest && agreed.answer.number == fault::ACCEPTED {
+        let tried = rivals
+            .try_against(&call.files[0], &agreed.files[0])
+            .map_err(|text| format!("{text}\n{call}"))?;
+        tally.longest.add_tried(tried);
+    }
+    Ok(())
+}
+
 fn run(options: &Options, noise: &mut Random, tally: &mut Tally) -> Result<(), String> {
     let begin = Instant::now();
     let mut runs = Runs::new(options.seed.wrapping_add(1 << 32));
+    let mut rivals = Rivals::new(options.seed.wrapping_add(2 << 32));
     for (number, call) in (1_u64..).zip(Calls::new(options.seed)) {
-        compare(&call, noise)
-            .and_then(|agreed| tally.add(&call, &agreed))
+        compare_call(&call, &mut rivals, noise, tally)
             .map_err(|text| format!("seed {}, call {number}: {text}", options.seed))?;
         if number % CALLS_PER_RUN == 0 {
             runs.compare_run(noise, tally).map_err(|text| {
@@ -103,6 +122,12 @@ fn compare_all(words: &[&str]) -> Result<(), Stop> {
         Output,
         "{} choices were made, {in_runs} of them in runs",
         alone + in_runs
+    )?;
+    writeln!(
+        Output,
+        "{} calls of Longest: {}",
+        tally.calls(Operation::Longest),
+        tally.longest.told()
     )?;
     writeln!(
         Output,

@@ -6,12 +6,14 @@ use crate::calls::call::{Call, Operation};
 use crate::calls::comparison::Agreed;
 use crate::formats::fault;
 use crate::tallies::feeds::{FeedTally, Position};
+use crate::tallies::longest::LongestTally;
 use crate::tallies::patches::PatchTally;
 use crate::tallies::runs::RunTally;
 use crate::tallies::streams::StreamTally;
 
 mod cases;
 pub(crate) mod feeds;
+mod longest;
 mod patches;
 mod runs;
 mod streams;
@@ -66,6 +68,8 @@ pub struct Tally {
     streams: StreamTally,
     /// The accepted feeds, alone and in runs.
     pub feeds: FeedTally,
+    /// The calls of Longest, and what was tried against their answers.
+    pub longest: LongestTally,
     /// The runs, whose feeds are not among the calls.
     pub runs: RunTally,
 }
@@ -89,13 +93,16 @@ impl Tally {
                 self.feeds
                     .add(Position::Alone, &call.files, &agreed.files)?;
             }
+            (Operation::Longest, fault::ACCEPTED | fault::NO_ROOM) => {
+                self.longest.add(call, agreed)?;
+            }
             _ => {}
         }
         Ok(())
     }
 
-    /// All calls of an operation.
-    fn calls(&self, operation: Operation) -> u64 {
+    /// All calls of an operation outside runs.
+    pub fn calls(&self, operation: Operation) -> u64 {
         self.counts[operation as usize].iter().sum()
     }
 
@@ -118,6 +125,7 @@ impl Tally {
         let mut gaps = self.patches.gaps();
         gaps.extend(self.streams.gaps());
         gaps.extend(self.feeds.gaps());
+        gaps.extend(self.longest.gaps());
         gaps.extend(self.runs.gaps());
         for operation in Operation::ALL {
             let counts = &self.counts[operation as usize];
@@ -166,6 +174,6 @@ impl fmt::Display for Tally {
             self.complete
         )?;
         write!(out, "\n{}\n{}", self.streams, self.patches)?;
-        write!(out, "\n{}\n{}", self.feeds, self.runs)
+        write!(out, "\n{}\n{}\n{}", self.feeds, self.longest, self.runs)
     }
 }
