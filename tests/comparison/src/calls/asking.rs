@@ -62,6 +62,11 @@ impl Asking<'_> {
         Ok(joined)
     }
 
+    /// The longest slice of a type.
+    pub fn longest(&mut self, stream: &[u8]) -> Result<Vec<u8>, String> {
+        self.ask_one(Operation::Longest, &[stream])
+    }
+
     /// What a patch sends and leaves.
     pub fn feed(&mut self, patch: &[u8], slice: &[u8]) -> Result<Fed, String> {
         let mut files = self.ask(Operation::Feed, &[patch, slice])?;

@@ -13,11 +13,13 @@ use crate::generators::random::Random;
 use crate::generators::slices::{slice_at, Pace};
 use crate::runs::demand::Demand;
 use crate::runs::recut::recut;
+use crate::runs::room::Room;
 use crate::tallies::feeds::Position;
 use crate::tallies::Tally;
 
 mod demand;
 pub(crate) mod recut;
+mod room;
 
 /// An accepted feed of a run: the patch that it was handed, its slice, what it sent and left.
 #[derive(Clone, Debug)]
@@ -70,20 +72,22 @@ impl Runs {
         }
     }
 
-    /// Makes one run, compares every call, and holds demand 3 to it; then cuts its stream anew.
+    /// Makes one run, compares every call, and holds demand 3 and the room that Longest gives to it;
+    /// then cuts its stream anew.
     pub fn compare_run(&mut self, noise: &mut Random, tally: &mut Tally) -> Result<(), String> {
         let plan = Plan::any(&mut self.random);
         let old = self.random.chance(30);
-        let mut run = Run {
-            plan,
-            feeds: 0,
-            steps: Vec::new(),
-            patch: accepted_patch(&mut self.random, old),
-            slice: Vec::new(),
-        };
-        let start = run.patch.clone();
+        let start = accepted_patch(&mut self.random, old);
         let told = |text: String| format!("{text}\n{}", run_so_far(&start, &[]));
         let demand = Demand::new(&mut Asking { noise }, &start).map_err(told)?;
+        let mut run = Run {
+            plan,
+            room: Room::new(&mut Asking { noise }, &start).map_err(told)?,
+            feeds: 0,
+            steps: Vec::new(),
+            patch: start.clone(),
+            slice: Vec::new(),
+        };
         let demand = run
             .go(&mut self.random, noise, tally, demand)
             .map_err(|text| format!("{text}\n{}", run_so_far(&start, &run.steps)))?;
@@ -114,6 +118,7 @@ fn run_so_far(start: &[u8], steps: &[Step]) -> String {
 /// A run under way.
 struct Run {
     plan: Plan,
+    room: Room,
     /// The calls so far, and the accepted ones among them.
     feeds: usize,
     steps: Vec<Step>,
@@ -124,7 +129,8 @@ struct Run {
 }
 
 impl Run {
-    /// Makes every call of the run, and holds the demand after each that is accepted and at the end.
+    /// Makes every call of the run. Holds the demand after each that is accepted and at the end, and
+    /// the room after each.
     fn go(
         &mut self,
         random: &mut Random,
@@ -148,6 +154,7 @@ impl Run {
             self.accept(agreed.files);
             let step = self.steps.last().expect("one was accepted");
             demand.after(&mut Asking { noise }, &step.slice, &step.fed)?;
+            self.room.holds(&step.slice, &step.fed)?;
         }
         demand.as_one(&mut Asking { noise }, &self.patch)?;
         Ok(demand)
