@@ -27,7 +27,7 @@ impl Style {
             choices: if nested {
                 100
             } else {
-                random.pick(&[10, 30, 60])
+                random.pick(&[0, 10, 30, 60])
             },
             levels: random.pick(&[0, 50, 90]),
             nested,
@@ -39,7 +39,7 @@ impl Style {
         let most = if self.nested {
             24
         } else {
-            random.pick(&[6, 20, 60, 120])
+            random.pick(&[6, 20, 60, 120, 500])
         };
         random.between(2, most)
     }
@@ -55,7 +55,11 @@ pub fn type_with_sides(random: &mut Random) -> Vec<u8> {
             style,
             tree: Vec::new(),
         };
-        writer.write(bytes, style.choices);
+        if writer.random.chance(50) {
+            writer.either(bytes - 1, style.choices);
+        } else {
+            writer.write(bytes, style.choices);
+        }
         if writer.tree.len() <= Type::LIMIT {
             return writer.tree;
         }

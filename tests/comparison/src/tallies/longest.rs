@@ -25,6 +25,9 @@ const BY_NODES: [&str; 3] = ["second has more nodes", "as many", "first has more
 /// An answer with more choices of one side than this has them one inside another, mostly.
 const MANY: u64 = 100;
 
+/// The length of more than this takes two bytes.
+const LONG: usize = 255;
+
 /// A count for every way in which two sides compare: for each by bytes those by nodes.
 type Choices = [[u64; BY_NODES.len()]; BY_BYTES.len()];
 
@@ -36,6 +39,8 @@ struct Longest {
     /// How often the first and the second side is chosen in it, and between what sides.
     chosen: [u64; 2],
     choices: Choices,
+    /// How often the side that is chosen has more bytes than fit in one byte.
+    long: u64,
 }
 
 impl Longest {
@@ -63,6 +68,7 @@ impl Longest {
     fn both(mut one: Longest, other: &Longest) -> Self {
         one.nodes += 1 + other.nodes;
         one.bytes += 1 + other.bytes;
+        one.long += other.long;
         add(&mut one.chosen, &other.chosen);
         for (times, more) in one.choices.iter_mut().zip(&other.choices) {
             add(times, more);
@@ -75,6 +81,7 @@ impl Longest {
         let is_second = second.bytes > first.bytes;
         let mut longest = if is_second { *second } else { *first };
         longest.nodes = 1 + first.nodes + second.nodes;
+        longest.long += u64::from(longest.bytes > LONG);
         longest.bytes += 1;
         longest.chosen[usize::from(is_second)] += 1;
         let by_bytes = place(first.bytes.cmp(&second.bytes));
@@ -119,6 +126,8 @@ pub struct LongestTally {
     choices: Choices,
     /// Answers with many choices of the first side, and with many of the second.
     many: [u64; 2],
+    /// Answers with a long side that is chosen.
+    long: u64,
     /// Answers as long as a slice can be in a buffer that they fill, and in one that is a byte short.
     filled: u64,
     byte_short: u64,
@@ -157,6 +166,7 @@ impl LongestTally {
             return Err(format!("adding lengths chooses {:?} times", longest.chosen));
         }
         count_above(&mut self.many, &chosen, MANY);
+        self.long += u64::from(longest.long > 0);
         for (answers, times) in self.choices.iter_mut().zip(&longest.choices) {
             count_above(answers, times, 0);
         }
@@ -178,7 +188,7 @@ impl LongestTally {
         )
     }
 
-    fn named(&self) -> [(u64, String); 5] {
+    fn named(&self) -> [(u64, String); 6] {
         let most = LONGEST_SLICE_FILE;
         [
             (
@@ -196,6 +206,10 @@ impl LongestTally {
             (
                 self.many[1],
                 format!("answers chose the second side more than {MANY} times"),
+            ),
+            (
+                self.long,
+                format!("answers chose a side of more than {LONG} bytes"),
             ),
             (
                 self.all_tried,
