@@ -2,6 +2,7 @@
 
 mod feeds;
 mod goals;
+mod longest;
 mod measured;
 mod nodes;
 mod patches;

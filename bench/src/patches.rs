@@ -11,7 +11,7 @@ use crate::nodes::{
     chains, choose_of_marks, choosing, cue_then_lanes, lanes, largest, marking, nodes_of, seeking,
     silent_largest, tree_of, LEAF_TYPE, MOST_NODES, PATCH_SIZES,
 };
-use crate::rows::{claiming, lengthened, Group, Row, GROWTHS, LARGEST, SIZES};
+use crate::rows::{claiming, grown, lengthened, Group, Row, GROWTHS, LARGEST};
 use crate::streams::{type_tree, Shape};
 
 fn row(group: Group, name: &str, file: Vec<u8>) -> Row {
@@ -77,19 +77,12 @@ fn giving_largest() -> [(&'static str, Vec<u8>, Vec<u8>); 7] {
 
 /// One node on types of a growing size: the group, a name, and the patch.
 pub fn pass_on_growing_types() -> Vec<(Group, String, Vec<u8>)> {
-    let mut patches = Vec::new();
-    for (series, tree) in GROWTHS {
-        for nodes in SIZES {
-            let group = Group::Growing {
-                series,
-                nodes,
-                largest: LARGEST,
-            };
-            let name = format!("pass, {series}, {nodes} nodes in the type");
-            patches.push((group, name, patch(&tree(nodes), &[PASS])));
-        }
-    }
-    patches
+    (grown(&GROWTHS).into_iter())
+        .map(|(group, name, tree)| {
+            let name = format!("pass, {name} in the type");
+            (group, name, patch(&tree, &[PASS]))
+        })
+        .collect()
 }
 
 /// One node on types of a growing size, and patches of a growing number of nodes.

@@ -1,5 +1,5 @@
 //! The rows of the table: one call each. Those of Check are in [`crate::patches`], those of Feed in
-//! [`crate::feeds`].
+//! [`crate::feeds`], those of Longest in [`crate::longest`].
 
 use comparison::calls::library;
 use comparison::formats::fault::ACCEPTED;
@@ -9,13 +9,13 @@ use comparison::Operation;
 
 use crate::nodes::{choices, choices_then_cue, eithers};
 use crate::streams::{slice_tree, type_tree, Shape, Share};
-use crate::{feeds, patches};
+use crate::{feeds, longest, patches};
 
 /// The nodes of the largest type.
 pub const LARGEST: usize = 255;
 
 /// The sizes, in nodes, at which a type is followed as it grows.
-pub const SIZES: [usize; 5] = [15, 31, 63, 127, LARGEST];
+const SIZES: [usize; 5] = [15, 31, 63, 127, LARGEST];
 
 /// What a row is there for.
 #[derive(Clone, Copy, Debug, PartialEq, Eq)]
@@ -69,14 +69,14 @@ pub enum Side {
 }
 
 impl Row {
-    /// The row of an operation on a type and two slices; Admit and Left take the first alone.
-    fn new(group: Group, name: &str, operation: Operation, files: &[Vec<u8>; 3]) -> Self {
-        let taken = if operation == Operation::Join { 3 } else { 2 };
+    /// The row of an operation on a type and up to two slices; of these files it takes as many as it
+    /// needs.
+    pub fn new(group: Group, name: &str, operation: Operation, files: &[Vec<u8>]) -> Self {
         Row {
             group,
             name: name.to_string(),
             operation,
-            files: files[..taken].to_vec(),
+            files: files[..operation.files().len()].to_vec(),
         }
     }
 
@@ -148,7 +148,23 @@ fn halves(tree: &[u8]) -> [Vec<u8>; 3] {
 }
 
 /// How a tree of so many nodes is made that grows, with its name in the table.
-type Growth = (&'static str, fn(usize) -> Vec<u8>);
+pub type Growth = (&'static str, fn(usize) -> Vec<u8>);
+
+/// Types at each of the sizes: the group, a name, and the tree.
+pub fn grown(growths: &[Growth]) -> Vec<(Group, String, Vec<u8>)> {
+    let mut types = Vec::new();
+    for (series, tree) in growths {
+        for nodes in SIZES {
+            let group = Group::Growing {
+                series,
+                nodes,
+                largest: LARGEST,
+            };
+            types.push((group, format!("{series}, {nodes} nodes"), tree(nodes)));
+        }
+    }
+    types
+}
 
 /// The types that are followed as they grow.
 pub const GROWTHS: [Growth; 6] = [
@@ -172,12 +188,15 @@ pub fn all() -> Vec<Row> {
     let mut rows = patches::legal();
     rows.extend(ON_STREAMS.into_iter().flat_map(legal));
     rows.extend(feeds::legal());
+    rows.extend(longest::legal());
     rows.extend(patches::growing());
     rows.extend(ON_STREAMS.into_iter().flat_map(growing));
     rows.extend(feeds::growing());
+    rows.extend(longest::growing());
     rows.extend(patches::refused());
     rows.extend(ON_STREAMS.into_iter().flat_map(refused));
     rows.extend(feeds::refused());
+    rows.extend(longest::refused());
     rows
 }
 
@@ -209,19 +228,12 @@ fn legal(operation: Operation) -> Vec<Row> {
 }
 
 fn growing(operation: Operation) -> Vec<Row> {
-    let mut rows = Vec::new();
-    for (series, tree) in GROWTHS {
-        for nodes in SIZES {
-            let name = format!("{series}, {nodes} nodes, half has come");
-            let group = Group::Growing {
-                series,
-                nodes,
-                largest: LARGEST,
-            };
-            rows.push(Row::new(group, &name, operation, &halves(&tree(nodes))));
-        }
-    }
-    rows
+    (grown(&GROWTHS).into_iter())
+        .map(|(group, name, tree)| {
+            let name = format!("{name}, half has come");
+            Row::new(group, &name, operation, &halves(&tree))
+        })
+        .collect()
 }
 
 /// A file with bytes behind it up to this length.
@@ -237,43 +249,38 @@ pub fn claiming(mut file: Vec<u8>) -> Vec<u8> {
     file
 }
 
+/// Type files that are refused, made of one that is not.
+pub fn refused_types(legal: &[u8]) -> [(&'static str, Vec<u8>); 4] {
+    [
+        ("type file of a mebibyte", lengthened(legal, 1 << 20)),
+        ("type claims 65,535 bytes, short", claiming(legal.to_vec())),
+        (
+            "type claims 65,535 bytes, full",
+            claiming(lengthened(legal, 65_537)),
+        ),
+        ("65,535 forks", section(&[SEQUENCE; 65_535])),
+    ]
+}
+
 fn refused(operation: Operation) -> Vec<Row> {
-    let legal = stream(
+    let [stream, slice, second] = stream(
         &type_tree(Shape::Balanced, LARGEST),
         Share::All,
         Share::Nothing,
     );
-    let [stream, slice, second] = &legal;
-    let with_type = |file: Vec<u8>| [file, slice.clone(), second.clone()];
-    let with_slice = |file: Vec<u8>| [stream.clone(), file, second.clone()];
-    let rows = [
-        (
-            "type file of a mebibyte",
-            with_type(lengthened(stream, 1 << 20)),
-        ),
-        (
-            "slice file of a mebibyte",
-            with_slice(lengthened(slice, 1 << 20)),
-        ),
-        (
-            "type claims 65,535 bytes, short",
-            with_type(claiming(stream.clone())),
-        ),
-        (
-            "slice claims 65,535 bytes, short",
-            with_slice(claiming(slice.clone())),
-        ),
-        (
-            "type claims 65,535 bytes, full",
-            with_type(claiming(lengthened(stream, 65_537))),
-        ),
+    let slices = [
+        ("slice file of a mebibyte", lengthened(&slice, 1 << 20)),
+        ("slice claims 65,535 bytes, short", claiming(slice.clone())),
         (
             "slice claims 65,535 bytes, full",
-            with_slice(claiming(lengthened(slice, 65_537))),
+            claiming(lengthened(&slice, 65_537)),
         ),
-        ("65,535 forks", with_type(section(&[SEQUENCE; 65_535]))),
     ];
-    rows.iter()
-        .map(|(name, files)| Row::new(Group::Refused, name, operation, files))
+    let with_type = |file: Vec<u8>| [file, slice.clone(), second.clone()];
+    let with_slice = |file: Vec<u8>| [stream.clone(), file, second.clone()];
+    let types = refused_types(&stream).map(|(name, file)| (name, with_type(file)));
+    (types.into_iter())
+        .chain(slices.map(|(name, file)| (name, with_slice(file))))
+        .map(|(name, files)| Row::new(Group::Refused, name, operation, &files))
         .collect()
 }

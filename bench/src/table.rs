@@ -8,7 +8,7 @@ use crate::rows::Row;
 /// A line of the table: the call, and what each column has.
 fn line(call: &str, columns: [&str; 9]) -> String {
     const WIDTHS: [usize; 9] = [9, 11, 11, 8, 9, 11, 11, 12, 8];
-    let mut text = format!("{call:<57}");
+    let mut text = format!("{call:<58}");
     for (column, width) in columns.into_iter().zip(WIDTHS) {
         text += &format!("{column:>width$}");
     }
@@ -22,7 +22,7 @@ fn number(value: Option<f64>, digits: usize) -> String {
 
 fn row_line(runs: &[Vec<Measured>], row: usize) -> String {
     let one = &runs[0][row];
-    let call = format!("{:<7}{}", format!("{:?}", one.row.operation), one.row.name);
+    let call = format!("{:<8}{}", format!("{:?}", one.row.operation), one.row.name);
     let middle = |figure, digits| number(in_median(runs, row, figure), digits);
     let columns = [
         one.row.input_bytes().to_string(),
