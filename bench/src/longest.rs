@@ -58,8 +58,9 @@ fn forks_of(shape: Shape, nodes: usize, fork: u8) -> Vec<u8> {
     tree_of(shape, nodes, fork, &|_| vec![CUE])
 }
 
-/// Choices one inside another, a type of so many nodes. At every second one the longest slice of the
-/// side that ends there has so many bytes more than that of the side that goes on; an even number.
+/// Choices one inside another, a type of so many nodes. At every second one the longest slice of
+/// the side that ends there has so many bytes more than that of the side that goes on; an even
+/// number.
 fn nest(shape: Shape, nodes: usize, more: usize) -> Vec<u8> {
     let choice = |going_on: &[u8], ending: &[u8]| match shape {
         Shape::DeepLeft => [&[EITHER], going_on, ending].concat(),

@@ -69,8 +69,8 @@ pub enum Side {
 }
 
 impl Row {
-    /// The row of an operation on a type and up to two slices; of these files it takes as many as it
-    /// needs.
+    /// The row of an operation on a type and up to two slices; of these files it takes as many as
+    /// it needs.
     pub fn new(group: Group, name: &str, operation: Operation, files: &[Vec<u8>]) -> Self {
         Row {
             group,

@@ -3,11 +3,11 @@
 //! [`formats`] has the names of kinds and numbers, and files as bytes and as trees. [`generators`]
 //! draws calls from a seed, many of them accepted and the others damaged in every way that a file
 //! can be. [`calls`] hands one to both and compares number, lengths and every byte of the lent
-//! buffers and beside them. [`runs`] makes lists of feeds, each on the patch that the last one left,
-//! and holds demand 3 to them. [`rivals`] holds what Longest wrote to other slices of its type.
-//! [`tallies`] counts what was answered, so that one sees which numbers
-//! and which kinds of nodes were met. [`limits`] holds the answers that a program stored.
-//! [`convention`] is what this package's program and those of others have in common for their users.
+//! buffers and beside them. [`runs`] makes lists of feeds, each on the patch that the last one
+//! left, and holds demand 3 to them. [`rivals`] holds what Longest wrote to other slices of its
+//! type. [`tallies`] counts what was answered, so that one sees which numbers and which kinds of
+//! nodes were met. [`limits`] holds the answers that a program stored. [`convention`] is what this
+//! package's program and those of others have in common for their users.
 
 pub mod calls;
 pub mod convention;

@@ -59,6 +59,7 @@ fn options(words: &[&str]) -> Result<Options, Stop> {
     })
 }
 
+/// Compares a call and counts it. What Longest wrote is held to other slices of its type.
 fn compare_call(
     call: &Call,
     rivals: &mut Rivals,

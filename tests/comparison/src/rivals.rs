@@ -1,4 +1,5 @@
-//! What Longest wrote, held to other slices of the type: each of them is admitted, and none is longer.
+//! What Longest wrote, held to other slices of the type: each of them is admitted, and none is
+//! longer.
 
 use second_interpreter::longest_by_trying;
 
@@ -38,8 +39,8 @@ impl Rivals {
         }
     }
 
-    /// Holds a slice file that Longest wrote to what is asked of it: it is admitted and complete, and
-    /// no slice of the type makes a longer one.
+    /// Holds a slice file that Longest wrote to what is asked of it: it is admitted and complete,
+    /// and no slice of the type makes a longer one.
     pub fn try_against(&mut self, type_file: &[u8], longest: &[u8]) -> Result<Tried, String> {
         let answer = library::admit(type_file, longest);
         let due = Admitted {
@@ -82,7 +83,8 @@ fn try_one(type_file: &[u8], longest: &[u8], slice: &[u8]) -> Result<(), String>
     }
 }
 
-/// The answer is as long as the longest of all slices. Says whether the type is small enough to try.
+/// The answer is as long as the longest of all slices. Says whether the type is small enough to
+/// try.
 fn try_all(type_file: &[u8], longest: &[u8]) -> Result<bool, String> {
     let tree = contents(type_file);
     if tree.len() > SMALL {

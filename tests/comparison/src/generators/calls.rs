@@ -24,8 +24,8 @@ const OFTEN: [Operation; 5] = [
     Operation::Feed,
 ];
 
-/// The chance, in a hundred, of a call of Longest. It is drawn less often: what it writes is held to
-/// a hundred other slices, which takes as long as many calls.
+/// The chance, in a hundred, of a call of Longest. It is drawn less often: what it writes is held
+/// to a hundred other slices, which takes as long as many calls.
 const LONGEST: usize = 5;
 
 /// A stream of calls that follows from a seed.
@@ -99,8 +99,8 @@ fn type_of_style(random: &mut Random, style: &Style, forks: usize) -> Vec<u8> {
     tree
 }
 
-/// The tree of a type: any, of the greatest length, with the deepest choices, or with choices between
-/// sides that are about equally long.
+/// The tree of a type: any, of the greatest length, with the deepest choices, or with choices
+/// between sides that are about equally long.
 fn type_for_longest(random: &mut Random) -> Vec<u8> {
     let style = match random.below(20) {
         0..=8 => return any_type(random),

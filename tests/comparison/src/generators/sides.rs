@@ -1,6 +1,6 @@
-//! Random types for Longest: with choices between sides that are about equally long, or just as long,
-//! written as the bytes of their trees. They are grown from the length that their longest slice is to
-//! have; how many nodes that takes depends on where the levels are.
+//! Random types for Longest: with choices between sides that are about equally long, or just as
+//! long, written as the bytes of their trees. They are grown from the length that their longest
+//! slice is to have; how many nodes that takes depends on where the levels are.
 
 use second_interpreter::Type;
 
@@ -73,8 +73,8 @@ struct Writer<'a> {
 }
 
 impl Writer<'_> {
-    /// Writes a type whose longest slice has so many bytes, with this chance of a choice. A tree that
-    /// has passed the limit is not written on.
+    /// Writes a type whose longest slice has so many bytes, with this chance of a choice. A tree
+    /// that has passed the limit is not written on.
     fn write(&mut self, bytes: usize, choices: usize) {
         if self.tree.len() > Type::LIMIT {
             return;

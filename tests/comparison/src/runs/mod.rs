@@ -72,8 +72,8 @@ impl Runs {
         }
     }
 
-    /// Makes one run, compares every call, and holds demand 3 and the room that Longest gives to it;
-    /// then cuts its stream anew.
+    /// Makes one run, compares every call, and holds demand 3 and the room that Longest gives to
+    /// it; then cuts its stream anew.
     pub fn compare_run(&mut self, noise: &mut Random, tally: &mut Tally) -> Result<(), String> {
         let plan = Plan::any(&mut self.random);
         let old = self.random.chance(30);
@@ -129,8 +129,8 @@ struct Run {
 }
 
 impl Run {
-    /// Makes every call of the run. Holds the demand after each that is accepted and at the end, and
-    /// the room after each.
+    /// Makes every call of the run. Holds the demand after each that is accepted and at the end,
+    /// and the room after each.
     fn go(
         &mut self,
         random: &mut Random,

@@ -1,5 +1,6 @@
-//! What Longest is for, held to a run: room for the longest slices of the types at the start is room
-//! for every slice of the run. What a slice leaves of a type has no longer slices than the type.
+//! What Longest is for, held to a run: room for the longest slices of the types at the start is
+//! room for every slice of the run. What a slice leaves of a type has no longer slices than the
+//! type.
 
 use crate::calls::asking::{Asking, Fed};
 use crate::formats::files::{contents, section};

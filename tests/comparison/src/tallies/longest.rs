@@ -76,7 +76,8 @@ impl Longest {
         one
     }
 
-    /// The first of two sides that are equally long. What the other side has inside is not in the slice.
+    /// The longer side, and the first of two that are equally long. What the other side has inside
+    /// is not in the slice.
     fn longer(first: &Longest, second: &Longest) -> Self {
         let is_second = second.bytes > first.bytes;
         let mut longest = if is_second { *second } else { *first };
@@ -128,7 +129,8 @@ pub struct LongestTally {
     many: [u64; 2],
     /// Answers with a long side that is chosen.
     long: u64,
-    /// Answers as long as a slice can be in a buffer that they fill, and in one that is a byte short.
+    /// Answers as long as a slice can be in a buffer that they fill, and in one that is a byte
+    /// short.
     filled: u64,
     byte_short: u64,
     /// What was tried against answers.
@@ -138,7 +140,8 @@ pub struct LongestTally {
 }
 
 impl LongestTally {
-    /// Counts a call that was accepted or refused with 20. Says if adding lengths finds another answer.
+    /// Counts a call that was accepted or refused with 20. Says if adding lengths finds another
+    /// answer.
     pub fn add(&mut self, call: &Call, agreed: &Agreed) -> Result<(), String> {
         let longest = Longest::of(&type_of(contents(&call.files[0])));
         let (needs, lent) = (2 + longest.bytes, call.lent[0]);
@@ -183,7 +186,7 @@ impl LongestTally {
     /// What was tried against how many answers, in a line.
     pub fn told(&self) -> String {
         format!(
-            "of {} slices tried against {} answers none is longer; {} answers were found by trying all",
+            "of {} slices tried against {} answers none is longer; {} answers were held to all slices",
             self.slices, self.tried, self.all_tried
         )
     }
@@ -213,7 +216,7 @@ impl LongestTally {
             ),
             (
                 self.all_tried,
-                "answers were found by trying all slices".to_string(),
+                "answers were held to all slices".to_string(),
             ),
         ]
     }
