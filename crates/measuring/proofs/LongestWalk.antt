@@ -18,25 +18,13 @@ use Rattle.stream.specs.SliceFiles.{prefix-bytes}
 use Rattle.stream.specs.Longest.{byte-count, chosen, largest-level, longest-prefix}
 use Rattle.reading.specs.TypeReads.{TypeAt, SomeTypeAt, TypeEnds}
 use Rattle.reading.specs.TypeReads.Laws.{type-drop, starts-inside}
+use Rattle.writing.specs.Tasks.{Task, passed, written, type-of, several, sizes, several-append, sizes-append}
 use Rattle.writing.specs.Writing.{Begun}
 use Rattle.writing.specs.Writing.Laws.{part, back, byte-on, goes-on, length-kept}
 use Rattle.measuring.specs.Planning.{largest-value, passed-over, plan-choice, plan, LongestDue, LongestWritten}
 use Rattle.measuring.specs.Planning.Laws.{plan-length, plan-drop, passed-over-length, passed-over-drop}
 
--- A type that is still to be gone through.
-data Task : Type 0 where
-  passed : Ty → Task  -- it is not chosen
-  written : Ty → Task  -- its longest prefix is written
-
-abbrev type-of : Task → Ty
-type-of (passed t) = t
-type-of (written t) = t
-
--- The bytes of several types, and then r; their plans, and then r; how many nodes they have.
-abbrev several : List Task → List ℕ → List ℕ
-several [] r = r
-several (x ∷ xs) r = type-bytes (type-of x) (several xs r)
-
+-- The plans of several types, and then r.
 abbrev plan-one : Task → List ℕ → List ℕ
 plan-one (passed t) r = passed-over (plan t r)
 plan-one (written t) r = plan t r
@@ -44,10 +32,6 @@ plan-one (written t) r = plan t r
 abbrev plans : List Task → List ℕ → List ℕ
 plans [] r = r
 plans (x ∷ xs) r = plan-one x (plans xs r)
-
-abbrev sizes : List Task → ℕ
-sizes [] = 0
-sizes (x ∷ xs) = size (type-of x) + sizes xs
 
 -- The bytes that are still to be written for one of them, and then r; and for several.
 abbrev owing-one : Task → List ℕ → List ℕ
@@ -122,11 +106,7 @@ opened (par s t) =
     unvalued-root 7 (written s ∷ written t ∷ []) (omega arith) (λ h. omega arith) (λ r. refl) (λ r. refl) (λ r. refl) (omega arith)
 opened (either s t) = either-opened s t (leb (byte-count (longest-prefix t)) (byte-count (longest-prefix s))) refl
 
--- Several lists of types, one behind the other.
-
-several-append : (xs ys : List Task) (r : List ℕ) → several (xs ++ ys) r ≡ several xs (several ys r)
-several-append [] ys r = refl
-several-append (x ∷ xs) ys r = ap (type-bytes (type-of x)) (several-append xs ys r)
+-- Two lists of types, one behind the other.
 
 plans-append : (xs ys : List Task) (r : List ℕ) → plans (xs ++ ys) r ≡ plans xs (plans ys r)
 plans-append [] ys r = refl
@@ -135,10 +115,6 @@ plans-append (x ∷ xs) ys r = ap (plan-one x) (plans-append xs ys r)
 owing-append : (xs ys : List Task) (r : List ℕ) → owing (xs ++ ys) r ≡ owing xs (owing ys r)
 owing-append [] ys r = refl
 owing-append (x ∷ xs) ys r = ap (owing-one x) (owing-append xs ys r)
-
-sizes-append : (xs ys : List Task) → sizes (xs ++ ys) ≡ sizes xs + sizes ys
-sizes-append [] ys = omega arith
-sizes-append (x ∷ xs) ys = omega (arith, sizes-append xs ys)
 
 -- Where the loop is: the types still to be gone through begin at `at`, as do their plans, and what is to be written is what has been
 -- written and what they still owe.

@@ -16,30 +16,14 @@ use Rattle.reading.specs.TypeReads.{TypeAt, SomeTypeAt, TypeEnds}
 use Rattle.reading.specs.TypeReads.Laws.{type-drop, kind-at, starts-inside, same-type}
 use Rattle.reading.specs.SliceReads.Laws.{prefix-bytes-length, width-positive}
 use Rattle.writing.specs.Writing.{empty-kind, EmptyDue, EmptyWritten}
+use Rattle.writing.specs.Tasks.{Task, passed, written, type-of, several, sizes, sizes-many}
 use Rattle.writing.specs.Appending.Laws.{WrittenSoFar, nothing-written, written-on}
 use Rattle.writing.proofs.RoomBehind.{appended-byte}
 
--- A type that is still to be gone through, and its mark on the stack.
-data Task : Type 0 where
-  passed : Ty → Task  -- 0, passed over
-  written : Ty → Task  -- 1, its empty prefix is written
-
-abbrev type-of : Task → Ty
-type-of (passed t) = t
-type-of (written t) = t
-
+-- The mark of a type on the stack.
 abbrev mark : Task → ℕ
 mark (passed t) = 0
 mark (written t) = 1
-
--- The bytes of several types, and then r; how many they are.
-abbrev several : List Task → List ℕ → List ℕ
-several [] r = r
-several (x ∷ xs) r = type-bytes (type-of x) (several xs r)
-
-abbrev sizes : List Task → ℕ
-sizes [] = 0
-sizes (x ∷ xs) = size (type-of x) + sizes xs
 
 -- The bytes that are still to be written for one of them, and then r; and for all.
 abbrev owing-one : Task → List ℕ → List ℕ
@@ -49,11 +33,6 @@ owing-one (written t) r = prefix-bytes (empty-prefix t) r
 abbrev owing : List Task → List ℕ
 owing [] = []
 owing (x ∷ xs) = owing-one x (owing xs)
-
--- Each has a node.
-sizes-many : (xs : List Task) → length xs ≤ sizes xs
-sizes-many [] = omega arith
-sizes-many (x ∷ xs) = omega (arith, size-positive (type-of x), sizes-many xs)
 
 -- The marks lie on the stack, the first task's on top.
 abbrev Marked : List ℕ → List Task → Type 0

@@ -3,3 +3,4 @@ pub mod Appending
 pub mod Reordering
 pub mod Leaving
 pub mod Comparing
+pub mod Tasks

@@ -4,7 +4,7 @@
 //! draws calls from a seed, many of them accepted and the others damaged in every way that a file
 //! can be. [`calls`] hands one to both and compares number, lengths and every byte of the lent
 //! buffers and beside them. [`runs`] makes lists of feeds, each on the patch that the last one
-//! left, and holds demand 3 to them. [`rivals`] holds what Longest wrote to other slices of its
+//! left, and holds demand 3 to them. [`other_slices`] holds what Longest wrote to other slices of its
 //! type. [`tallies`] counts what was answered, so that one sees which numbers and which kinds of
 //! nodes were met. [`limits`] holds the answers that a program stored. [`convention`] is what this
 //! package's program and those of others have in common for their users.
@@ -14,7 +14,7 @@ pub mod convention;
 pub mod formats;
 pub mod generators;
 pub mod limits;
-pub mod rivals;
+pub mod other_slices;
 pub mod runs;
 pub mod tallies;
 
@@ -22,6 +22,6 @@ pub use calls::call::{Call, Operation};
 pub use calls::comparison::compare;
 pub use generators::calls::Calls;
 pub use generators::random::Random;
-pub use rivals::Rivals;
+pub use other_slices::OtherSlices;
 pub use runs::Runs;
 pub use tallies::Tally;

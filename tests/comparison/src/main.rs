@@ -7,7 +7,7 @@ use std::time::{Duration, Instant};
 use comparison::calls::library;
 use comparison::convention::{self, number, Output, Stop};
 use comparison::formats::fault;
-use comparison::{compare, limits, Call, Calls, Operation, Random, Rivals, Runs, Tally};
+use comparison::{compare, limits, Call, Calls, Operation, OtherSlices, Random, Runs, Tally};
 
 const HELP: &str = "\
 compare (--calls N | --seconds N) [--seed S]
@@ -62,14 +62,14 @@ fn options(words: &[&str]) -> Result<Options, Stop> {
 /// Compares a call and counts it. What Longest wrote is held to other slices of its type.
 fn compare_call(
     call: &Call,
-    rivals: &mut Rivals,
+    other_slices: &mut OtherSlices,
     noise: &mut Random,
     tally: &mut Tally,
 ) -> Result<(), String> {
     let agreed = compare(call, noise)?;
     tally.add(call, &agreed)?;
     if call.operation == Operation::Longest && agreed.answer.number == fault::ACCEPTED {
-        let tried = rivals
+        let tried = other_slices
             .try_against(&call.files[0], &agreed.files[0])
             .map_err(|text| format!("{text}\n{call}"))?;
         tally.longest.add_tried(tried);
@@ -80,9 +80,9 @@ fn compare_call(
 fn run(options: &Options, noise: &mut Random, tally: &mut Tally) -> Result<(), String> {
     let begin = Instant::now();
     let mut runs = Runs::new(options.seed.wrapping_add(1 << 32));
-    let mut rivals = Rivals::new(options.seed.wrapping_add(2 << 32));
+    let mut other_slices = OtherSlices::new(options.seed.wrapping_add(2 << 32));
     for (number, call) in (1_u64..).zip(Calls::new(options.seed)) {
-        compare_call(&call, &mut rivals, noise, tally)
+        compare_call(&call, &mut other_slices, noise, tally)
             .map_err(|text| format!("seed {}, call {number}: {text}", options.seed))?;
         if number % CALLS_PER_RUN == 0 {
             runs.compare_run(noise, tally).map_err(|text| {

@@ -12,7 +12,7 @@ use crate::formats::files::{contents, LONGEST_SLICE_FILE};
 use crate::formats::kinds::slice_kind::{FIRST_CHOSEN, SECOND_CHOSEN};
 use crate::formats::preorder::slice_roots;
 use crate::formats::trees::type_of;
-use crate::rivals::Tried;
+use crate::other_slices::Tried;
 
 /// How the sides of a choice compare by their bytes and by their nodes.
 const BY_BYTES: [&str; 3] = [

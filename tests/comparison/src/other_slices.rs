@@ -27,14 +27,14 @@ pub struct Tried {
 
 /// Draws slices that follow from a seed.
 #[derive(Debug)]
-pub struct Rivals {
+pub struct OtherSlices {
     random: Random,
 }
 
-impl Rivals {
+impl OtherSlices {
     /// The slices of a seed.
     pub fn new(seed: u64) -> Self {
-        Rivals {
+        OtherSlices {
             random: Random::new(seed),
         }
     }
