@@ -12,11 +12,11 @@ use Rattle.stream.specs.SliceFiles.{prefix-bytes}
 pub mod Laws
 pub mod Examples
 
--- How many bytes a prefix has in its file.
+-- How many bytes a prefix has; the count of its file comes before them.
 abbrev pub byte-count : Prefix → ℕ
 byte-count p = length (prefix-bytes p [])
 
--- Of a prefix of each side the longer one is chosen. "Where either's sides are equally long the first is chosen."
+-- Of two prefixes, one of each side, the longer is chosen. "Where either's sides are equally long the first is chosen."
 abbrev pub chosen : Bool → Prefix → Prefix → Prefix
 chosen true p q = first-chosen p
 chosen false p q = second-chosen q
