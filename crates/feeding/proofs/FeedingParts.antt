@@ -12,9 +12,10 @@ use Rattle.stream.specs.Bounds.{twice-node-bytes}
 use Rattle.stream.specs.Prefixes.{Prefix, IsPrefix}
 use Rattle.stream.specs.TypeFiles.{type-bytes}
 use Rattle.stream.specs.SliceFiles.{prefix-bytes}
+use Rattle.stream.specs.SliceFiles.Laws.{prefix-before}
 use Rattle.reading.specs.TypeReads.Laws.{type-before, type-width}
 use Rattle.reading.specs.SliceReads.{prefix-width}
-use Rattle.reading.specs.SliceReads.Laws.{prefix-before, prefix-bytes-length}
+use Rattle.reading.specs.SliceReads.Laws.{prefix-bytes-length}
 use Rattle.reading.specs.Inputs.Laws.{width-within}
 use Rattle.writing.specs.Writing.Laws.{part, back}
 use Rattle.writing.specs.Appending.Laws.{back-length}

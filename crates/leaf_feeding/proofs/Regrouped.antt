@@ -10,13 +10,13 @@ use Rattle.stream.specs.Types.{Ty}
 use Rattle.stream.specs.Buffers.{at-front}
 use Rattle.stream.specs.Prefixes.{Prefix, IsPrefix, of-first, of-crossed, of-beside}
 use Rattle.stream.specs.SliceFiles.{prefix-bytes}
-use Rattle.stream.specs.SliceFiles.Laws.{prefix-short, slice-length}
+use Rattle.stream.specs.SliceFiles.Laws.{prefix-before, prefix-short, slice-length}
 use Rattle.reading.specs.declared.nested.Pieces.{Pieces}
 use Rattle.reading.specs.declared.nested.Shaped.{Shaped}
 use Rattle.reading.specs.declared.nested.Shaped.the-variants.{Nested, Other}
 use Rattle.reading.specs.declared.prefixes.PrefixPlace.{PrefixPlace}
 use Rattle.reading.specs.SliceReads.{prefix-width, PrefixIn}
-use Rattle.reading.specs.SliceReads.Laws.{prefix-bytes-length, prefix-before, in-first-at}
+use Rattle.reading.specs.SliceReads.Laws.{prefix-bytes-length, in-first-at}
 use Rattle.reading.specs.Nesting.{Piece, Cut, uncut, cut, FirstCut, first-coming, first-one, first-two, SecondCut, second-coming, second-one, second-two, second-sides, SliceIn, SomeSlice, Told, told-other, told-nested, Shapes}
 use Rattle.reading.specs.Nesting.Laws.{prefix-piece}
 use Rattle.writing.specs.Appending.Laws.{WrittenSoFar}

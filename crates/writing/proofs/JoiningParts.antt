@@ -10,8 +10,9 @@ use Rattle.stream.specs.Prefixes.{Prefix, in-first, crossed, beside, IsPrefix, 
 use Rattle.stream.specs.Prefixes.Functions.{concat}
 use Rattle.stream.specs.Prefixes.Kinds.{prefix-arity}
 use Rattle.stream.specs.SliceFiles.{prefix-bytes}
+use Rattle.stream.specs.SliceFiles.Laws.{prefix-before}
 use Rattle.reading.specs.SliceReads.{prefix-width, PrefixAt}
-use Rattle.reading.specs.SliceReads.Laws.{prefix-bytes-length, width-positive, prefix-before, prefix-inside, kind-at, in-first-at, crossed-first-at, crossed-second-at, beside-first-at, beside-second-at}
+use Rattle.reading.specs.SliceReads.Laws.{prefix-bytes-length, width-positive, prefix-inside, kind-at, in-first-at, crossed-first-at, crossed-second-at, beside-first-at, beside-second-at}
 use Rattle.writing.specs.Writing.{PrefixDue, PrefixWritten, Moves, Follows, ConcatDue, ConcatWritten, Begun}
 use Rattle.writing.specs.Writing.Laws.{part, back, front-length, begins, goes-on, room-left, length-kept}
 

@@ -11,12 +11,13 @@ use Rattle.stream.specs.Prefixes.Laws.{empty-prefix-is-prefix}
 use Rattle.stream.specs.Buffers.{at-front}
 use Rattle.stream.specs.TypeFiles.{type-bytes}
 use Rattle.stream.specs.SliceFiles.{prefix-bytes}
+use Rattle.stream.specs.SliceFiles.Laws.{prefix-before}
 use Rattle.reading.specs.declared.types.TypePlace.{TypePlace}
 use Rattle.reading.specs.declared.prefixes.PrefixPlace.{PrefixPlace}
 use Rattle.reading.specs.TypeReads.{TypeAt, TypeIn}
 use Rattle.reading.specs.TypeReads.Laws.{type-before, type-width, bytes-at}
 use Rattle.reading.specs.SliceReads.{PrefixIn, prefix-width}
-use Rattle.reading.specs.SliceReads.Laws.{prefix-before, prefix-bytes-length, prefix-taken}
+use Rattle.reading.specs.SliceReads.Laws.{prefix-bytes-length, prefix-taken}
 use Rattle.reading.specs.Inputs.Laws.{width-within}
 use Rattle.writing.specs.Writing.{EmptyDue, EmptyWritten}
 use Rattle.writing.specs.Writing.Laws.{part, back, byte, front-length}

@@ -1,17 +1,18 @@
 -- Prefixes in some bytes: how many bytes a prefix and a join take, and where the parts of a prefix stand.
 use mathlib.Core.Path.{_≡_, refl, sym, ap, _∙_}
-use mathlib.Core.List.{List, [], _∷_, _++_}
+use mathlib.Core.List.{List, [], _∷_}
 use Prim.Native.Nat.{ℕ, _+_, _≤_}
 use native.Mathlib.Omega.{arith}
 use native.Mathlib.Nat.{add-zero}
 use lib.ListN.{length, getD, take, drop, length-drop}
 use lib.Seq.{drop-drop, getD-drop, take-at}
 use Rattle.stream.specs.Types.{Ty}
-use Rattle.stream.specs.Levels.Laws.{value-length, value-append, value-behind}
+use Rattle.stream.specs.Levels.Laws.{value-length, value-behind}
 use Rattle.stream.specs.Prefixes.{Prefix, nothing, cue-awaited, cue-come, level-awaited, level-come, in-first, crossed, beside, none-chosen, first-chosen, second-chosen, IsPrefix, of-empty, of-cue-awaited, of-cue-come, of-level-awaited, of-level-come, of-first, of-crossed, of-beside, of-none-chosen, of-first-chosen, of-second-chosen, derivative}
 use Rattle.stream.specs.Prefixes.Functions.{concat}
 use Rattle.stream.specs.Reading.Laws.{_&_, past, every}
 use Rattle.stream.specs.SliceFiles.{prefix-bytes}
+use Rattle.stream.specs.SliceFiles.Laws.{prefix-before}
 use Rattle.stream.specs.Prefixes.Kinds.{prefix-kind, root-width, tally}
 use Rattle.reading.specs.SliceReads.{prefix-width, overlap, PrefixAt}
 
@@ -122,25 +123,6 @@ behind-prefix (beside p q) r = rw (← drop-drop, behind-prefix p (prefix-bytes 
 behind-prefix none-chosen r = refl
 behind-prefix (first-chosen p) r = behind-prefix p r
 behind-prefix (second-chosen p) r = behind-prefix p r
-
-prefix-append : (p : Prefix) (r s : List ℕ) → prefix-bytes p (r ++ s) ≡ prefix-bytes p r ++ s
-unfolding prefix-bytes
-prefix-append nothing r s = refl
-prefix-append cue-awaited r s = refl
-prefix-append cue-come r s = refl
-prefix-append level-awaited r s = refl
-prefix-append (level-come v) r s = ap (λ l. 4 ∷ l) (value-append v r s)
-prefix-append (in-first p) r s = ap (λ l. 5 ∷ l) (prefix-append p r s)
-prefix-append (crossed b q) r s =
-    ap (λ l. 6 ∷ l) (ap (prefix-bytes b) (prefix-append q r s) ∙ prefix-append b (prefix-bytes q r) s)
-prefix-append (beside p q) r s =
-    ap (λ l. 7 ∷ l) (ap (prefix-bytes p) (prefix-append q r s) ∙ prefix-append p (prefix-bytes q r) s)
-prefix-append none-chosen r s = refl
-prefix-append (first-chosen p) r s = ap (λ l. 9 ∷ l) (prefix-append p r s)
-prefix-append (second-chosen p) r s = ap (λ l. 10 ∷ l) (prefix-append p r s)
-
-pub prefix-before : (p : Prefix) (r : List ℕ) → prefix-bytes p r ≡ prefix-bytes p [] ++ r
-prefix-before p r = prefix-append p [] r
 
 -- Places
 

@@ -1,37 +1,25 @@
 -- The longest prefix is a complete prefix of its type, and no prefix of the type has more bytes.
-use mathlib.Core.Path.{_≡_, refl}
+use mathlib.Core.Path.{_≡_, refl, ap, _∙_}
 use mathlib.Core.Bool.{Bool, true, false}
 use mathlib.Core.List.{List, [], append-nil}
 use Prim.Native.Nat.{ℕ, _+_, _≤_, _<_}
 use native.Mathlib.Omega.{arith}
 use native.Mathlib.Nat.{le-trans}
 use lib.Dec.{leb}
-use lib.ListN.{length}
+use lib.ListN.{length, length-append}
 use borrow.Author.Tests.{leb-true, leb-false}
 use Rattle.stream.specs.Types.{Ty, empty, cue, level, seq, par, either}
 use Rattle.stream.specs.Levels.{level-limit}
 use Rattle.stream.specs.Levels.Laws.{value-length}
-use Rattle.stream.specs.Prefixes.{Prefix, nothing, cue-awaited, cue-come, level-awaited, level-come, in-first, crossed, beside, none-chosen, first-chosen, second-chosen, Complete, whole-nothing, whole-cue, whole-level, whole-crossed, whole-beside, whole-first-chosen, whole-second-chosen, IsPrefix, of-empty, of-cue-awaited, of-cue-come, of-level-awaited, of-level-come, of-first, of-crossed, of-beside, of-none-chosen, of-first-chosen, of-second-chosen, derivative}
+use Rattle.stream.specs.Prefixes.{Prefix, Complete, whole-nothing, whole-cue, whole-level, whole-crossed, whole-beside, whole-first-chosen, whole-second-chosen, IsPrefix, of-empty, of-cue-awaited, of-cue-come, of-level-awaited, of-level-come, of-first, of-crossed, of-beside, of-none-chosen, of-first-chosen, of-second-chosen, derivative}
 use Rattle.stream.specs.Reading.{section-bytes}
 use Rattle.stream.specs.SliceFiles.{prefix-bytes, slice-file-bytes, SliceFile}
+use Rattle.stream.specs.SliceFiles.Laws.{prefix-before}
 use Rattle.stream.specs.Longest.{byte-count, chosen, longer, largest-level, longest-prefix}
 
 -- Bytes behind a prefix do not count for it.
 pub byte-count-before : (p : Prefix) (r : List ℕ) → length (prefix-bytes p r) ≡ byte-count p + length r
-unfolding prefix-bytes
-byte-count-before nothing r = omega arith
-byte-count-before cue-awaited r = omega arith
-byte-count-before cue-come r = omega arith
-byte-count-before level-awaited r = omega arith
-byte-count-before (level-come v) r = omega (arith, value-length v r, value-length v [])
-byte-count-before (in-first p) r = omega (arith, byte-count-before p r)
-byte-count-before (crossed b q) r =
-    omega (arith, byte-count-before b (prefix-bytes q r), byte-count-before b (prefix-bytes q []), byte-count-before q r)
-byte-count-before (beside p q) r =
-    omega (arith, byte-count-before p (prefix-bytes q r), byte-count-before p (prefix-bytes q []), byte-count-before q r)
-byte-count-before none-chosen r = omega arith
-byte-count-before (first-chosen p) r = omega (arith, byte-count-before p r)
-byte-count-before (second-chosen p) r = omega (arith, byte-count-before p r)
+byte-count-before p r = ap length (prefix-before p r) ∙ length-append (prefix-bytes p []) r
 
 -- A choice is a prefix of the either, complete if both sides are, and the longer one is longer than both.
 

@@ -1,8 +1,8 @@
 -- A slice file is accepted exactly if it is the file of a prefix of the type.
-use mathlib.Core.Path.{_≡_, refl, sym, _∙_}
+use mathlib.Core.Path.{_≡_, refl, sym, ap, _∙_}
 use mathlib.Core.Bool.{Bool, true, false, _&&_, not, true≢false, false≢true}
 use mathlib.Core.Logic.{_↔_}
-use mathlib.Core.List.{List, [], _∷_, append-nil}
+use mathlib.Core.List.{List, [], _∷_, _++_, append-nil}
 use Prim.Native.Nat.{ℕ, suc, _+_, _*_, _≤_, _<_}
 use native.Mathlib.Omega.{arith}
 use lib.ListN.{length, getD}
@@ -14,7 +14,7 @@ use Rattle.stream.specs.Types.Laws.{and-left, and-right, made-of, parts-
 use Rattle.stream.specs.Levels.{level-limit, value-bytes, read-value, value-width}
 use Rattle.stream.specs.Bounds.{slice-limit, slice-file-limit}
 use Rattle.stream.specs.Faults.{slice-numbers, Listed}
-use Rattle.stream.specs.Levels.Laws.{value-length, value-is-bytes, value-reads, value-sound, value-faults}
+use Rattle.stream.specs.Levels.Laws.{value-length, value-append, value-is-bytes, value-reads, value-sound, value-faults}
 use Rattle.stream.specs.Prefixes.{Prefix, nothing, cue-awaited, cue-come, level-awaited, level-come, in-first, crossed, beside, none-chosen, first-chosen, second-chosen, Complete, whole-nothing, whole-cue, whole-level, whole-crossed, whole-beside, whole-first-chosen, whole-second-chosen, IsPrefix, of-empty, of-cue-awaited, of-cue-come, of-level-awaited, of-level-come, of-first, of-crossed, of-beside, of-none-chosen, of-first-chosen, of-second-chosen}
 use Rattle.stream.specs.Prefixes.Kinds.{tally}
 use Rattle.stream.specs.Prefixes.Laws.{crossed-second, beside-first, beside-second, first-chosen-inside, second-chosen-inside}
@@ -76,6 +76,27 @@ Short p = nodes p ≤ type-limit
 
 pub prefix-short : {t : Ty} {p : Prefix} → IsPrefix t p → Small t → Short p
 prefix-short h w = omega (arith, nodes-within h)
+
+-- What is behind a prefix is not looked at.
+
+prefix-append : (p : Prefix) (r s : List ℕ) → prefix-bytes p (r ++ s) ≡ prefix-bytes p r ++ s
+unfolding prefix-bytes
+prefix-append nothing r s = refl
+prefix-append cue-awaited r s = refl
+prefix-append cue-come r s = refl
+prefix-append level-awaited r s = refl
+prefix-append (level-come v) r s = ap (λ l. 4 ∷ l) (value-append v r s)
+prefix-append (in-first p) r s = ap (λ l. 5 ∷ l) (prefix-append p r s)
+prefix-append (crossed b q) r s =
+    ap (λ l. 6 ∷ l) (ap (prefix-bytes b) (prefix-append q r s) ∙ prefix-append b (prefix-bytes q r) s)
+prefix-append (beside p q) r s =
+    ap (λ l. 7 ∷ l) (ap (prefix-bytes p) (prefix-append q r s) ∙ prefix-append p (prefix-bytes q r) s)
+prefix-append none-chosen r s = refl
+prefix-append (first-chosen p) r s = ap (λ l. 9 ∷ l) (prefix-append p r s)
+prefix-append (second-chosen p) r s = ap (λ l. 10 ∷ l) (prefix-append p r s)
+
+pub prefix-before : (p : Prefix) (r : List ℕ) → prefix-bytes p r ≡ prefix-bytes p [] ++ r
+prefix-before p r = prefix-append p [] r
 
 -- A level takes three bytes, so a prefix takes at most one byte more than two for each of its nodes.
 pub prefix-length : (p : Prefix) (r : List ℕ) → length (prefix-bytes p r) ≤ value-width * nodes p + 1 + length r
