@@ -122,7 +122,7 @@ module _ (t : ℕ) where
       leaf-planned (sym (c .before .before .type-arity .ensures) ∙ c .before .if1 .taken) (c .before .before .before .longest-kind .ensures)
       (c .root-width .ensures)
 
-  -- In the branch of a type with parts: that it has parts, and what the calls for them answered.
+  -- In the branch of a type with parts: that it has them.
 
   parts : (c : lts.Else1 calls here plan-longest.Post)
       → (let start = entry-before-else1 c in type-arity (getD (start .args .types .now) (start .args .at) 0) ≡ 0 → ⊥)

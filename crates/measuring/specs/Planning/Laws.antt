@@ -83,9 +83,6 @@ longest-short t small = slice-length (longest-prefix t) (prefix-short (longest-p
 
 -- What the planner answers is what the writer asks, of the types from `at` on.
 module _ {types lent after : List ℕ} {at : ℕ} {planned : Planned} (plans : Plans types at lent after planned) (due : PlanDue types at lent) where
-  pub planned-width : planned .width ≡ byte-count (longest-prefix (due .type))
-  planned-width = plans .each due .wide
-
   unfoldable pub as-planned : AsPlanned (part at types) after (planned .width)
   as-planned =
       record {
@@ -93,5 +90,5 @@ module _ {types lent after : List ℕ} {at : ℕ} {planned : Planned} (plans : P
         stands = record { rest = due .stands .rest; here = part-is at types ∙ due .stands .here; small = due .stands .small };
         behind = drop (length (plan (due .type) [])) lent;
         is-planned = plans .each due .buffer ∙ sym (plan-before (due .type) (drop (length (plan (due .type) [])) lent));
-        measured = planned-width;
+        measured = plans .each due .wide;
       }
