@@ -10,27 +10,29 @@ use lib.ListN.{length, getD, drop, set, length-append}
 use lib.Seq.{set-at}
 use borrow.Author.Tests.{le-leb, lt-leb, leb-true, leb-false}
 use Rattle.stream.specs.Types.{Ty, empty, cue, level, seq, par, either, size, kind, first-part, second-part}
-use Rattle.stream.specs.Types.Kinds.{type-arities, type-arity}
+use Rattle.stream.specs.Types.Kinds.{type-arity, Fork, fork-size}
 use Rattle.stream.specs.Types.Laws.{size-positive}
 use Rattle.stream.specs.Buffers.{at-front}
 use Rattle.stream.specs.Levels.Laws.{value-length}
 use Rattle.stream.specs.Prefixes.Kinds.{root-width}
-use Rattle.stream.specs.Reading.Laws.{_&_, past, every}
 use Rattle.stream.specs.SliceFiles.{prefix-bytes}
 use Rattle.stream.specs.Longest.{byte-count, largest-level, longest-prefix}
 use Rattle.stream.specs.Longest.Laws.{byte-count-before}
-use Rattle.reading.specs.TypeReads.Laws.{kind-at, starts-inside, first-at, second-at, fork-size}
+use Rattle.reading.specs.TypeReads.Laws.{kind-at, starts-inside, first-at, second-at}
 use Rattle.writing.specs.Writing.{Begun}
 use Rattle.writing.specs.Writing.Laws.{part, back, begins, goes-on, room-left, length-kept, front-length}
 use Rattle.measuring.specs.declared.Planned.{Planned}
 use Rattle.measuring.specs.Planning.{longest-kind, passed-over, plan, PlanDue, IsPlanned, Plans, ChoiceDue, Chooses}
 use Rattle.measuring.specs.Planning.Laws.{plan-length, plan-before, longest-short}
 
--- A kind with parts is 3, 4 or 5.
-forked : (k : ℕ) → (type-arity k ≡ 0 → ⊥) → 3 ≤ k
-forked =
-    every (λ k n. (n ≡ 0 → ⊥) → 3 ≤ k) 2 type-arities
-    ((λ h. absurd (h refl)) & (λ h. absurd (h refl)) & (λ h. absurd (h refl)) & (λ h. omega arith) & (λ h. omega arith) & (λ h. omega arith) & past (λ k l h. omega arith))
+-- A type that has parts has two.
+forked : (t : Ty) → (type-arity (kind t) ≡ 0 → ⊥) → Fork t
+forked empty some = absurd (some refl)
+forked cue some = absurd (some refl)
+forked level some = absurd (some refl)
+forked (seq s t) some = refl
+forked (par s t) some = refl
+forked (either s t) some = refl
 
 -- A type without parts.
 
@@ -46,7 +48,7 @@ leaf-plan (either s t) h = absurd (omega arith)
 
 -- A type with two parts that is no either: both are planned, and written.
 
-both-plan : (t : Ty) → 3 ≤ kind t → (kind t ≡ 5 → ⊥)
+both-plan : (t : Ty) → Fork t → (kind t ≡ 5 → ⊥)
     → (longest-kind (kind t) ∷ plan (first-part t) [] ++ plan (second-part t) [] ≡ plan t [])
     × (byte-count (longest-prefix t) ≡ 1 + byte-count (longest-prefix (first-part t)) + byte-count (longest-prefix (second-part t)))
 unfolding plan longest-prefix prefix-bytes
@@ -137,8 +139,8 @@ leaf-planned {types} {at} {lent} {written} {width} none is wide = record { each 
 -- A type with two parts: they are planned one after the other, behind its root.
 module _ {types : List ℕ} {at : ℕ} {lent : List ℕ} (written : ℕ) where
   module _ (parts : type-arity (getD types at 0) ≡ 0 → ⊥) (due : PlanDue types at lent) where
-    pub fork : 3 ≤ kind (due .type)
-    fork = rw (kind-is due) at (forked (getD types at 0) parts)
+    pub fork : Fork (due .type)
+    fork = forked (due .type) (rw (kind-is due) at parts)
 
     pub total : size (due .type) ≡ suc (size (first-part (due .type)) + size (second-part (due .type)))
     total = fork-size (due .type) fork

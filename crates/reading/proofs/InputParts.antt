@@ -1,11 +1,12 @@
 -- The parts of a type and of a prefix of it: the first stands behind the kind byte, the second where the first ends, and ends where the
 -- whole ends.
-use mathlib.Core.Path.{_≡_, sym, _∙_}
+use mathlib.Core.Path.{_≡_, refl, sym, _∙_}
 use mathlib.Core.List.{List}
-use Prim.Native.Nat.{ℕ, _+_, _≤_}
+use Prim.Native.Nat.{ℕ, _+_}
 use native.Mathlib.Omega.{arith}
 use lib.ListN.{getD}
-use Rattle.stream.specs.Types.{Ty, seq, either, kind}
+use Rattle.stream.specs.Types.{Ty, seq, either}
+use Rattle.stream.specs.Types.Kinds.{Fork}
 use Rattle.stream.specs.Prefixes.Kinds.{prefix-kind}
 use Rattle.stream.specs.Prefixes.{Prefix, in-first, first-chosen, second-chosen, Complete, IsPrefix, of-first, of-crossed, of-beside, of-first-chosen, of-second-chosen}
 use Rattle.reading.specs.declared.types.TypePlace.{TypePlace}
@@ -19,7 +20,7 @@ use Rattle.reading.specs.SliceReads.Laws.{kind-at, in-first-at, first-ch
 use Rattle.reading.specs.Inputs.{InputAt, cut-at, Pairing, side-by-side, first-crossed, joins, meets, HalvesDue, HalvesAt, ComingAt, ChosenAt, ChoiceFound}
 
 -- Of a type with two parts.
-pub first-due : {types : List ℕ} {place : TypePlace} {t : Ty} → 3 ≤ kind t → TypeIn types place t → SomeTypeAt types (place .start + 1)
+pub first-due : {types : List ℕ} {place : TypePlace} {t : Ty} → Fork t → TypeIn types place t → SomeTypeAt types (place .start + 1)
 first-due fork type-in = record { type = _; stands = first-at (type-in .stands) fork }
 
 -- Of a type and a prefix with two parts each.
@@ -35,14 +36,14 @@ is-crossed first-crossed t r p q (of-crossed h c k) six = c
 
 module _ {types : List ℕ} {place : TypePlace} (t r : Ty) where
   first-type-at : (pairing : Pairing) → TypeIn types place (joins pairing t r) → TypeAt types (place .start + 1) t
-  first-type-at side-by-side type-in = first-at (type-in .stands) (omega arith)
-  first-type-at first-crossed type-in = first-at (type-in .stands) (omega arith)
+  first-type-at side-by-side type-in = first-at (type-in .stands) refl
+  first-type-at first-crossed type-in = first-at (type-in .stands) refl
 
   -- The second begins where the first ends.
   second-type-in : (pairing : Pairing) {end : ℕ} → TypeIn types place (joins pairing t r) → TypeEnds types (place .start + 1) end
       → TypeIn types (record { start = end; end = place .end }) r
-  second-type-in side-by-side type-in ends = second-in type-in (omega arith) ends
-  second-type-in first-crossed type-in ends = second-in type-in (omega arith) ends
+  second-type-in side-by-side type-in ends = second-in type-in refl ends
+  second-type-in first-crossed type-in ends = second-in type-in refl ends
 
 module _ {slice : List ℕ} {place : PrefixPlace} (p q : Prefix) where
   first-prefix-at : (pairing : Pairing) → PrefixIn slice place (meets pairing p q) → PrefixAt slice (place .start + 1) p
@@ -127,11 +128,11 @@ coming-found ends at =
     record {
       first =
           record {
-            type-in = first-in (at .type-in) (omega arith) ends;
+            type-in = first-in (at .type-in) refl ends;
             prefix-in = record { stands = in-first-at (at .prefix-in .stands); ends = omega (arith, at .prefix-in .ends) };
             is-prefix = comes (at .is-prefix);
           };
-      second = second-in (at .type-in) (omega arith) ends;
+      second = second-in (at .type-in) refl ends;
     }
 
 -- Either, of which one part was chosen.
@@ -170,11 +171,11 @@ module _ {types slice : List ℕ} {input : Input} {end : ℕ} (ends : TypeEnds t
           record {
             part =
                 record {
-                  type-in = first-in (at .type-in) (omega arith) ends;
+                  type-in = first-in (at .type-in) refl ends;
                   prefix-in = record { stands = first-chosen-at (at .prefix-in .stands); ends = omega (arith, at .prefix-in .ends) };
                   is-prefix = first-inside (at .is-prefix);
                 };
-            other = second-in (at .type-in) (omega arith) ends;
+            other = second-in (at .type-in) refl ends;
           }
 
   pub second-found : (getD slice (input .prefix .start) 0 ≡ 9 → ⊥) → ChoiceFound types slice input (second-choice input end)
@@ -191,9 +192,9 @@ module _ {types slice : List ℕ} {input : Input} {end : ℕ} (ends : TypeEnds t
           record {
             part =
                 record {
-                  type-in = second-in (at .type-in) (omega arith) ends;
+                  type-in = second-in (at .type-in) refl ends;
                   prefix-in = record { stands = second-chosen-at (at .prefix-in .stands); ends = omega (arith, at .prefix-in .ends) };
                   is-prefix = second-inside (at .is-prefix);
                 };
-            other = first-in (at .type-in) (omega arith) ends;
+            other = first-in (at .type-in) refl ends;
           }

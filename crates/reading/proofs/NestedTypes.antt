@@ -1,20 +1,20 @@
 -- A type with a fork in one of its parts: where s, t and r are, and what is told of it.
-use mathlib.Core.Bool.{false, and-false}
+use mathlib.Core.Bool.{and-false}
 use mathlib.Core.Path.{_≡_, refl}
 use mathlib.Core.List.{List, []}
-use Prim.Native.Nat.{ℕ, _+_, _≤_}
+use Prim.Native.Nat.{ℕ, _+_}
 use native.Mathlib.Omega.{arith}
 use lib.ListN.{getD}
-use Rattle.stream.specs.Types.{Ty, size, kind, first-part, second-part, has-kind}
+use Rattle.stream.specs.Types.{Ty, first-part, second-part, has-kind}
 use Rattle.stream.specs.Types.Laws.{and-both}
 use Rattle.stream.specs.TypeFiles.{type-bytes}
-use Rattle.stream.specs.Types.Kinds.{type-arity}
+use Rattle.stream.specs.Types.Kinds.{type-arity, Fork, fork-size}
 use Rattle.reading.specs.declared.nested.Pieces.{Pieces}
 use Rattle.reading.specs.declared.nested.Shaped.the-variants.{Nested, Other}
 use Rattle.reading.specs.declared.types.TypePlace.{TypePlace}
 use Rattle.reading.specs.TypeReads.{TypeAt, SomeTypeAt, TypeIn, TypeEnds}
-use Rattle.reading.specs.TypeReads.Laws.{fork-size, first-at, second-at, second-in}
-use Rattle.reading.specs.Nesting.{Piece, PiecesAt, Nesting, first-nested, second-nested, is-nested, TypeCut, other-type, nested-type, Told, told-other, told-nested, TypesBehind, two-types, PiecesDue, PiecesFound}
+use Rattle.reading.specs.TypeReads.Laws.{first-at, second-at, second-in}
+use Rattle.reading.specs.Nesting.{Piece, PiecesAt, Nesting, first-nested, second-nested, TypeCut, other-type, nested-type, Told, told-other, told-nested, TypesBehind, two-types, PiecesDue, PiecesFound}
 use Rattle.reading.specs.Nesting.Laws.{other-shape, same-shape, is-fork, type-piece}
 
 pub some : {types : List ℕ} {at : ℕ} {t : Ty} → TypeAt types at t → SomeTypeAt types at
@@ -48,7 +48,7 @@ module _ {types : List ℕ} {place : TypePlace} {u : Ty} (here : TypeIn types pl
   no-sequence other = told-other (other-type {u = u} (rw (other-shape (here .stands) other)))
 
   module _ (sequence : getD types (place .start) 0 ≡ 3) where
-    forks : 3 ≤ kind u
+    forks : Fork u
     forks = is-fork (here .stands) sequence refl
 
     pub root-first : TypeAt types (place .start + 1) (first-part u)
@@ -66,7 +66,7 @@ module _ {types : List ℕ} {place : TypePlace} {u : Ty} (here : TypeIn types pl
     fork n below same pieces = told-nested (nested-type (and-both (same-shape (here .stands) sequence) (same-shape below same))) pieces
 
     module _ (first-sequence : getD types (place .start + 1) 0 ≡ 3) where
-      first-forks : 3 ≤ kind (first-part u)
+      first-forks : Fork (first-part u)
       first-forks = is-fork root-first first-sequence refl
 
       pub below-first : TypeAt types (place .start + 2) (first-part (first-part u))
@@ -103,7 +103,7 @@ module _ {types : List ℕ} {place : TypePlace} {u : Ty} (here : TypeIn types pl
       root-second = root-second-in .stands
 
       module _ {k : ℕ} (same : getD types gap 0 ≡ k) (two : type-arity k ≡ 2) where
-        second-forks : 3 ≤ kind (second-part u)
+        second-forks : Fork (second-part u)
         second-forks = is-fork root-second same two
 
         pub second-due : PiecesDue (TypesBehind types (gap + 1) (place .end)) types (place .start + 1) gap

@@ -1,12 +1,13 @@
 -- Regroup and spread at a type with a fork in one of its parts: its pieces s, t and r can be written, and make the type that is given.
 use mathlib.Core.Bool.{Bool, true, false, _&&_}
-use mathlib.Core.Path.{_≡_, refl, sym, ap, _∙_}
-use mathlib.Core.List.{List, [], _∷_, _++_, append-assoc}
+use mathlib.Core.Path.{_≡_, refl, ap}
+use mathlib.Core.List.{List, [], _++_, append-assoc}
 use Prim.Native.Nat.{ℕ, _+_, _≤_}
 use native.Mathlib.Omega.{arith}
 use lib.ListN.{length}
 use Rattle.stream.specs.declared.Fault.the-variants.{WrongShape}
 use Rattle.stream.specs.Types.{Ty, seq, par, size, type-limit, has-kind, first-part, second-part}
+use Rattle.stream.specs.Types.Kinds.{type-arity}
 use Rattle.stream.specs.Types.Laws.{limit-is, parts-size}
 use Rattle.stream.specs.Reading.{Result, require}
 use Rattle.stream.specs.TypeFiles.{type-bytes}
@@ -18,7 +19,6 @@ use Rattle.reading.specs.TypeReads.Laws.{type-before, type-width}
 use Rattle.reading.specs.Nesting.{Nesting, first-nested, second-nested, is-nested, TypeCut, other-type, nested-type, Told, told-other, told-nested, Shapes}
 use Rattle.writing.specs.Reordering.{ReorderDue, Reordered, regrouped-right, regrouped-left, spread-out}
 use Rattle.node.specs.Checking.{gives}
-use Rattle.typing.specs.declared.Typed.{Typed}
 use Rattle.typing.specs.declared.Typed.the-variants.{Gives, Failed}
 use Rattle.typing.specs.Typing.{limited, Answers, Given}
 use Rattle.typing.specs.Typing.Laws.{limited-small, answers-written, requires-fails, requires-holds}
@@ -36,12 +36,12 @@ both-hold false b e = let z : _≡_ {A = ℕ} 0 1 = cc in absurd (omega arith)
 pub first-sized : Sized first-nested 3
 first-sized u e =
     let kinds = both-hold (has-kind 3 u) (has-kind 3 (first-part u)) e in
-    omega (arith, parts-size 3 u (omega arith) (kinds .0), parts-size 3 (first-part u) (omega arith) (kinds .1))
+    omega (arith, parts-size 3 u refl (kinds .0), parts-size 3 (first-part u) refl (kinds .1))
 
-pub second-sized : (k : ℕ) → 3 ≤ k → Sized second-nested k
-second-sized k fork u e =
+pub second-sized : (k : ℕ) → type-arity k ≡ 2 → Sized second-nested k
+second-sized k two u e =
     let kinds = both-hold (has-kind 3 u) (has-kind k (second-part u)) e in
-    omega (arith, parts-size 3 u (omega arith) (kinds .0), parts-size k (second-part u) fork (kinds .1))
+    omega (arith, parts-size 3 u refl (kinds .0), parts-size k (second-part u) two (kinds .1))
 
 -- What the rules say: `make` of the three, if the type has the shape.
 abbrev pub shaped : Nesting → ℕ → (Ty → Ty → Ty → Ty) → Ty → Result Ty

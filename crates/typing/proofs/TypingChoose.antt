@@ -2,12 +2,13 @@
 use mathlib.Core.Bool.{Bool, true, false}
 use mathlib.Core.Path.{_≡_, refl, sym, ap, _∙_}
 use mathlib.Core.List.{List}
-use Prim.Native.Nat.{ℕ, _+_, _≤_, _<_}
+use Prim.Native.Nat.{ℕ, _+_, _<_}
 use native.Mathlib.Omega.{arith}
 use lib.ListN.{getD, take}
 use Rattle.stream.specs.declared.Fault.{Fault}
 use Rattle.stream.specs.declared.Fault.the-variants.{WrongShape, OutputsDiffer}
-use Rattle.stream.specs.Types.{Ty, kind, first-part, second-part, has-kind, same-type}
+use Rattle.stream.specs.Types.{Ty, first-part, second-part, has-kind, same-type}
+use Rattle.stream.specs.Types.Kinds.{Fork}
 use Rattle.stream.specs.Reading.{Result, require, go-on}
 use Rattle.reading.specs.declared.types.TypePlace.{TypePlace}
 use Rattle.reading.specs.TypeReads.{TypeIn, TypeEnds, SomeTypeIn}
@@ -40,7 +41,7 @@ pub record Halved (types : List ℕ) (place first second : TypePlace) : Type 0 w
   pub is-second : second ≡ record { start = middle; end = place .end }
 
 module _ {types : List ℕ} {place first second : TypePlace} (halved : Halved types place first second) {t : Ty} (here : TypeIn types place t) where
-  forked : 3 ≤ kind t
+  forked : Fork t
   forked = is-fork (here .stands) (halved .is-either) refl
 
   pub first-half : TypeIn types first (first-part t)

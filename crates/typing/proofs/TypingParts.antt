@@ -8,7 +8,7 @@ use lib.ListN.{length, getD}
 use Rattle.stream.specs.declared.Fault.{Fault}
 use Rattle.stream.specs.declared.Fault.the-variants.{WrongShape}
 use Rattle.stream.specs.Types.{Ty, size, type-limit, kind, first-part, second-part, Small}
-use Rattle.stream.specs.Types.Kinds.{type-arity}
+use Rattle.stream.specs.Types.Kinds.{type-arity, Fork}
 use Rattle.stream.specs.Reading.{Result, accepted, refused, go-on}
 use Rattle.stream.specs.TypeFiles.{type-bytes}
 use Rattle.reading.specs.declared.types.TypePlace.{TypePlace}
@@ -187,7 +187,7 @@ part-first same two due =
     record { type = first-part (due .type); stands = first-at stands (is-fork stands same two) }
 
 module _ {types : List ℕ} {place : TypePlace} (sequence : getD types (place .start) 0 ≡ 3) where
-  forked : {t : Ty} → TypeIn types place t → 3 ≤ kind t
+  forked : {t : Ty} → TypeIn types place t → Fork t
   forked h = is-fork (h .stands) sequence refl
 
   pub then-splits : {middle : ℕ} {first second : TypePlace} → TypeEnds types (place .start + 1) middle

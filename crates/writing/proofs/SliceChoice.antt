@@ -9,7 +9,8 @@ use lib.Dec.{leb}
 use lib.ListN.{length, getD, drop}
 use borrow.Author.Tests.{leb-true, leb-false}
 use Rattle.stream.specs.declared.Fault.{Fault}
-use Rattle.stream.specs.Types.{Ty, size, kind, first-part, second-part}
+use Rattle.stream.specs.Types.{Ty, size, first-part, second-part}
+use Rattle.stream.specs.Types.Kinds.{Fork, fork-size}
 use Rattle.stream.specs.Prefixes.{Prefix, first-chosen, second-chosen, derivative}
 use Rattle.stream.specs.Prefixes.Kinds.{prefix-arity}
 use Rattle.stream.specs.Reading.{Reading, read, fault, read-on}
@@ -18,7 +19,7 @@ use Rattle.reading.specs.declared.prefixes.Known.{Known}
 use Rattle.reading.specs.declared.prefixes.Walk.{Walk}
 use Rattle.reading.specs.declared.prefixes.Walk.the-variants.{Past, Failed}
 use Rattle.reading.specs.TypeReads.{TypeAt, SomeTypeAt, TypeEnds}
-use Rattle.reading.specs.TypeReads.Laws.{fork-size, first-at, second-at, second-behind}
+use Rattle.reading.specs.TypeReads.Laws.{first-at, second-at, second-behind}
 use Rattle.reading.specs.SliceReads.{first-complete, behind-both, read-owed, walked, Walks}
 use Rattle.reading.specs.SliceReads.Descent.{kind-root, reads-one, first-chosen-walked, second-chosen-walked}
 use Rattle.writing.specs.Writing.Laws.{part, back, part-is, back-is}
@@ -71,7 +72,7 @@ module _ {types : List ℕ} {at : ℕ} {t : Ty} {slice : List ℕ} {place : ℕ}
         on (fault e) holds = tt
 
   -- The first part was chosen.
-  first-chosen-part : 3 ≤ kind t → getD slice place 0 ≡ 9 → {lent now : List ℕ} {answer : Walk}
+  first-chosen-part : Fork t → getD slice place 0 ≡ 9 → {lent now : List ℕ} {answer : Walk}
       → WalksLeaving types (at + 1) slice (place + 1) c lent now answer
       → WalksLeaving types at slice place c lent now (behind-both (at + size t) answer)
   unfolding derivative
@@ -82,7 +83,7 @@ module _ {types : List ℕ} {at : ℕ} {t : Ty} {slice : List ℕ} {place : ℕ}
       (first-chosen-walked t (at + size t) (at + 1 + size (first-part t)) (length slice)) (λ p. refl)
 
   -- The second was chosen, which ends where the whole does.
-  second-chosen-part : 3 ≤ kind t → getD slice place 0 ≡ 10 → {second : ℕ} → TypeEnds types (at + 1) second → {lent now : List ℕ} {answer : Walk}
+  second-chosen-part : Fork t → getD slice place 0 ≡ 10 → {second : ℕ} → TypeEnds types (at + 1) second → {lent now : List ℕ} {answer : Walk}
       → WalksLeaving types second slice (place + 1) c lent now answer → WalksLeaving types at slice place c lent now answer
   unfolding derivative
   second-chosen-part fork ten {second} ends part =
@@ -124,7 +125,7 @@ walked-at : {types : List ℕ} {from other : ℕ} {slice : List ℕ} {place : �
 walked-at same alike w = rw alike at (rw same at w)
 
 module _ {types : List ℕ} {at : ℕ} {t : Ty} {slice : List ℕ} {place : ℕ} {c d : Bool} {from : ℕ} (parted : Parted types at t slice place c d from) where
-  fork : 3 ≤ kind t
+  fork : Fork t
   fork = fork-under (parted .begins) (parted .parts)
 
   forks : getD slice place 0 ≤ 8 → Forks types at t slice place c d

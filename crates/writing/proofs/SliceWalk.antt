@@ -18,7 +18,7 @@ use Rattle.reading.specs.declared.prefixes.Walk.the-variants.{Past, Failed}
 use Rattle.stream.specs.Tables.{beyond}
 use Rattle.stream.specs.Types.{Ty, size, type-limit, kind, first-part, second-part}
 use Rattle.stream.specs.Types.Laws.{and-left, size-positive}
-use Rattle.stream.specs.Types.Kinds.{type-arity, leaf-alone}
+use Rattle.stream.specs.Types.Kinds.{type-arity, leaf-alone, Fork, fork-size}
 use Rattle.stream.specs.Levels.{value-width}
 use Rattle.stream.specs.Levels.Laws.{value-there, value-missing}
 use Rattle.stream.specs.Prefixes.{Prefix, nothing, cue-awaited, cue-come, level-awaited, level-come, in-first, crossed, beside, none-chosen, derivative}
@@ -31,7 +31,7 @@ use Rattle.stream.specs.Reading.Numbers.{long-or-short}
 use Rattle.stream.specs.SliceFiles.{Owed, owed, belongs, prefix-root, prefix-bytes}
 use Rattle.stream.specs.SliceFiles.Laws.{nodes, nodes-within}
 use Rattle.reading.specs.TypeReads.{TypeAt, TypeEnds}
-use Rattle.reading.specs.TypeReads.Laws.{kind-at, fork-size, first-at, second-at, same-type, parts-fork}
+use Rattle.reading.specs.TypeReads.Laws.{kind-at, first-at, second-at, same-type}
 use Rattle.reading.specs.SliceReads.{overlap, prefix-width, known, types-by-kind, type-kind-of, is-unfinished, belongs-at, first-complete, stood-on, leaf-walked, WalksLeaf, first-known, crossed-known, both-known, combined, SumsFit, read-owed, walked, Walks}
 use Rattle.reading.specs.SliceReads.Laws.{prefix-bytes-length, behind-prefix}
 use Rattle.reading.specs.SliceReads.Descent.{kind-roots, kind-root, root-tested, root-unlisted, reads-fault, reads-leaf, reads-one, reads-two, read-owed-sound, overlap-size}
@@ -343,11 +343,11 @@ parts-of t c d budget s r =
     & past (λ k long parts l h e. absurd (omega arith)))
 
 pub fork-under : {types : List ℕ} {at : ℕ} {t : Ty} {slice : List ℕ} {place : ℕ} {c : Bool} → Begins types at t slice place c
-    → (prefix-arity (getD slice place 0) ≡ 0 → ⊥) → 3 ≤ kind t
-fork-under {t = t} {slice} {place} begins parts = parts-fork (kind t) (ap type-arity (type-kind-is begins) ∙ forks-on (getD slice place 0) parts)
+    → (prefix-arity (getD slice place 0) ≡ 0 → ⊥) → Fork t
+fork-under {slice = slice} {place} begins parts = ap type-arity (type-kind-is begins) ∙ forks-on (getD slice place 0) parts
 
 module _ {types : List ℕ} {at : ℕ} {t : Ty} {slice : List ℕ} {place : ℕ} {c d : Bool} (forks : Forks types at t slice place c d) where
-  fork : 3 ≤ kind t
+  fork : Fork t
   fork = fork-under (forks .begins) (forks .parts)
 
   whole-size : size t ≡ suc (size (first-part t) + size (second-part t))

@@ -12,9 +12,9 @@ use Rattle.stream.specs.Types.{Ty, size, kind, has-kind}
 use Rattle.stream.specs.TypeFiles.{type-bytes}
 use Rattle.stream.specs.Prefixes.{Prefix}
 use Rattle.stream.specs.SliceFiles.{prefix-bytes}
-use Rattle.stream.specs.Types.Kinds.{type-arity}
+use Rattle.stream.specs.Types.Kinds.{type-arity, Fork}
 use Rattle.reading.specs.TypeReads.{TypeAt}
-use Rattle.reading.specs.TypeReads.Laws.{parts-fork, ends-inside, kind-at, bytes-at}
+use Rattle.reading.specs.TypeReads.Laws.{ends-inside, kind-at, bytes-at}
 use Rattle.reading.specs.SliceReads.{PrefixAt, prefix-width}
 use Rattle.reading.specs.SliceReads.Laws.{prefix-inside, prefix-taken}
 use Rattle.reading.specs.Nesting.{Piece}
@@ -29,8 +29,8 @@ module _ {types : List ℕ} {at : ℕ} {t : Ty} (stands : TypeAt types at t) {sh
   pub same-shape : getD types at 0 ≡ shape → has-kind shape t ≡ true
   same-shape h = eq-eqb (kind t) shape (sym (kind-at stands) ∙ h)
 
-  pub is-fork : getD types at 0 ≡ shape → type-arity shape ≡ 2 → 3 ≤ kind t
-  is-fork h two = omega (arith, kind-at stands, parts-fork shape two)
+  pub is-fork : getD types at 0 ≡ shape → type-arity shape ≡ 2 → Fork t
+  is-fork h two = ap type-arity (sym (kind-at stands) ∙ h) ∙ two
 
 -- Pieces
 

@@ -2,7 +2,7 @@
 use mathlib.Core.Bool.{Bool, true, false, cond}
 use mathlib.Core.Path.{_≡_, refl, sym, ap, _∙_}
 use mathlib.Core.List.{List, [], _∷_, _++_}
-use Prim.Native.Nat.{ℕ, suc, _+_, _*_, _/_, _-_, _≤_, _<_}
+use Prim.Native.Nat.{ℕ, _+_, _*_, _/_, _-_, _≤_, _<_}
 use native.Mathlib.Omega.{arith}
 use native.Mathlib.Nat.{add-zero}
 use lib.ListN.{length, getD, take, drop, length-drop}
@@ -15,7 +15,7 @@ use Rattle.stream.specs.Reading.{Bytes, read, fault}
 use Rattle.stream.specs.Reading.Laws.{bytes-drop, bytes-take, _&_, past, every}
 use Rattle.stream.specs.TypeFiles.{type-bytes, type-kinds, type-root, read-type, type-section}
 use Rattle.stream.specs.TypeFiles.Laws.{type-length, read-type-reads, read-type-sound}
-use Rattle.stream.specs.Types.Kinds.{type-arities, type-arity}
+use Rattle.stream.specs.Types.Kinds.{type-arity, Fork, fork-size}
 use Rattle.reading.specs.Sections.{end-of}
 use Rattle.reading.specs.Sections.Laws.{inside, section-ended, Within, tree-within}
 use Rattle.reading.specs.declared.types.TypePlace.{TypePlace}
@@ -29,12 +29,6 @@ arity-small = every (λ k n. n ≤ 2) 2 _ (omega arith & omega arith & omega ari
 
 pub arity-paired : (k : ℕ) → type-arity k ≡ 2 * (type-arity k / 2)
 arity-paired = every (λ k n. n ≡ 2 * (n / 2)) 2 _ (omega arith & omega arith & omega arith & omega arith & omega arith & omega arith & past (λ k h. omega arith))
-
--- The kinds with two parts are 3, 4 and 5.
-pub parts-fork : (k : ℕ) → type-arity k ≡ 2 → 3 ≤ k
-parts-fork =
-    every (λ k n. n ≡ 2 → 3 ≤ k) 2 type-arities
-    ((λ h. absurd (omega arith)) & (λ h. absurd (omega arith)) & (λ h. absurd (omega arith)) & (λ h. omega arith) & (λ h. omega arith) & (λ h. omega arith) & past (λ k l h. omega arith))
 
 -- Behind a type stands what was put there.
 pub type-drop : (t : Ty) (r : List ℕ) → drop (size t) (type-bytes t r) ≡ r
@@ -73,20 +67,15 @@ type-head (seq s t) r = refl
 type-head (par s t) r = refl
 type-head (either s t) r = refl
 
--- A type of kind 3, 4 or 5 is its kind byte and its parts.
-forked : (t : Ty) (r : List ℕ) → 3 ≤ kind t
-    → (type-bytes t r ≡ kind t ∷ type-bytes (first-part t) (type-bytes (second-part t) r))
-    × (size t ≡ suc (size (first-part t) + size (second-part t)))
-unfolding type-bytes size
-forked empty r h = absurd (omega arith)
-forked cue r h = absurd (omega arith)
-forked level r h = absurd (omega arith)
-forked (seq s t) r h = (refl, refl)
-forked (par s t) r h = (refl, refl)
-forked (either s t) r h = (refl, refl)
-
-pub fork-size : (t : Ty) → 3 ≤ kind t → size t ≡ suc (size (first-part t) + size (second-part t))
-fork-size t h = forked t [] h .1
+-- A type with two parts is its kind byte and these.
+forked : (t : Ty) (r : List ℕ) → Fork t → type-bytes t r ≡ kind t ∷ type-bytes (first-part t) (type-bytes (second-part t) r)
+unfolding type-bytes
+forked empty r two = absurd (omega arith)
+forked cue r two = absurd (omega arith)
+forked level r two = absurd (omega arith)
+forked (seq s t) r two = refl
+forked (par s t) r two = refl
+forked (either s t) r two = refl
 
 module _ {bytes : List ℕ} {at : ℕ} {t : Ty} (stands : TypeAt bytes at t) where
   pub ends-inside : at + size t ≤ length bytes
@@ -106,9 +95,9 @@ module _ {bytes : List ℕ} {at : ℕ} {t : Ty} (stands : TypeAt bytes at t) whe
   pub bytes-at : take (size t) (drop at bytes) ≡ type-bytes t []
   bytes-at = rw (stands .here, type-before t (stands .rest)) (take-at (type-bytes t []) (stands .rest) (size t) (type-width t))
 
-  module _ (fork : 3 ≤ kind t) where
+  module _ (fork : Fork t) where
     under-root : drop (at + 1) bytes ≡ type-bytes (first-part t) (type-bytes (second-part t) (stands .rest))
-    under-root = rw (← drop-drop 1 at bytes, stands .here, forked t (stands .rest) fork .0)
+    under-root = rw (← drop-drop 1 at bytes, stands .here, forked t (stands .rest) fork)
 
     pub first-at : TypeAt bytes (at + 1) (first-part t)
     first-at =
@@ -133,7 +122,7 @@ module _ {bytes : List ℕ} {at : ℕ} {t : Ty} (stands : TypeAt bytes at t) whe
     second-behind ends = rw (ends .each (first-part t) first-at) second-at
 
 -- Where the first part ends the second begins, and it ends where the whole does.
-module _ {bytes : List ℕ} {place : TypePlace} {t : Ty} (here : TypeIn bytes place t) (fork : 3 ≤ kind t)
+module _ {bytes : List ℕ} {place : TypePlace} {t : Ty} (here : TypeIn bytes place t) (fork : Fork t)
     {second : ℕ} (ends : TypeEnds bytes (place .start + 1) second) where
   pub first-in : TypeIn bytes (record { start = place .start + 1; end = second }) (first-part t)
   first-in = let first = first-at (here .stands) fork in record { stands = first; ends = ends .each (first-part t) first }

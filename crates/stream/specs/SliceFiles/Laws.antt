@@ -300,12 +300,12 @@ kinds-lighter t c s =
     & leafy (has-kind 2 t && not c) level-awaited
     & belongs-lighter (owed t c) s (has-kind 2 t) _ (λ e. value-lighter (owed t c) (read-value SliceCutShort s))
     & belongs-lighter (owed t c) s (has-kind 3 t && not c) _
-    (λ e. omega (arith, parts-size 3 t (omega arith) (and-left (has-kind 3 t) (not c) e), size-positive (second-part t)))
-    & belongs-lighter (owed t c) s (has-kind 3 t) _ (λ e. omega (arith, parts-size 3 t (omega arith) e))
-    & belongs-lighter (owed t c) s (has-kind 4 t) _ (λ e. omega (arith, parts-size 4 t (omega arith) e))
+    (λ e. omega (arith, parts-size 3 t refl (and-left (has-kind 3 t) (not c) e), size-positive (second-part t)))
+    & belongs-lighter (owed t c) s (has-kind 3 t) _ (λ e. omega (arith, parts-size 3 t refl e))
+    & belongs-lighter (owed t c) s (has-kind 4 t) _ (λ e. omega (arith, parts-size 4 t refl e))
     & leafy (has-kind 5 t && not c) none-chosen
-    & belongs-lighter (owed t c) s (has-kind 5 t) _ (λ e. omega (arith, parts-size 5 t (omega arith) e, size-positive (second-part t)))
-    & belongs-lighter (owed t c) s (has-kind 5 t) _ (λ e. omega (arith, parts-size 5 t (omega arith) e, size-positive (first-part t)))
+    & belongs-lighter (owed t c) s (has-kind 5 t) _ (λ e. omega (arith, parts-size 5 t refl e, size-positive (second-part t)))
+    & belongs-lighter (owed t c) s (has-kind 5 t) _ (λ e. omega (arith, parts-size 5 t refl e, size-positive (first-part t)))
     & past (λ k h. tt))
   where
     leafy : (b : Bool) (p : Prefix) → Lighter owed-size (owed t c) (belongs b (leaf p) s)

@@ -2,10 +2,11 @@
 -- table.
 use mathlib.Core.Path.{_≡_, refl}
 use mathlib.Core.List.{List, [], _∷_}
-use Prim.Native.Nat.{ℕ, suc, _+_}
+use Prim.Native.Nat.{ℕ, suc, _+_, _*_, _/_, _≤_}
 use native.Mathlib.Omega.{arith}
 use lib.ListN.{length, getD}
-use Rattle.stream.specs.Types.{Ty, empty, cue, level, seq, par, either, size, kind}
+use Rattle.stream.specs.Reading.Laws.{_&_, past, every}
+use Rattle.stream.specs.Types.{Ty, empty, cue, level, seq, par, either, size, kind, first-part, second-part}
 
 -- How many parts each kind has, by its number; of a byte that is no type's kind nobody asks.
 abbrev pub type-arities : List ℕ
@@ -31,6 +32,21 @@ type-parts-many (seq s t) = refl
 type-parts-many (par s t) = refl
 type-parts-many (either s t) = refl
 
+-- Document 02, M-102, "arithmetic for kinds 0 to 5: divide the kind by 3, drop the remainder, double the quotient". By the kind, and
+-- by the type: "It equals the number of parts that the type rules give".
+pub arity-quotient : (k : ℕ) → k ≤ 5 → k / 3 * 2 ≡ type-arity k
+arity-quotient =
+    every (λ k n. k ≤ 5 → k / 3 * 2 ≡ n) 2 type-arities
+    ((λ h. refl) & (λ h. refl) & (λ h. refl) & (λ h. refl) & (λ h. refl) & (λ h. refl) & past (λ k l h. absurd (omega arith)))
+
+pub parts-quotient : (t : Ty) → kind t / 3 * 2 ≡ length (type-parts t)
+parts-quotient empty = refl
+parts-quotient cue = refl
+parts-quotient level = refl
+parts-quotient (seq s t) = refl
+parts-quotient (par s t) = refl
+parts-quotient (either s t) = refl
+
 -- The nodes of several types, and of one by its parts.
 abbrev pub sizes : List Ty → ℕ
 sizes [] = 0
@@ -52,3 +68,16 @@ leaf-alone t none = go (type-parts t) (type-parts-many t) (size-by-parts t)
     go : (ts : List Ty) → length ts ≡ type-arity (kind t) → size t ≡ suc (sizes ts) → size t ≡ 1
     go [] many is = is
     go (s ∷ ts) many is = absurd (omega arith)
+
+-- A type with two parts is a node and these.
+abbrev pub Fork : Ty → Type 0
+Fork t = type-arity (kind t) ≡ 2
+
+pub fork-size : (t : Ty) → Fork t → size t ≡ suc (size (first-part t) + size (second-part t))
+unfolding size
+fork-size empty two = absurd (omega arith)
+fork-size cue two = absurd (omega arith)
+fork-size level two = absurd (omega arith)
+fork-size (seq s t) two = refl
+fork-size (par s t) two = refl
+fork-size (either s t) two = refl

@@ -6,6 +6,7 @@ use Prim.Native.Nat.{ℕ, zero, suc, _+_, _≤_}
 use native.Mathlib.Omega.{arith}
 use borrow.Author.Tests.{eqb-true}
 use Rattle.stream.specs.Types.{Ty, empty, cue, level, seq, par, either, Nullable, null-empty, null-par, nullable, size, type-limit, kind, first-part, second-part, has-kind, same-type}
+use Rattle.stream.specs.Types.Kinds.{type-arity, fork-size}
 
 -- Booleans
 
@@ -74,14 +75,8 @@ made (either s t) = refl
 pub made-of : (k : ℕ) (t : Ty) → has-kind k t ≡ true → t ≡ of-kind k (first-part t) (second-part t)
 made-of k t e = made t ∙ ap (λ x. of-kind x (first-part t) (second-part t)) (eqb-true (kind t) k e)
 
-pub parts-size : (k : ℕ) (t : Ty) → 3 ≤ k → has-kind k t ≡ true → size t ≡ suc (size (first-part t) + size (second-part t))
-unfolding size
-parts-size k empty h e = absurd (omega (arith, eqb-true 0 k e))
-parts-size k cue h e = absurd (omega (arith, eqb-true 1 k e))
-parts-size k level h e = absurd (omega (arith, eqb-true 2 k e))
-parts-size k (seq s t) h e = refl
-parts-size k (par s t) h e = refl
-parts-size k (either s t) h e = refl
+pub parts-size : (k : ℕ) (t : Ty) → type-arity k ≡ 2 → has-kind k t ≡ true → size t ≡ suc (size (first-part t) + size (second-part t))
+parts-size k t two e = fork-size t (ap type-arity (eqb-true (kind t) k e) ∙ two)
 
 -- The same type
 

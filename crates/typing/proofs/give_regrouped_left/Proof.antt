@@ -1,6 +1,6 @@
 -- `give_regrouped_left` meets its contract: the pieces of s, (t, r) make (s, t), r behind both kinds.
 use borrow.Author.Needs.{needs}
-use mathlib.Core.Path.{subst}
+use mathlib.Core.Path.{refl, subst}
 use native.Mathlib.Omega.{arith}
 use Rattle.stream.specs.Types.{Ty, seq, size}
 use Rattle.reading.specs.declared.nested.Shaped.the-variants.{Nested}
@@ -50,11 +50,11 @@ enum-known-places c = search needs
 write-left-requires : tie.Need-write-left-requires
 write-left-requires c κs =
     let here = entry (told (found c)) .pre .here in
-    reorder-due second-nested 3 (second-sized 3 (omega arith)) here (shapes (found c) .each _ here)
+    reorder-due second-nested 3 (second-sized 3 refl) here (shapes (found c) .each _ here)
 
 returns : tie.Need-returns
 unfolding typing
-returns c = refuses second-nested 3 (second-sized 3 (omega arith)) regrouped (rw (c .enum-told .given .1) at (c .before .before .nested-in-second .ensures))
+returns c = refuses second-nested 3 (second-sized 3 refl) regrouped (rw (c .enum-told .given .1) at (c .before .before .nested-in-second .ensures))
 
 same-length : tie.Need-same-length
 same-length c = search needs
@@ -63,7 +63,7 @@ returns-2 : tie.Need-returns-2
 unfolding typing size
 returns-2 c =
     let pieces = written c in
-    gives-as-many second-nested 3 (second-sized 3 (omega arith)) regrouped (regrouped-left 3 3) left-bytes (shapes (found (pieces .before))) (pieces .write-left .ensures)
+    gives-as-many second-nested 3 (second-sized 3 refl) regrouped (regrouped-left 3 3) left-bytes (shapes (found (pieces .before))) (pieces .write-left .ensures)
     (λ s t r. omega arith)
 
 pub give-regrouped-left-spec : {M : Type 1} → statement M

@@ -1,7 +1,6 @@
 -- `give_spread` meets its contract: the pieces of s, (t beside r) make both sides, of which each has s.
 use borrow.Author.Needs.{needs}
-use mathlib.Core.Path.{subst}
-use native.Mathlib.Omega.{arith}
+use mathlib.Core.Path.{refl, subst}
 use Rattle.stream.specs.Types.{Ty, seq, par}
 use Rattle.reading.specs.declared.nested.Shaped.the-variants.{Nested}
 use Rattle.reading.specs.TypeReads.{TypeIn}
@@ -50,14 +49,14 @@ enum-known-places c = search needs
 write-spread-requires : tie.Need-write-spread-requires
 write-spread-requires c κs =
     let here = entry (told (found c)) .pre .here in
-    reorder-due second-nested 4 (second-sized 4 (omega arith)) here (shapes (found c) .each _ here)
+    reorder-due second-nested 4 (second-sized 4 refl) here (shapes (found c) .each _ here)
 
 limit-requires : tie.Need-limit-requires
 limit-requires c κs = search needs
 
 returns : tie.Need-returns
 unfolding typing
-returns c = refuses second-nested 4 (second-sized 4 (omega arith)) spread-apart (rw (c .enum-told .given .1) at (c .before .before .nested-in-second .ensures))
+returns c = refuses second-nested 4 (second-sized 4 refl) spread-apart (rw (c .enum-told .given .1) at (c .before .before .nested-in-second .ensures))
 
 same-length : tie.Need-same-length
 same-length c = search needs
@@ -67,7 +66,7 @@ unfolding typing
 returns-2 c =
     let pieces = written (c .before) in
     rw (c .limit .ensures)
-    (gives-made second-nested 4 (second-sized 4 (omega arith)) spread-apart (spread-out 4 3) spread-bytes (shapes (found (pieces .before))) (pieces .write-spread .ensures))
+    (gives-made second-nested 4 (second-sized 4 refl) spread-apart (spread-out 4 3) spread-bytes (shapes (found (pieces .before))) (pieces .write-spread .ensures))
 
 pub give-spread-spec : {M : Type 1} → statement M
 give-spread-spec =

@@ -2,6 +2,8 @@
 -- prefix stands behind the mark.
 use borrow.Author.Needs.{needs}
 use native.Mathlib.Omega.{arith}
+use mathlib.Core.Path.{ap}
+use Rattle.stream.specs.Types.Kinds.{type-arity}
 use Rattle.reading.specs.Inputs.Laws.{type-starts, prefix-starts}
 use Rattle.reading.proofs.InputParts.{first-due, first-found, second-found}
 use Rattle.reading.proofs.inputs.chosen_part.Statement.{statement}
@@ -20,7 +22,7 @@ add-start c = omega (arith, type-starts (c .before .before .before .pre .stands)
 skip-type-requires : tie.Need-skip-type-requires
 skip-type-requires c κs =
     let due = c .before .before .before .pre in
-    first-due (omega (arith, due .is-either)) (due .stands .type-in)
+    first-due (ap type-arity (due .is-either)) (due .stands .type-in)
 
 new-requires : tie.Need-new-requires
 new-requires c κs = search needs

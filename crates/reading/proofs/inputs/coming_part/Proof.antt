@@ -1,7 +1,7 @@
 -- `coming_part` meets its contract: the first part of either stands behind the kind byte, that of the type up to where `skip_type` says,
 -- that of the prefix up to where the prefix ends.
 use borrow.Author.Needs.{needs}
-use native.Mathlib.Omega.{arith}
+use mathlib.Core.Path.{refl}
 use Rattle.reading.proofs.InputParts.{first-due, coming-found}
 use Rattle.reading.proofs.inputs.coming_part.Statement.{statement}
 use Rattle.reading.proofs.inputs.coming_part.Tie as tie
@@ -10,7 +10,7 @@ add-first : tie.Need-add-first
 add-first c = search needs
 
 skip-type-requires : tie.Need-skip-type-requires
-skip-type-requires c κs = first-due (omega arith) (c .before .before .pre .type-in)
+skip-type-requires c κs = first-due refl (c .before .before .pre .type-in)
 
 new-requires : tie.Need-new-requires
 new-requires c κs = search needs
