@@ -77,7 +77,7 @@
 #include <stdint.h>
 
 /* The release, for people. */
-#define WOSTHILE_RELEASE "1.2.0"
+#define WOSTHILE_RELEASE "1.2.1"
 
 /* The binary interface: changes whenever a struct or a function below asks for compiling again. See wosthile_abi. */
 #define WOSTHILE_ABI 1

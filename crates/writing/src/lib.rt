@@ -198,7 +198,8 @@ fn empty_kind(kind: u8) -> u8
     }
 }
 
-// How many parts the empty prefix of a type has, by the type's kind: none if it is a leaf, of a sequence the first part alone.
+// How many parts the empty prefix of a type has, by the type's kind: none if it is a leaf, of a sequence the first part alone. This is
+// not for `type_arity` to say, which counts the parts of the type: an either has two, and its empty prefix none.
 fn empty_parts(kind: u8) -> u8
     ensures { λ r. ⌜ r ≡ prefix-arity (empty-kind kind) ⌝ }
 {

@@ -1,19 +1,18 @@
--- `type_arity` meets its contract: each arm has entries of the table that are alike, the last what stands past its end.
+-- `type_arity` meets its contract: up to kind 5 the table has the doubled quotient, and past its end what the last arm has.
 use native.Mathlib.Omega.{arith}
-use mathlib.Core.Path.{refl}
-use Rattle.stream.specs.Tables.{shared, beyond}
-use Rattle.stream.specs.Types.Kinds.{type-arities}
+use Rattle.stream.specs.Tables.{beyond}
+use Rattle.stream.specs.Types.Kinds.{type-arities, arity-quotient}
 use Rattle.reading.proofs.types.type_arity.Statement.{statement}
 use Rattle.reading.proofs.types.type_arity.Tie as tie
 
+mul-result : tie.Need-mul-result
+mul-result c = omega arith
+
 returns : tie.Need-returns
-returns c = shared type-arities 2 0 3 refl (c .before .args .kind) (omega arith) (omega arith)
+returns c = omega (arith, arity-quotient (c .before .args .kind) (omega arith))
 
 returns-2 : tie.Need-returns-2
-returns-2 c = shared type-arities 2 3 3 refl (c .before .before .args .kind) (omega arith) (omega arith)
-
-returns-3 : tie.Need-returns-3
-returns-3 c = beyond type-arities 2 (c .before .before .args .kind) (omega arith)
+returns-2 c = beyond type-arities 2 (c .before .args .kind) (omega arith)
 
 pub type-arity-spec : {M : Type 1} → statement M
-type-arity-spec = tie.close (tie.spec returns returns-2 returns-3)
+type-arity-spec = tie.close (tie.spec mul-result returns returns-2)
