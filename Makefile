@@ -14,6 +14,7 @@
 # make measure   how long the program takes for 100,000 slices, and how much memory
 # make bench     times and instruction counts of the library beside the second interpreter; fails if a goal is missed in
 #                the median of the runs: make bench RUNS=3
+# make branches  the library's instructions and branches in each row of the benchmark, and in all feeds of each shipped show
 # make install   archive, header and wosthile.pc: make install PREFIX=/usr/local DESTDIR=
 # make clean     removes all that was built
 
@@ -36,7 +37,7 @@ CARGO = CARGO_TARGET_DIR=target/cargo cargo
 LOCKED = --quiet --offline --locked
 CHECKED = $(LOCKED) --profile checked
 
-.PHONY: demo test prove lib programs play rehearse picture diagram shows example fuzz streams measure bench install clean
+.PHONY: demo test prove lib programs play rehearse picture diagram shows example fuzz streams measure bench branches install clean
 demo: programs
 	examples/demo.sh '$(SHOW)'
 
@@ -110,6 +111,10 @@ bench: $(ARCHIVE)
 	$(CARGO) build $(LOCKED) --release --package bench
 	bench/instructions.sh target/cargo/release/bench >target/instructions
 	target/cargo/release/bench --runs $(RUNS) --instructions target/instructions
+
+branches: $(ARCHIVE) target/frame_loop
+	@$(CARGO) build $(LOCKED) --release --package bench
+	@bench/branches.sh target/cargo/release/bench target/frame_loop examples/shows/*.show
 
 install: $(ARCHIVE)
 	install -d $(DESTDIR)$(PREFIX)/lib/pkgconfig $(DESTDIR)$(PREFIX)/include

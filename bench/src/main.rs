@@ -27,7 +27,8 @@ Times the library beside the second interpreter, call by call, and says which go
   --instructions FILE  takes instruction counts from a file: for each row a line with the library's
                        and the second interpreter's
   --count N            makes every call so many times, library and then second interpreter, row by
-                       row; bench/instructions.sh counts what that executes
+                       row, and prints each row's call; bench/instructions.sh and bench/branches.sh
+                       count what that executes
 
 Status: 0 all goals are met, 1 one is missed, or the answers differ, 2 the words or the file cannot
 be used, or the answer cannot be written.
@@ -77,18 +78,19 @@ fn print_table(runs: usize, instructions: &[Instructions]) -> Result<(), Stop> {
     }
 }
 
-fn repeat_all(times: u64) {
+fn repeat_all(times: u64) -> Result<(), Stop> {
     let mut lent = Lent::holding(0);
     for row in rows::all() {
         timing::wosthile_bench_repeat(&row, Side::Library, &mut lent, times);
         timing::wosthile_bench_repeat(&row, Side::Second, &mut lent, times);
+        writeln!(Output, "{:?}, {}", row.operation, row.name)?;
     }
+    Ok(())
 }
 
 fn run(words: &[&str]) -> Result<(), Stop> {
     if let ["--count", times] = words {
-        repeat_all(number::<NonZeroU64>(times)?.get());
-        return Ok(());
+        return repeat_all(number::<NonZeroU64>(times)?.get());
     }
     let (runs, words) = match words {
         ["--runs", runs, words @ ..] => (number::<NonZeroUsize>(runs)?.get(), words),

@@ -7,7 +7,7 @@ const COUNTED: &str = "--instructions /dev/stdin <<END\n100 200\nEND";
 
 /// No row has a whole table: that takes too long for a test.
 const ROWS: [Row; 8] = [
-    ("--count 1", 0, ""),
+    ("--count 1", 0, "Longest, "),
     ("--count", 2, "the words are: "),
     ("--count 0", 2, "no number that can be used: 0"),
     ("--runs x", 2, "no number that can be used: x"),
