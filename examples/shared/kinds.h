@@ -1,6 +1,8 @@
 /*
  * The kinds of types, slices and nodes: a table of each, with a row for every kind, and what can be said of a tree of
- * bytes by these tables alone, as where it ends. What is wrong with a tree is for the library to say.
+ * bytes by these tables alone, as where it ends. What is wrong with a tree is for the library to say. How many parts a
+ * kind has it cannot be asked, since the header has no call for that: tests/c/kinds.c holds the rows to what it
+ * accepts.
  *
  * Trees are in preorder. A place is a byte of a tree's section, counted from 0 behind the count of the section.
  */

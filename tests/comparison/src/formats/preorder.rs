@@ -5,7 +5,8 @@ use crate::formats::kinds::node_kind::{
 };
 use crate::formats::kinds::{slice_kind, type_kind};
 
-/// Whether types of this kind have no parts.
+/// Whether types of this kind have no parts. By the names of the kinds, not by the library's
+/// arithmetic: a mistake in it would be made here too.
 pub fn is_type_leaf(kind: u8) -> bool {
     matches!(kind, type_kind::EMPTY | type_kind::CUE | type_kind::LEVEL)
 }
