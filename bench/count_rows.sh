@@ -1,8 +1,8 @@
 #!/usr/bin/env bash
 # Counts what the calls of every row execute, by valgrind: bench/count_rows.sh PROGRAM [WORD]... prints two lines for
-# each row, the library's counts per call and then the second interpreter's. The first count on a line is
-# that of instructions; the words are valgrind's, and can ask for more.
-set -eu
+# each row, the library's counts per call and then the second interpreter's. The first count on a line is that of
+# instructions; the words are valgrind's, and can ask for more.
+set -eu -o pipefail
 
 program=$1
 times=10
