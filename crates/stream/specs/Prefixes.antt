@@ -1,5 +1,6 @@
 -- Prefixes: what has come so far of a stream. Document 01 calls one a slice (Files, "Slices" to "Join"), and document 02 adds those
--- of either (M-100). The source's names for them (its Figure 4) stand behind the kind bytes.
+-- of either (M-100) and what nodes 2 and 3 wait for (M-103). The source's names for them (its Figure 4) stand behind the kind bytes.
+use mathlib.Core.Path.{_≡_}
 use Prim.Native.Nat.{ℕ, _<_}
 use Rattle.stream.specs.Levels.{level-limit}
 use Rattle.stream.specs.Types.{Ty, empty, cue, level, seq, par, either, first-part, second-part}
@@ -56,6 +57,11 @@ empty-prefix level = level-awaited
 empty-prefix (seq s t) = in-first (empty-prefix s)
 empty-prefix (par s t) = beside (empty-prefix s) (empty-prefix t)
 empty-prefix (either s t) = none-chosen
+
+-- A prefix p of s opens a node that waits, if it "differs from its type's empty slice or is complete" (M-103).
+pub data Opens (s : Ty) (p : Prefix) : Type 0 where
+  opens-differing : (p ≡ empty-prefix s → ⊥) → Opens s p
+  opens-complete : Complete p → Opens s p
 
 -- What a prefix leaves of its type (the source's derivative): "0 leaves empty; 1 and 3 leave the type; 2 and 4 leave
 -- empty; 5 leaves a sequence of what is left of the first part and the whole second; 6 leaves what is left of the

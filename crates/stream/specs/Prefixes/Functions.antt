@@ -1,6 +1,6 @@
 -- What the rules of prefixes say, as functions that compute. They are proved to agree with the rules, both ways (Laws:
--- complete-sound and complete-complete, concat-only and concats), so that nobody has to believe them.
-use mathlib.Core.Bool.{Bool, true, false, _&&_}
+-- complete-sound and complete-complete, opens-test, concat-only and concats), so that nobody has to believe them.
+use mathlib.Core.Bool.{Bool, true, false, _&&_, _||_, not}
 use Rattle.stream.specs.Prefixes.{Prefix, nothing, cue-awaited, cue-come, level-awaited, level-come, in-first, crossed, beside, none-chosen, first-chosen, second-chosen}
 
 -- Complete
@@ -16,6 +16,24 @@ complete (beside p q) = complete p && complete q
 complete none-chosen = false
 complete (first-chosen p) = complete p
 complete (second-chosen p) = complete p
+
+-- Whether a prefix is the empty one of its type, by the prefix alone: in it nothing has come, been crossed or been chosen.
+unfoldable pub brings-nothing : Prefix → Bool
+brings-nothing nothing = true
+brings-nothing cue-awaited = true
+brings-nothing cue-come = false
+brings-nothing level-awaited = true
+brings-nothing (level-come v) = false
+brings-nothing (in-first p) = brings-nothing p
+brings-nothing (crossed b q) = false
+brings-nothing (beside p q) = brings-nothing p && brings-nothing q
+brings-nothing none-chosen = true
+brings-nothing (first-chosen p) = false
+brings-nothing (second-chosen p) = false
+
+-- Opens
+unfoldable pub opens : Prefix → Bool
+opens p = not (brings-nothing p) || complete p
 
 -- A prefix of a sequence by its two cases, one of a side-by-side type by its one, and one of either by its three; `other` answers
 -- for the rest, which no rule uses.

@@ -1,12 +1,13 @@
--- The laws of derivative and concatenation.
-use mathlib.Core.Path.{_≡_, refl, ap, ap₂}
-use mathlib.Core.Bool.{true, false≢true}
+-- The laws of derivative and concatenation, and of what opens a node that waits.
+use mathlib.Core.Path.{_≡_, refl, sym, ap, ap₂, _∙_}
+use mathlib.Core.Bool.{Bool, true, false, _||_, not, true≢false, false≢true}
+use mathlib.Core.Logic.{_↔_}
 use Prim.Native.Nat.{_≤_}
 use native.Mathlib.Omega.{arith}
 use Rattle.stream.specs.Types.{Ty, empty, cue, level, seq, par, either, Nullable, null-empty, null-par, size}
 use Rattle.stream.specs.Types.Laws.{and-left, and-right, and-both}
-use Rattle.stream.specs.Prefixes.{Prefix, nothing, cue-awaited, cue-come, level-awaited, level-come, in-first, crossed, beside, none-chosen, first-chosen, second-chosen, Complete, whole-nothing, whole-cue, whole-level, whole-crossed, whole-beside, whole-first-chosen, whole-second-chosen, IsPrefix, of-empty, of-cue-awaited, of-cue-come, of-level-awaited, of-level-come, of-first, of-crossed, of-beside, of-none-chosen, of-first-chosen, of-second-chosen, empty-prefix, derivative, Concat, after-nothing, after-cue, after-level, cue-awaited-yet, level-awaited-yet, still-in-first, now-crossed, behind-crossing, each-side, none-chosen-yet, inside-first, inside-second}
-use Rattle.stream.specs.Prefixes.Functions.{complete, concat}
+use Rattle.stream.specs.Prefixes.{Prefix, nothing, cue-awaited, cue-come, level-awaited, level-come, in-first, crossed, beside, none-chosen, first-chosen, second-chosen, Complete, whole-nothing, whole-cue, whole-level, whole-crossed, whole-beside, whole-first-chosen, whole-second-chosen, IsPrefix, of-empty, of-cue-awaited, of-cue-come, of-level-awaited, of-level-come, of-first, of-crossed, of-beside, of-none-chosen, of-first-chosen, of-second-chosen, empty-prefix, Opens, opens-differing, opens-complete, derivative, Concat, after-nothing, after-cue, after-level, cue-awaited-yet, level-awaited-yet, still-in-first, now-crossed, behind-crossing, each-side, none-chosen-yet, inside-first, inside-second}
+use Rattle.stream.specs.Prefixes.Functions.{complete, brings-nothing, opens, concat}
 
 -- Complete: the test is the rule
 
@@ -79,6 +80,79 @@ derivative-empty (seq s t) = ap (λ x. seq x t) (derivative-empty s)
 derivative-empty (par s t) = ap₂ par (derivative-empty s) (derivative-empty t)
 derivative-empty (either s t) = refl
 
+-- The test for the empty prefix is right for the prefixes of a type.
+
+pub brings-nothing-sound : {t : Ty} {p : Prefix} → IsPrefix t p → brings-nothing p ≡ true → p ≡ empty-prefix t
+unfolding brings-nothing empty-prefix
+brings-nothing-sound of-empty e = refl
+brings-nothing-sound of-cue-awaited e = refl
+brings-nothing-sound of-cue-come e = absurd (false≢true e)
+brings-nothing-sound of-level-awaited e = refl
+brings-nothing-sound (of-level-come v) e = absurd (false≢true e)
+brings-nothing-sound (of-first h) e = ap in-first (brings-nothing-sound h e)
+brings-nothing-sound (of-crossed h c k) e = absurd (false≢true e)
+brings-nothing-sound (of-beside {p = p} {q = q} h k) e =
+    ap₂ beside (brings-nothing-sound h (and-left (brings-nothing p) (brings-nothing q) e))
+    (brings-nothing-sound k (and-right (brings-nothing p) (brings-nothing q) e))
+brings-nothing-sound of-none-chosen e = refl
+brings-nothing-sound (of-first-chosen h) e = absurd (false≢true e)
+brings-nothing-sound (of-second-chosen h) e = absurd (false≢true e)
+
+pub empty-brings-nothing : (t : Ty) → brings-nothing (empty-prefix t) ≡ true
+unfolding brings-nothing empty-prefix
+empty-brings-nothing empty = refl
+empty-brings-nothing cue = refl
+empty-brings-nothing level = refl
+empty-brings-nothing (seq s t) = empty-brings-nothing s
+empty-brings-nothing (par s t) = and-both (empty-brings-nothing s) (empty-brings-nothing t)
+empty-brings-nothing (either s t) = refl
+
+-- What opens a waiting node: for the prefixes of a type the test is the rule.
+
+pub complete-opens : {p : Prefix} → Complete p → opens p ≡ true
+unfolding opens
+complete-opens {p} c = go (not (brings-nothing p)) (complete-complete c)
+  where
+    go : (a : Bool) {b : Bool} → b ≡ true → a || b ≡ true
+    go true e = refl
+    go false e = e
+
+pub closed-brings-nothing : (p : Prefix) → opens p ≡ false → brings-nothing p ≡ true
+unfolding opens
+closed-brings-nothing p e = go (brings-nothing p) (complete p) e
+  where
+    go : (a b : Bool) → not a || b ≡ false → a ≡ true
+    go true b e = refl
+    go false b e = sym e
+
+pub opens-sound : {s : Ty} (p : Prefix) → opens p ≡ true → Opens s p
+unfolding opens
+opens-sound {s} p e = go (brings-nothing p) refl (complete p) refl e
+  where
+    go : (a : Bool) → brings-nothing p ≡ a → (b : Bool) → complete p ≡ b → not a || b ≡ true → Opens s p
+    go false d b c e = opens-differing (λ x. true≢false (sym (empty-brings-nothing s) ∙ ap brings-nothing (sym x) ∙ d))
+    go true d true c e = opens-complete (complete-sound p c)
+    go true d false c e = absurd (false≢true e)
+
+pub opens-by-rule : {s : Ty} {p : Prefix} → IsPrefix s p → Opens s p → opens p ≡ true
+unfolding opens
+opens-by-rule {p = p} h (opens-differing d) = go (brings-nothing p) refl
+  where
+    go : (a : Bool) → brings-nothing p ≡ a → not a || complete p ≡ true
+    go false e = refl
+    go true e = absurd (d (brings-nothing-sound h e))
+opens-by-rule h (opens-complete c) = complete-opens c
+
+pub opens-test : {s : Ty} {p : Prefix} → IsPrefix s p → opens p ≡ true ↔ Opens s p
+opens-test {p = p} h = ((λ e. opens-sound p e), (λ o. opens-by-rule h o))
+
+pub closed-test : {s : Ty} {p : Prefix} → IsPrefix s p → opens p ≡ false ↔ (Opens s p → ⊥)
+closed-test {s} {p} h = ((λ e o. true≢false (sym (opens-by-rule h o) ∙ e)), (λ k. go (opens p) refl k))
+  where
+    go : (b : Bool) → opens p ≡ b → (Opens s p → ⊥) → b ≡ false
+    go true e k = absurd (k (opens-sound p e))
+    go false e k = refl
+
 -- A prefix is complete exactly if what it leaves is nullable.
 
 pub complete→nullable : {t : Ty} {p : Prefix} → IsPrefix t p → Complete p → Nullable (derivative t p)
@@ -100,6 +174,11 @@ nullable→complete (of-crossed h d k) n = whole-crossed (nullable→complete k 
 nullable→complete (of-beside h k) (null-par n m) = whole-beside (nullable→complete h n) (nullable→complete k m)
 nullable→complete (of-first-chosen h) n = whole-first-chosen (nullable→complete h n)
 nullable→complete (of-second-chosen h) n = whole-second-chosen (nullable→complete h n)
+
+-- Every prefix of a nullable type is complete.
+pub nullable-prefix : {t : Ty} {p : Prefix} → Nullable t → IsPrefix t p → Complete p
+nullable-prefix null-empty of-empty = whole-nothing
+nullable-prefix (null-par n m) (of-beside h k) = whole-beside (nullable-prefix n h) (nullable-prefix m k)
 
 -- What is left is no larger.
 pub derivative-size : {t : Ty} {p : Prefix} → IsPrefix t p → size (derivative t p) ≤ size t
@@ -241,6 +320,40 @@ concat-assoc q r (of-beside h i) (of-beside k l) (of-beside m o) = ap₂ beside 
 concat-assoc q r of-none-chosen k l = refl
 concat-assoc q r (of-first-chosen h) k l = ap first-chosen (concat-assoc q r h k l)
 concat-assoc q r (of-second-chosen h) k l = ap second-chosen (concat-assoc q r h k l)
+
+-- What opens a waiting node does so with anything joined to it; what does not is the empty prefix, and after it stands what comes.
+
+brings-nothing-concat : {t : Ty} {p : Prefix} (q : Prefix) → IsPrefix t p → IsPrefix (derivative t p) q
+    → brings-nothing (concat p q) ≡ true → brings-nothing p ≡ true
+unfolding brings-nothing concat derivative
+brings-nothing-concat q of-empty k e = refl
+brings-nothing-concat q of-cue-awaited k e = refl
+brings-nothing-concat q of-cue-come k e = e
+brings-nothing-concat q of-level-awaited k e = refl
+brings-nothing-concat q (of-level-come v) k e = e
+brings-nothing-concat q (of-first h) (of-first k) e = brings-nothing-concat _ h k e
+brings-nothing-concat q (of-first h) (of-crossed i c k) e = absurd (false≢true e)
+brings-nothing-concat q (of-crossed h c i) k e = e
+brings-nothing-concat q (of-beside {p = p} {q = r} h i) (of-beside {p = x} {q = y} k l) e =
+    and-both (brings-nothing-concat _ h k (and-left (brings-nothing (concat p x)) (brings-nothing (concat r y)) e))
+    (brings-nothing-concat _ i l (and-right (brings-nothing (concat p x)) (brings-nothing (concat r y)) e))
+brings-nothing-concat q of-none-chosen k e = refl
+brings-nothing-concat q (of-first-chosen h) k e = e
+brings-nothing-concat q (of-second-chosen h) k e = e
+
+pub opens-concat : {t : Ty} {p : Prefix} (q : Prefix) → IsPrefix t p → IsPrefix (derivative t p) q → opens p ≡ true → opens (concat p q) ≡ true
+unfolding opens
+opens-concat {p = p} q h k e = go (complete p) refl (brings-nothing (concat p q)) refl
+  where
+    go : (b : Bool) → complete p ≡ b → (a : Bool) → brings-nothing (concat p q) ≡ a → not (brings-nothing (concat p q)) || complete (concat p q) ≡ true
+    go true c a d = complete-opens (concat-complete q h k (nullable-prefix (complete→nullable h (complete-sound p c)) k))
+    go false c false d = rw d
+    go false c true d = absurd (true≢false (sym (rw (brings-nothing-concat q h k d, c) at e)))
+
+pub closed-concat : {t : Ty} {p : Prefix} (q : Prefix) → IsPrefix t p → IsPrefix (derivative t p) q → opens p ≡ false → concat p q ≡ q
+closed-concat {t} {p} q h k e =
+    let n : p ≡ empty-prefix t = brings-nothing-sound h (closed-brings-nothing p e) in
+    rw n (concat-empty-left (rw (n, derivative-empty t) at k))
 
 -- Two lanes side by side: which of them comes first does not matter (the source's Theorem 3.4).
 
