@@ -1,5 +1,6 @@
--- The starred cases of document 01, 1 to 9, and of document 02 calls on choices (M-100) and for the longest slice (M-101), each as one
--- table: a call by the contents of the sections that it is handed, and what comes back.
+-- The starred cases of document 01, 1 to 9, of which M-103 moves the eighth, and of document 02 calls on choices (M-100), for the longest
+-- slice (M-101) and on nodes that wait (M-103), each as one table: a call by the contents of the sections that it is handed, and what
+-- comes back.
 use mathlib.Core.Path.{_≡_, refl}
 use mathlib.Core.List.{List, [], _∷_, _++_, map}
 use Prim.Native.Nat.{ℕ}
@@ -65,9 +66,9 @@ table =
     -- 7, and joining
     ∷ (admitting (3 ∷ 1 ∷ 1 ∷ []) (6 ∷ 1 ∷ 1 ∷ []), number-alone 14)
     ∷ (joining (3 ∷ 1 ∷ 1 ∷ []) (5 ∷ 2 ∷ []) (6 ∷ 0 ∷ 1 ∷ []), writes-file (6 ∷ 2 ∷ 1 ∷ []))
-    -- 8
+    -- 8, as M-103 has it: "in case 8 node 2 now sends 1 and stays"
     ∷ (feeding (0 ∷ []) (0 ∷ []) (0 ∷ []), sends-and-leaves (0 ∷ []) (0 ∷ []) (0 ∷ []))
-    ∷ (feeding (1 ∷ []) (2 ∷ []) (1 ∷ []), sends-and-leaves (2 ∷ []) (1 ∷ []) (1 ∷ 0 ∷ []))
+    ∷ (feeding (1 ∷ []) (2 ∷ []) (1 ∷ []), sends-and-leaves (1 ∷ []) (1 ∷ []) (2 ∷ []))
     -- 9
     ∷ (checking (3 ∷ 1 ∷ 1 ∷ []) (5 ∷ []), number-alone 7)
     ∷ (checking (1 ∷ []) (1 ∷ 3 ∷ 0 ∷ 0 ∷ []), number-alone 6)
@@ -95,7 +96,7 @@ choices =
     -- choose on 8, on 9 and on 10; 16 and 17
     ∷ (feeding (5 ∷ 1 ∷ 2 ∷ []) (15 ∷ 2 ∷ 2 ∷ []) (8 ∷ []), sends-and-leaves (1 ∷ []) (5 ∷ 1 ∷ 2 ∷ []) (15 ∷ 2 ∷ 2 ∷ []))
     ∷ (feeding (5 ∷ 1 ∷ 1 ∷ []) (15 ∷ 0 ∷ 2 ∷ []) (9 ∷ 1 ∷ []), sends-and-leaves (1 ∷ []) (1 ∷ []) (0 ∷ []))
-    ∷ (feeding (5 ∷ 1 ∷ 1 ∷ []) (15 ∷ 0 ∷ 2 ∷ []) (10 ∷ 1 ∷ []), sends-and-leaves (2 ∷ []) (1 ∷ []) (1 ∷ 0 ∷ []))
+    ∷ (feeding (5 ∷ 1 ∷ 1 ∷ []) (15 ∷ 0 ∷ 2 ∷ []) (10 ∷ 2 ∷ []), sends-and-leaves (2 ∷ []) (0 ∷ []) (1 ∷ 0 ∷ []))
     ∷ (feeding (1 ∷ []) (16 ∷ 2 ∷ []) (1 ∷ []), sends-and-leaves (9 ∷ 1 ∷ []) (1 ∷ []) (0 ∷ []))
     ∷ (feeding (1 ∷ []) (17 ∷ 2 ∷ []) (2 ∷ []), sends-and-leaves (10 ∷ 2 ∷ []) (0 ∷ []) (0 ∷ []))
     -- 30, after the second part's own faults and before 4
@@ -131,3 +132,29 @@ longest-slices =
 pub longest-cases : map (λ (row : Question × Answer). answered (row .0)) longest-slices ≡ map (λ (row : Question × Answer). row .1) longest-slices
 unfolding node-definitions longest
 longest-cases = refl
+
+abbrev pub opening-cues : List (Question × Answer)
+opening-cues =
+    -- the slice judged is the one that the node is fed, not the patch's: nothing on the left side; what second sends, which is complete
+    (feeding (4 ∷ 1 ∷ 1 ∷ []) (10 ∷ 5 ∷ 2 ∷ []) (7 ∷ 1 ∷ 2 ∷ []), sends-and-leaves (1 ∷ []) (4 ∷ 1 ∷ 0 ∷ []) (10 ∷ 5 ∷ 2 ∷ []))
+    ∷ (feeding (3 ∷ 1 ∷ 0 ∷ []) (10 ∷ 8 ∷ 2 ∷ []) (5 ∷ 1 ∷ []), sends-and-leaves (2 ∷ []) (3 ∷ 1 ∷ 0 ∷ []) (10 ∷ 8 ∷ 1 ∷ 0 ∷ []))
+    -- an empty slice that is complete opens; one that is not waits, also of two empty parts in sequence
+    ∷ (feeding (0 ∷ []) (2 ∷ []) (0 ∷ []), sends-and-leaves (2 ∷ []) (0 ∷ []) (1 ∷ 0 ∷ []))
+    ∷ (feeding (4 ∷ 0 ∷ 0 ∷ []) (2 ∷ []) (7 ∷ 0 ∷ 0 ∷ []), sends-and-leaves (2 ∷ []) (4 ∷ 0 ∷ 0 ∷ []) (1 ∷ 0 ∷ []))
+    ∷ (feeding (3 ∷ 0 ∷ 0 ∷ []) (2 ∷ []) (5 ∷ 0 ∷ []), sends-and-leaves (1 ∷ []) (3 ∷ 0 ∷ 0 ∷ []) (2 ∷ []))
+    -- a crossing opens, and a choice, with no cue and no level in them
+    ∷ (feeding (3 ∷ 0 ∷ 1 ∷ []) (2 ∷ []) (5 ∷ 0 ∷ []), sends-and-leaves (1 ∷ []) (3 ∷ 0 ∷ 1 ∷ []) (2 ∷ []))
+    ∷ (feeding (3 ∷ 0 ∷ 1 ∷ []) (2 ∷ []) (6 ∷ 0 ∷ 1 ∷ []), sends-and-leaves (2 ∷ []) (1 ∷ []) (1 ∷ 0 ∷ []))
+    ∷ (feeding (5 ∷ 1 ∷ 1 ∷ []) (2 ∷ []) (8 ∷ []), sends-and-leaves (1 ∷ []) (5 ∷ 1 ∷ 1 ∷ []) (2 ∷ []))
+    ∷ (feeding (5 ∷ 1 ∷ 1 ∷ []) (2 ∷ []) (9 ∷ 1 ∷ []), sends-and-leaves (2 ∷ []) (1 ∷ []) (1 ∷ 0 ∷ []))
+    -- choose feeds its node what is inside the choice
+    ∷ (feeding (5 ∷ 1 ∷ 1 ∷ []) (15 ∷ 0 ∷ 2 ∷ []) (10 ∷ 1 ∷ []), sends-and-leaves (1 ∷ []) (1 ∷ []) (2 ∷ []))
+    -- a level waits with its value and sends it once; what is left sends nothing more
+    ∷ (feeding (4 ∷ 1 ∷ 2 ∷ []) (3 ∷ 4 ∷ 1 ∷ []) (7 ∷ 1 ∷ 3 ∷ []), sends-and-leaves (3 ∷ []) (4 ∷ 1 ∷ 2 ∷ []) (3 ∷ 4 ∷ 1 ∷ []))
+    ∷ (feeding (4 ∷ 1 ∷ 2 ∷ []) (3 ∷ 4 ∷ 1 ∷ []) (7 ∷ 1 ∷ 4 ∷ 0 ∷ 0 ∷ []), sends-and-leaves (4 ∷ 4 ∷ 1 ∷ []) (4 ∷ 1 ∷ 0 ∷ []) (1 ∷ 0 ∷ []))
+    ∷ (feeding (4 ∷ 1 ∷ 0 ∷ []) (1 ∷ 0 ∷ []) (7 ∷ 2 ∷ 0 ∷ []), sends-and-leaves (0 ∷ []) (4 ∷ 0 ∷ 0 ∷ []) (1 ∷ 0 ∷ []))
+    ∷ []
+
+pub opening-cases : map (λ (row : Question × Answer). answered (row .0)) opening-cues ≡ map (λ (row : Question × Answer). row .1) opening-cues
+unfolding node-definitions feed
+opening-cases = refl

@@ -1,9 +1,9 @@
--- One feed of a node: what it sends and the node left (document 01, Nodes; document 02, M-100; the source's step of the
+-- One feed of a node: what it sends and the node left (document 01, Nodes; document 02, M-100 and M-103; the source's step of the
 -- incremental semantics).
 use mathlib.Core.Path.{_≡_}
 use Prim.Native.Nat.{ℕ}
 use Rattle.stream.specs.Types.{Ty, empty, seq, par, either}
-use Rattle.stream.specs.Prefixes.{Prefix, nothing, cue-come, level-come, in-first, crossed, beside, none-chosen, first-chosen, second-chosen, empty-prefix, derivative}
+use Rattle.stream.specs.Prefixes.{Prefix, nothing, cue-awaited, cue-come, level-awaited, level-come, in-first, crossed, beside, none-chosen, first-chosen, second-chosen, empty-prefix, Opens, derivative}
 use Rattle.node.specs.Nodes.{Node, pass, silent, emit-cue, emit-level, both, left-side, right-side, first, second, then, chain, regroup-right, regroup-left, spread, front, choose, mark-first, mark-second, Takes, Patch}
 pub mod Functions
 pub mod Laws
@@ -16,10 +16,13 @@ pub data Feeds : Ty → Node → Prefix → Prefix → Node → Type 0 where
   feeds-pass : {s : Ty} {p : Prefix} → Feeds s pass p p pass
   -- 1 silent: "Sends n's empty slice; itself."
   feeds-silent : {s n : Ty} {p : Prefix} → Feeds s (silent n) p (empty-prefix n) (silent n)
-  -- 2 cue: "Sends 2 at its first feed, even one that brings nothing; silent 0."
-  feeds-cue : {s : Ty} {p : Prefix} → Feeds s emit-cue p cue-come (silent empty)
+  -- 2 cue: "Sends 2 ..; silent 0", now (M-103) "when the slice differs from its type's empty slice or is complete,
+  feeds-cue : {s : Ty} {p : Prefix} → Opens s p → Feeds s emit-cue p cue-come (silent empty)
+  -- otherwise" it sends "the empty slice of [its] own type" and stays.
+  feeds-cue-waiting : {s : Ty} {p : Prefix} → (Opens s p → ⊥) → Feeds s emit-cue p cue-awaited emit-cue
   -- 3 level: "as cue, sending 4 and the value."
-  feeds-level : {s : Ty} {p : Prefix} {v : ℕ} → Feeds s (emit-level v) p (level-come v) (silent empty)
+  feeds-level : {s : Ty} {p : Prefix} {v : ℕ} → Opens s p → Feeds s (emit-level v) p (level-come v) (silent empty)
+  feeds-level-waiting : {s : Ty} {p : Prefix} {v : ℕ} → (Opens s p → ⊥) → Feeds s (emit-level v) p level-awaited (emit-level v)
   -- 4 both: "Each gets the whole slice; sends 7 and both outputs; both of the nodes left."
   feeds-both : {s : Ty} {n m n′ m′ : Node} {p o u : Prefix} → Feeds s n p o n′ → Feeds s m p u m′
       → Feeds s (both n m) p (beside o u) (both n′ m′)

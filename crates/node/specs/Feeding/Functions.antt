@@ -1,16 +1,17 @@
 -- What the rules of feeding say, as functions that compute: what is sent, the node left and the patch left. They are proved to
 -- agree with the rules, both ways (Laws: feeds, feeds-only), so that nobody has to believe them.
+use mathlib.Core.Bool.{cond}
 use Rattle.stream.specs.Types.{Ty, empty, first-part, second-part}
-use Rattle.stream.specs.Prefixes.{Prefix, nothing, cue-come, level-come, in-first, crossed, beside, first-chosen, second-chosen, empty-prefix, derivative}
-use Rattle.stream.specs.Prefixes.Functions.{on-seq, on-par, on-either}
+use Rattle.stream.specs.Prefixes.{Prefix, nothing, cue-awaited, cue-come, level-awaited, level-come, in-first, crossed, beside, first-chosen, second-chosen, empty-prefix, derivative}
+use Rattle.stream.specs.Prefixes.Functions.{opens, on-seq, on-par, on-either}
 use Rattle.node.specs.Nodes.{Node, pass, silent, emit-cue, emit-level, both, left-side, right-side, first, second, then, chain, regroup-right, regroup-left, spread, front, choose, mark-first, mark-second, Patch}
 use Rattle.node.specs.Nodes.Functions.{output-type}
 
 unfoldable pub sends : Ty → Node → Prefix → Prefix
 sends s pass p = p
 sends s (silent n) p = empty-prefix n
-sends s emit-cue p = cue-come
-sends s (emit-level v) p = level-come v
+sends s emit-cue p = cond (opens p) cue-come cue-awaited
+sends s (emit-level v) p = cond (opens p) (level-come v) level-awaited
 sends s (both n m) p = beside (sends s n p) (sends s m p)
 sends s left-side p = on-par nothing (λ x y. x) p
 sends s right-side p = on-par nothing (λ x y. y) p
@@ -40,8 +41,8 @@ sends s (mark-second t) p = second-chosen p
 unfoldable pub leaves : Ty → Node → Prefix → Node
 leaves s pass p = pass
 leaves s (silent n) p = silent n
-leaves s emit-cue p = silent empty
-leaves s (emit-level v) p = silent empty
+leaves s emit-cue p = cond (opens p) (silent empty) emit-cue
+leaves s (emit-level v) p = cond (opens p) (silent empty) (emit-level v)
 leaves s (both n m) p = both (leaves s n p) (leaves s m p)
 leaves s left-side p = left-side
 leaves s right-side p = right-side

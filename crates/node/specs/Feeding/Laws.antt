@@ -1,16 +1,17 @@
 -- A fed node keeps its typing and its limits, the functions are the rules, and feeding a joined prefix is feeding its parts.
 use mathlib.Core.Path.{_≡_, refl, sym, ap, ap₂}
+use mathlib.Core.Bool.{Bool, true, false, cond}
 use Prim.Native.Nat.{_≤_}
 use native.Mathlib.Omega.{arith}
 use native.Mathlib.Nat.{le-trans}
-use Rattle.stream.specs.Types.{Ty, size, null-empty}
-use Rattle.stream.specs.Prefixes.{Prefix, in-first, crossed, beside, Complete, whole-nothing, whole-cue, whole-level, whole-crossed, whole-beside, whole-first-chosen, whole-second-chosen, IsPrefix, of-empty, of-cue-come, of-level-come, of-first, of-crossed, of-beside, of-none-chosen, of-first-chosen, of-second-chosen, derivative}
-use Rattle.stream.specs.Prefixes.Functions.{concat}
-use Rattle.stream.specs.Prefixes.Laws.{crossed-second, beside-first, beside-second, first-chosen-inside, second-chosen-inside, empty-prefix-is-prefix, empty-prefix-complete, derivative-empty, complete→nullable, derivative-size, derivative-concat, concat-empty-left, concat-empty-right}
-use Rattle.node.specs.Nodes.{Node, silent, both, then, chain, Takes, takes-pass, takes-silent, takes-cue, takes-level, takes-both, takes-left, takes-right, takes-first, takes-second, takes-then, takes-chain, takes-regroup-right, takes-regroup-left, takes-spread, takes-front, takes-choose, takes-mark-first, takes-mark-second, count, Allowed}
+use Rattle.stream.specs.Types.{Ty, empty, size, null-empty, Small}
+use Rattle.stream.specs.Prefixes.{Prefix, cue-awaited, cue-come, level-awaited, level-come, in-first, crossed, beside, Complete, whole-nothing, whole-cue, whole-level, whole-crossed, whole-beside, whole-first-chosen, whole-second-chosen, IsPrefix, of-empty, of-cue-awaited, of-cue-come, of-level-awaited, of-level-come, of-first, of-crossed, of-beside, of-none-chosen, of-first-chosen, of-second-chosen, derivative}
+use Rattle.stream.specs.Prefixes.Functions.{opens, concat}
+use Rattle.stream.specs.Prefixes.Laws.{crossed-second, beside-first, beside-second, first-chosen-inside, second-chosen-inside, empty-prefix-is-prefix, empty-prefix-complete, derivative-empty, complete-opens, opens-sound, opens-by-rule, closed-test, complete→nullable, derivative-size, derivative-concat, concat-empty-left, concat-empty-right, opens-concat, closed-concat}
+use Rattle.node.specs.Nodes.{Node, silent, emit-cue, emit-level, both, then, chain, Takes, takes-pass, takes-silent, takes-cue, takes-level, takes-both, takes-left, takes-right, takes-first, takes-second, takes-then, takes-chain, takes-regroup-right, takes-regroup-left, takes-spread, takes-front, takes-choose, takes-mark-first, takes-mark-second, count, Allowed}
 use Rattle.node.specs.Nodes.Functions.{output-type, Fits}
 use Rattle.node.specs.Nodes.Laws.{output-type-is, is-allowed, allowed-fits}
-use Rattle.node.specs.Feeding.{Feeds, feeds-pass, feeds-silent, feeds-cue, feeds-level, feeds-both, feeds-left, feeds-right, feeds-first-coming, feeds-first-crossed, feeds-second-coming, feeds-second-crossed, feeds-then-coming, feeds-then-crossed, feeds-chain, feeds-regroup-right-in-first, feeds-regroup-right-in-second, feeds-regroup-right-in-third, feeds-regroup-left-in-first, feeds-regroup-left-in-second, feeds-regroup-left-in-third, feeds-spread-coming, feeds-spread-crossed, feeds-front, feeds-choose-none, feeds-choose-first, feeds-choose-second, feeds-mark-first, feeds-mark-second}
+use Rattle.node.specs.Feeding.{Feeds, feeds-pass, feeds-silent, feeds-cue, feeds-cue-waiting, feeds-level, feeds-level-waiting, feeds-both, feeds-left, feeds-right, feeds-first-coming, feeds-first-crossed, feeds-second-coming, feeds-second-crossed, feeds-then-coming, feeds-then-crossed, feeds-chain, feeds-regroup-right-in-first, feeds-regroup-right-in-second, feeds-regroup-right-in-third, feeds-regroup-left-in-first, feeds-regroup-left-in-second, feeds-regroup-left-in-third, feeds-spread-coming, feeds-spread-crossed, feeds-front, feeds-choose-none, feeds-choose-first, feeds-choose-second, feeds-mark-first, feeds-mark-second}
 use Rattle.node.specs.Feeding.Functions.{sends, leaves}
 
 -- A fed node: its output is a prefix of the output type, complete where the input is, and the node left takes what is left
@@ -20,13 +21,67 @@ pub record Preserved (s : Ty) (n : Node) (t : Ty) (p : Prefix) : Type 0 where
   pub whole : Complete p → Complete (sends s n p)
   pub types : Takes (derivative s p) (leaves s n p) (derivative t (sends s n p))
 
+-- Two outcomes of a feed that are the same.
+pub record Same (o u : Prefix) (n m : Node) : Type 0 where
+  pub sent : o ≡ u
+  pub node : n ≡ m
+
+abbrev same : {o : Prefix} {n : Node} → Same o o n n
+same = record { sent = refl; node = refl }
+
+-- Nodes 2 and 3 wait, and send once: a node n that sends `come` and leaves silent where the prefix opens it, and else sends `awaited` and
+-- stays. What holds of both is said of n.
+module _ {t : Ty} (n : Node) (come awaited : Prefix) (takes : (s : Ty) → Takes s n t)
+    (sending : (s : Ty) (p : Prefix) → sends s n p ≡ cond (opens p) come awaited)
+    (leaving : (s : Ty) (p : Prefix) → leaves s n p ≡ cond (opens p) (silent empty) n) where
+  waiting-preserved : {s : Ty} {p : Prefix} → IsPrefix t come → IsPrefix t awaited → Complete come → derivative t come ≡ empty
+      → derivative t awaited ≡ t → Preserved s n t p
+  waiting-preserved {s} {p} h k c d e =
+      record {
+        sent = rw (sending s p) (on-sent (opens p));
+        whole = λ w. rw (sending s p, complete-opens w) c;
+        types = rw (sending s p, leaving s p) (on-left (opens p));
+      }
+    where
+      on-sent : (b : Bool) → IsPrefix t (cond b come awaited)
+      on-sent true = h
+      on-sent false = k
+
+      on-left : (b : Bool) → Takes (derivative s p) (cond b (silent empty) n) (derivative t (cond b come awaited))
+      on-left true = rw d (takes-silent null-empty)
+      on-left false = rw e (takes (derivative s p))
+
+  -- Demand 3 holds of it, since a prefix that opens it does so with anything joined to it, and one that does not is the empty prefix,
+  -- after which the next one is all that has come.
+  waiting-concat : {s : Ty} {p : Prefix} (q : Prefix) → IsPrefix s p → IsPrefix (derivative s p) q
+      → ((x : Prefix) → concat come x ≡ come) → ((x : Prefix) → concat awaited x ≡ x)
+      → Same (sends s n (concat p q)) (concat (sends s n p) (sends (derivative s p) (leaves s n p) q))
+      (leaves s n (concat p q)) (leaves (derivative s p) (leaves s n p) q)
+  unfolding sends leaves
+  waiting-concat {s} {p} q h k c a =
+      rw (sending s (concat p q), leaving s (concat p q), sending s p, leaving s p) (go (opens p) refl)
+    where
+      go : (b : Bool) → opens p ≡ b
+          → Same (cond (opens (concat p q)) come awaited)
+          (concat (cond b come awaited) (sends (derivative s p) (cond b (silent empty) n) q))
+          (cond (opens (concat p q)) (silent empty) n) (leaves (derivative s p) (cond b (silent empty) n) q)
+      go true e = record { sent = rw (opens-concat q h k e, c); node = rw (opens-concat q h k e) }
+      go false e =
+          record {
+            sent = rw (closed-concat q h k e, a, sending (derivative s p) q);
+            node = rw (closed-concat q h k e, leaving (derivative s p) q);
+          }
+
 pub preserved : {s t : Ty} {n : Node} {p : Prefix} → Takes s n t → IsPrefix s p → Preserved s n t p
 unfolding sends leaves derivative output-type
 preserved takes-pass h = record { sent = h; whole = λ c. c; types = takes-pass }
 preserved (takes-silent {n = t} z) h =
     record { sent = empty-prefix-is-prefix t; whole = λ c. empty-prefix-complete z; types = rw (derivative-empty t) (takes-silent z) }
-preserved takes-cue h = record { sent = of-cue-come; whole = λ c. whole-cue; types = takes-silent null-empty }
-preserved (takes-level v) h = record { sent = of-level-come v; whole = λ c. whole-level; types = takes-silent null-empty }
+preserved takes-cue h =
+    waiting-preserved emit-cue cue-come cue-awaited (λ s. takes-cue) (λ s p. refl) (λ s p. refl) of-cue-come of-cue-awaited whole-cue refl refl
+preserved (takes-level {v = v} small) h =
+    waiting-preserved (emit-level v) (level-come v) level-awaited (λ s. takes-level small) (λ s p. refl) (λ s p. refl) (of-level-come small)
+    of-level-awaited whole-level refl refl
 preserved (takes-both d e) h =
     let a = preserved d h in
     let b = preserved e h in
@@ -96,8 +151,16 @@ pub feeds : {s t : Ty} {n : Node} {p : Prefix} → Takes s n t → IsPrefix s p 
 unfolding sends leaves
 feeds takes-pass h = feeds-pass
 feeds (takes-silent z) h = feeds-silent
-feeds takes-cue h = feeds-cue
-feeds (takes-level v) h = feeds-level
+feeds {s} {p = p} takes-cue h = go (opens p) refl
+  where
+    go : (b : Bool) → opens p ≡ b → Feeds s emit-cue p (cond b cue-come cue-awaited) (cond b (silent empty) emit-cue)
+    go true e = feeds-cue (opens-sound p e)
+    go false e = feeds-cue-waiting (closed-test h .0 e)
+feeds {s} {p = p} (takes-level {v = v} small) h = go (opens p) refl
+  where
+    go : (b : Bool) → opens p ≡ b → Feeds s (emit-level v) p (cond b (level-come v) level-awaited) (cond b (silent empty) (emit-level v))
+    go true e = feeds-level (opens-sound p e)
+    go false e = feeds-level-waiting (closed-test h .0 e)
 feeds (takes-both d e) h = feeds-both (feeds d h) (feeds e h)
 feeds takes-left (of-beside h k) = feeds-left
 feeds takes-right (of-beside h k) = feeds-right
@@ -123,20 +186,14 @@ feeds (takes-choose d e) (of-second-chosen h) = feeds-choose-second (feeds e h)
 feeds takes-mark-first h = feeds-mark-first
 feeds takes-mark-second h = feeds-mark-second
 
--- Two outcomes of a feed that are the same.
-pub record Same (o u : Prefix) (n m : Node) : Type 0 where
-  pub sent : o ≡ u
-  pub node : n ≡ m
-
-abbrev same : {o : Prefix} {n : Node} → Same o o n n
-same = record { sent = refl; node = refl }
-
 pub feeds-only : {s : Ty} {n n′ : Node} {p o : Prefix} → Feeds s n p o n′ → IsPrefix s p → Same o (sends s n p) n′ (leaves s n p)
 unfolding sends leaves
 feeds-only feeds-pass h = same
 feeds-only feeds-silent h = same
-feeds-only feeds-cue h = same
-feeds-only feeds-level h = same
+feeds-only (feeds-cue o) h = let e = opens-by-rule h o in record { sent = rw e; node = rw e }
+feeds-only (feeds-cue-waiting o) h = let e = closed-test h .1 o in record { sent = rw e; node = rw e }
+feeds-only (feeds-level o) h = let e = opens-by-rule h o in record { sent = rw e; node = rw e }
+feeds-only (feeds-level-waiting o) h = let e = closed-test h .1 o in record { sent = rw e; node = rw e }
 feeds-only (feeds-both f g) h =
     let a = feeds-only f h in
     let b = feeds-only g h in
@@ -180,8 +237,10 @@ pub feed-concat : {s t : Ty} {n : Node} {p : Prefix} (q : Prefix) → Takes s n 
 unfolding sends leaves derivative concat output-type
 feed-concat q takes-pass h k = same
 feed-concat q (takes-silent {n = t} z) h k = record { sent = sym (concat-empty-left (empty-prefix-is-prefix t)); node = refl }
-feed-concat q takes-cue h k = same
-feed-concat q (takes-level v) h k = same
+feed-concat q takes-cue h k =
+    waiting-concat emit-cue cue-come cue-awaited (λ s. takes-cue) (λ s p. refl) (λ s p. refl) q h k (λ x. refl) (λ x. refl)
+feed-concat q (takes-level {v = v} small) h k =
+    waiting-concat (emit-level v) (level-come v) level-awaited (λ s. takes-level small) (λ s p. refl) (λ s p. refl) q h k (λ x. refl) (λ x. refl)
 feed-concat q (takes-both d e) h k =
     let a = feed-concat q d h k in
     let b = feed-concat q e h k in
@@ -237,12 +296,21 @@ feed-concat q takes-mark-second h k = same
 
 -- Neither the number of nodes nor a type carried or given grows.
 
+waiting-count : (n : Node) (b : Bool) → 1 ≤ count n → count (cond b (silent empty) n) ≤ count n
+unfolding count
+waiting-count n true h = h
+waiting-count n false h = omega arith
+
+waiting-fits : (s : Ty) (n : Node) (b : Bool) → Small empty → Fits s n → Fits s (cond b (silent empty) n)
+waiting-fits s n true h f = h
+waiting-fits s n false h f = f
+
 pub leaves-count : {s t : Ty} {n : Node} {p : Prefix} → Takes s n t → IsPrefix s p → count (leaves s n p) ≤ count n
 unfolding leaves count
 leaves-count takes-pass h = omega arith
 leaves-count (takes-silent z) h = omega arith
-leaves-count takes-cue h = omega arith
-leaves-count (takes-level v) h = omega arith
+leaves-count {p = p} takes-cue h = waiting-count emit-cue (opens p) (omega arith)
+leaves-count {p = p} (takes-level {v = v} small) h = waiting-count (emit-level v) (opens p) (omega arith)
 leaves-count (takes-both d e) h = omega (arith, leaves-count d h, leaves-count e h)
 leaves-count takes-left h = omega arith
 leaves-count takes-right h = omega arith
@@ -276,8 +344,8 @@ pub leaves-fits : {s t : Ty} {n : Node} {p : Prefix} → Takes s n t → IsPrefi
 unfolding leaves derivative output-type size
 leaves-fits takes-pass h f = omega (arith, derivative-size h)
 leaves-fits (takes-silent z) h f = f
-leaves-fits takes-cue h f = f
-leaves-fits (takes-level v) h f = f
+leaves-fits {s} {p = p} takes-cue h f = waiting-fits (derivative s p) emit-cue (opens p) f f
+leaves-fits {s} {p = p} (takes-level {v = v} small) h f = waiting-fits (derivative s p) (emit-level v) (opens p) f f
 leaves-fits (takes-both d e) h f =
     (leaves-fits d h f.0, leaves-fits e h f.1, le-trans (output-type-size (takes-both d e) h) f.2)
 leaves-fits takes-left (of-beside h k) f = omega (arith, derivative-size h)
