@@ -18,7 +18,7 @@ use Rattle.reading.specs.declared.prefixes.SliceRead.the-variants.{Whole
 use Rattle.stream.specs.Types.{Ty, size, type-limit}
 use Rattle.stream.specs.Levels.{value-width}
 use Rattle.stream.specs.Prefixes.{Prefix, nothing, cue-awaited, cue-come, level-awaited, level-come, in-first, crossed, beside, none-chosen, first-chosen, second-chosen, Complete, IsPrefix, derivative}
-use Rattle.stream.specs.Prefixes.Functions.{complete}
+use Rattle.stream.specs.Prefixes.Functions.{complete, opens}
 use Rattle.stream.specs.Prefixes.Kinds.{root-width}
 use Rattle.stream.specs.Reading.{Reading, read, fault, Result, accepted, refused, tree}
 use Rattle.reading.specs.TypeReads.{TypeAt, TypeIn}
@@ -81,6 +81,14 @@ pub record PrefixIn (bytes : List ℕ) (place : PrefixPlace) (p : Prefix) : Type
   pub stands : PrefixAt bytes (place .start) p
   pub ends : place .end ≡ place .start + prefix-width p
 
+pub record SomePrefixIn (bytes : List ℕ) (place : PrefixPlace) : Type 0 where
+  pub prefix : Prefix
+  pub here : PrefixIn bytes place prefix
+
+-- Whether the prefix in `place` opens a node that waits, whichever it is.
+pub record OpensIn (bytes : List ℕ) (place : PrefixPlace) (answer : Bool) : Type 0 where
+  pub each : (p : Prefix) → PrefixIn bytes place p → answer ≡ opens p
+
 -- `end` is where the prefix at `place` ends, whichever it is.
 pub record PrefixEnds (bytes : List ℕ) (place end : ℕ) : Type 0 where
   pub each : (p : Prefix) → PrefixAt bytes place p → end ≡ place + prefix-width p
@@ -101,7 +109,8 @@ pub record CompleteAt (types : List ℕ) (part : TypePlace) (slice : List ℕ) (
 pub record CompleteEnds (types : List ℕ) (part : TypePlace) (slice : List ℕ) (place end : ℕ) : Type 0 where
   pub each : (due : CompleteAt types part slice place) → end ≡ place + prefix-width (due .prefix)
 
--- The kind of type that each kind of slice belongs to, by its number; the kinds that keep a slice from being complete.
+-- The kind of type that each kind of slice belongs to, by its number; the kinds that keep a slice from being complete; those that stand
+-- in no empty slice.
 abbrev pub types-by-kind : List ℕ
 types-by-kind = 0 ∷ 1 ∷ 1 ∷ 2 ∷ 2 ∷ 3 ∷ 3 ∷ 4 ∷ 5 ∷ 5 ∷ 5 ∷ []
 
@@ -113,6 +122,12 @@ unfinished-by-kind = false ∷ true ∷ false ∷ true ∷ false ∷ true ∷ fa
 
 abbrev pub is-unfinished : ℕ → Bool
 is-unfinished k = getD unfinished-by-kind k false
+
+abbrev pub brings-by-kind : List Bool
+brings-by-kind = false ∷ false ∷ true ∷ false ∷ true ∷ false ∷ true ∷ false ∷ false ∷ true ∷ true ∷ []
+
+abbrev pub brings-something : ℕ → Bool
+brings-something k = getD brings-by-kind k true
 
 abbrev pub belongs-at : ℕ → ℕ → Bool → Bool
 belongs-at type-kind k must-complete = eqb type-kind (type-kind-of k) && not (must-complete && is-unfinished k)

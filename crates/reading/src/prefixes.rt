@@ -6,7 +6,7 @@ ghost use Prim.Native.Nat.{_+_, _<_};
 ghost use Rattle.stream.specs.Types.{type-limit};
 ghost use Rattle.stream.specs.Prefixes.Kinds.{prefix-arity, root-width};
 ghost use Rattle.reading.specs.TypeReads.{SomeTypeIn};
-ghost use Rattle.reading.specs.SliceReads.{type-kind-of, is-unfinished, belongs-at, first-complete, SomePrefixAt, PrefixEnds, CompleteWide, CompleteAt, CompleteEnds, first-known, crossed-known, both-known, combined, SumsFit};
+ghost use Rattle.reading.specs.SliceReads.{type-kind-of, is-unfinished, brings-something, belongs-at, first-complete, SomePrefixAt, PrefixEnds, SomePrefixIn, OpensIn, CompleteWide, CompleteAt, CompleteEnds, first-known, crossed-known, both-known, combined, SumsFit};
 
 // No slice file is longer: the count, a byte for each of 255 nodes, and two for each of at most 128 levels.
 pub const MAX_SLICE_FILE: usize = 513;
@@ -91,6 +91,24 @@ pub fn is_unfinished(kind: u8) -> bool
     }
 }
 
+// Whether a slice's kind stands in no empty slice: a cue or a level that has come, a crossing, a choice.
+pub fn brings_something(kind: u8) -> bool
+    ensures { λ r. ⌜ r ≡ brings-something kind ⌝ }
+{
+    match kind {
+        0..=1 => false,
+        2 => true,
+        3 => false,
+        4 => true,
+        5 => false,
+        6 => true,
+        7..=8 => false,
+        9..=10 => true,
+        // No slice's kind.
+        11..=255 => true,
+    }
+}
+
 // How many parts a slice's kind has; this is asked here alone.
 pub fn prefix_arity(kind: u8) -> usize
     ensures { λ r. ⌜ r ≡ prefix-arity kind ⌝ }
@@ -156,6 +174,28 @@ pub fn skip_prefix(slice: &[u8], place: usize) -> usize
         }
     }
     end
+}
+
+// Whether the prefix in `place` opens a node that waits: it brings something, or it is complete. In one that brings nothing each byte is
+// a kind, and it is complete if none of them keeps it from that.
+pub fn opens(slice: &[u8], place: PrefixPlace) -> bool
+    requires { ⌜ SomePrefixIn (now slice) place ⌝ }
+    ensures { λ r. ⌜ OpensIn (now (slice .entry)) place r ⌝ }
+{
+    let mut unfinished = false;
+    let mut next = place.start;
+    let end = place.end;
+    while next < end {
+        let kind = slice[next];
+        if brings_something(kind) {
+            return true;
+        }
+        if is_unfinished(kind) {
+            unfinished = true;
+        }
+        next += 1;
+    }
+    !unfinished
 }
 
 // What a type says of how long its complete prefixes are: all have so many bytes, or a choice decides.
