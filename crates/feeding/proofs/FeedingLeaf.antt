@@ -1,17 +1,19 @@
 -- One feed of a node without parts: what the function for its kind is asked, and that its answer is the node's.
-use mathlib.Core.Path.{_≡_}
+use mathlib.Core.Path.{_≡_, refl}
 use mathlib.Core.List.{List}
 use Prim.Native.Nat.{ℕ, zero, suc, _+_, _<_}
 use native.Mathlib.Omega.{arith}
 use lib.ListN.{getD}
 use Rattle.stream.specs.Types.Laws.{limit-is}
 use Rattle.reading.specs.declared.inputs.Input.{Input}
+use Rattle.reading.specs.SliceReads.{SomePrefixIn}
 use Rattle.node.specs.Nodes.{Node}
+use Rattle.node.specs.PatchFiles.{node-bytes}
 use Rattle.patch_reading.specs.PatchReads.{node-width}
 use Rattle.patch_reading.specs.PatchReads.Laws.{Case, by-byte, kind-listed}
 use Rattle.typing.specs.Typing.{Marks}
 use Rattle.leaf_feeding.specs.declared.Stepped.{Stepped}
-use Rattle.leaf_feeding.specs.Steps.{LeafRooms, LeafDue, LeafFed, FreeFed, CarryingDue, CarryingFed, MarkDue, MarkFed}
+use Rattle.leaf_feeding.specs.Steps.{LeafRooms, LeafDue, LeafFed, CarryingDue, SilentFed, CueFed, LevelFed, MarkDue, MarkFed}
 use Rattle.feeding.specs.Feeds.{FeedDue, FeedsNode}
 use Rattle.feeding.proofs.Below.{count-positive}
 
@@ -35,6 +37,9 @@ module _ {types slice : List ℕ} {input : Input} {nodes : List ℕ} {from : ℕ
     pub leaf-due : LeafDue types slice input out remainder given
     leaf-due = record { type = due .type; prefix = due .prefix; stands = due .stands; room = leaf-rooms }
 
+    pub some-prefix : SomePrefixIn slice (input .prefix)
+    some-prefix = record { prefix = due .prefix; here = due .stands .prefix-in }
+
     pub carrying-due : {k : ℕ} → getD nodes from 0 ≡ k → CarryingDue k nodes from out remainder given
     carrying-due kind = record { node = due .node; node-at = due .node-at; kind = kind; room = leaf-rooms }
 
@@ -55,17 +60,24 @@ module _ {types slice : List ℕ} {input : Input} {nodes : List ℕ} {from : ℕ
     leaf-fed {n} kind only one feeds =
         record { each = λ due. rw (is-node due kind only, one) (feeds .each (leaf-due due)) }
 
-    pub free-fed : {n : Node} {k : ℕ} → getD nodes from 0 ≡ k → Case (λ m. m ≡ n) k → node-width n ≡ 1
-        → FreeFed n (from + 1) out remainder given out-after remainder-after given-after answer
-        → FeedsNode types slice input nodes from out remainder given out-after remainder-after given-after answer
-    free-fed {n} kind only one feeds =
-        record { each = λ due. rw (is-node due kind only, one) (feeds .each (leaf-rooms due) (due .type) (due .prefix)) }
-
-    pub carrying-fed : {k : ℕ} → getD nodes from 0 ≡ k
-        → CarryingFed k nodes from out remainder given out-after remainder-after given-after answer
+    pub silent-fed : getD nodes from 0 ≡ 1
+        → SilentFed nodes from out remainder given out-after remainder-after given-after answer
         → FeedsNode types slice input nodes from out remainder given out-after remainder-after given-after answer
     unfolding carrying-due
-    carrying-fed kind feeds = record { each = λ due. feeds .each (carrying-due due kind) (due .type) (due .prefix) }
+    silent-fed kind feeds = record { each = λ due. feeds .each (carrying-due due kind) (due .type) (due .prefix) }
+
+    pub cue-fed : getD nodes from 0 ≡ 2
+        → CueFed slice (input .prefix) (from + 1) out remainder given out-after remainder-after given-after answer
+        → FeedsNode types slice input nodes from out remainder given out-after remainder-after given-after answer
+    unfolding node-bytes
+    cue-fed kind feeds =
+        record { each = λ due. rw (is-node due kind refl) (feeds .each (leaf-rooms due) (due .type) (due .prefix) (due .stands .prefix-in)) }
+
+    pub level-fed : getD nodes from 0 ≡ 3
+        → LevelFed slice (input .prefix) nodes from out remainder given out-after remainder-after given-after answer
+        → FeedsNode types slice input nodes from out remainder given out-after remainder-after given-after answer
+    unfolding carrying-due
+    level-fed kind feeds = record { each = λ due. feeds .each (carrying-due due kind) (due .type) (due .prefix) (due .stands .prefix-in) }
 
     pub mark-fed : Marks (getD nodes from 0)
         → MarkFed types slice input nodes from out remainder given out-after remainder-after given-after answer

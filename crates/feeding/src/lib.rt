@@ -111,8 +111,8 @@ pub fn feed_node(
     match nodes[from] {
         0 => feed_pass(types, slice, input, end, out, remainder, given),
         1 => feed_silent(nodes, from, out, remainder, given),
-        2 => feed_cue(end, out, remainder, given),
-        3 => feed_level(nodes, from, out, remainder, given),
+        2 => feed_cue(slice, input.prefix, end, out, remainder, given),
+        3 => feed_level(slice, input.prefix, nodes, from, out, remainder, given),
         4 => feed_both(types, slice, input, nodes, from, out, remainder, given),
         5 => feed_left(types, slice, input, end, out, remainder, given),
         6 => feed_right(types, slice, input, end, out, remainder, given),

@@ -8,11 +8,12 @@ use Rattle.stream.specs.Prefixes.{Prefix, empty-prefix}
 use Rattle.stream.specs.TypeFiles.{type-bytes}
 use Rattle.stream.specs.SliceFiles.{prefix-bytes}
 use Rattle.reading.specs.declared.types.TypePlace.{TypePlace}
+use Rattle.reading.specs.declared.prefixes.PrefixPlace.{PrefixPlace}
 use Rattle.reading.specs.declared.inputs.Input.{Input}
 use Rattle.reading.specs.TypeReads.{TypeIn}
-use Rattle.reading.specs.SliceReads.{prefix-width}
+use Rattle.reading.specs.SliceReads.{prefix-width, PrefixIn}
 use Rattle.reading.specs.Inputs.{InputAt}
-use Rattle.node.specs.Nodes.{Node, silent, second}
+use Rattle.node.specs.Nodes.{Node, silent, emit-cue, second}
 use Rattle.node.specs.Checking.Laws.{WellTyped}
 use Rattle.node.specs.Feeding.Functions.{sends, leaves}
 use Rattle.node.specs.PatchFiles.{node-bytes}
@@ -73,12 +74,7 @@ pub record LeafFed (n : Node) (types slice : List ℕ) (input : Input) (end : �
   pub each : (due : LeafDue types slice input out remainder given)
       → NodeAnswers end (due .type) n (due .prefix) out remainder given out-after remainder-after given-after answer
 
--- Nodes that ask neither the type nor the prefix: one that is fixed by its kind, and those of the kind k, which carry something in their
--- bytes, the node that stands at `from`.
-
-pub record FreeFed (n : Node) (end : ℕ) (out remainder given out-after remainder-after given-after : List ℕ) (answer : Stepped) : Type 0 where
-  pub each : LeafRooms out remainder given → (s : Ty) (p : Prefix)
-      → NodeAnswers end s n p out remainder given out-after remainder-after given-after answer
+-- Nodes of the kind k, which carry something in their bytes: the node that stands at `from`. Silent asks neither the type nor the prefix.
 
 pub record CarryingDue (k : ℕ) (nodes : List ℕ) (from : ℕ) (out remainder given : List ℕ) : Type 0 where
   pub node : Node
@@ -86,8 +82,18 @@ pub record CarryingDue (k : ℕ) (nodes : List ℕ) (from : ℕ) (out remainder 
   pub kind : getD nodes from 0 ≡ k
   pub room : LeafRooms out remainder given
 
-pub record CarryingFed (k : ℕ) (nodes : List ℕ) (from : ℕ) (out remainder given out-after remainder-after given-after : List ℕ) (answer : Stepped) : Type 0 where
-  pub each : (due : CarryingDue k nodes from out remainder given) (s : Ty) (p : Prefix)
+pub record SilentFed (nodes : List ℕ) (from : ℕ) (out remainder given out-after remainder-after given-after : List ℕ) (answer : Stepped) : Type 0 where
+  pub each : (due : CarryingDue 1 nodes from out remainder given) (s : Ty) (p : Prefix)
+      → NodeAnswers (from + node-width (due .node)) s (due .node) p out remainder given out-after remainder-after given-after answer
+
+-- Nodes that wait until the prefix opens them; they do not ask the type.
+
+pub record CueFed (slice : List ℕ) (place : PrefixPlace) (end : ℕ) (out remainder given out-after remainder-after given-after : List ℕ) (answer : Stepped) : Type 0 where
+  pub each : LeafRooms out remainder given → (s : Ty) (p : Prefix) → PrefixIn slice place p
+      → NodeAnswers end s emit-cue p out remainder given out-after remainder-after given-after answer
+
+pub record LevelFed (slice : List ℕ) (place : PrefixPlace) (nodes : List ℕ) (from : ℕ) (out remainder given out-after remainder-after given-after : List ℕ) (answer : Stepped) : Type 0 where
+  pub each : (due : CarryingDue 3 nodes from out remainder given) (s : Ty) (p : Prefix) → PrefixIn slice place p
       → NodeAnswers (from + node-width (due .node)) s (due .node) p out remainder given out-after remainder-after given-after answer
 
 -- Nodes that ask type and prefix and carry something in their bytes: those that mark a choice, the node that stands at `from`.

@@ -4,7 +4,9 @@
 use reading::inputs::Input;
 use reading::inputs::coming_part;
 use reading::inputs::halve;
+use reading::prefixes::PrefixPlace;
 use reading::prefixes::VALUE_WIDTH;
+use reading::prefixes::opens;
 use reading::types::NullableEnd;
 use reading::types::TypePlace;
 use reading::types::nullable_end;
@@ -15,8 +17,9 @@ use writing::write_spent;
 ghost use mathlib.Core.Path.{_≡_};
 ghost use Prim.Native.Nat.{_≤_};
 ghost use lib.ListN.{length};
-ghost use Rattle.node.specs.Nodes.{pass, emit-cue, left-side, right-side, first, second};
-ghost use Rattle.leaf_feeding.specs.Steps.{LeafRooms, LeafDue, LeafFed, FreeFed, CarryingDue, CarryingFed, HandsOn, WaitingDue, Waits, LeavesSilent};
+ghost use Rattle.reading.specs.SliceReads.{SomePrefixIn};
+ghost use Rattle.node.specs.Nodes.{pass, left-side, right-side, first, second};
+ghost use Rattle.leaf_feeding.specs.Steps.{LeafRooms, LeafDue, LeafFed, CarryingDue, SilentFed, CueFed, LevelFed, HandsOn, WaitingDue, Waits, LeavesSilent};
 
 pub mod reordered;
 
@@ -102,39 +105,60 @@ fn leave_silent(end: usize, sent: usize, remainder: &mut [u8]) -> Stepped
     Stepped::Fed(Step::new(end, sent, 2, 1))
 }
 
-// Cue sends itself, once.
-pub fn feed_cue(end: usize, out: &mut [u8], remainder: &mut [u8], given: &mut [u8]) -> Stepped
+// Cue waits until the prefix opens it, and then sends itself, once.
+pub fn feed_cue(
+    slice: &[u8],
+    place: PrefixPlace,
+    end: usize,
+    out: &mut [u8],
+    remainder: &mut [u8],
+    given: &mut [u8],
+) -> Stepped
+    requires { ⌜ SomePrefixIn (now slice) place ⌝ }
     requires { ⌜ LeafRooms (now out) (now remainder) (now given) ⌝ }
-    ensures { λ r. ⌜ FreeFed emit-cue end (now (out .entry)) (now (remainder .entry)) (now (given .entry)) (now (out .exit)) (now (remainder .exit)) (now (given .exit)) r ⌝ }
+    ensures { λ r. ⌜ CueFed (now (slice .entry)) place end (now (out .entry)) (now (remainder .entry)) (now (given .entry)) (now (out .exit)) (now (remainder .exit)) (now (given .exit)) r ⌝ }
 {
     if given.len() == 0 {
         return Stepped::Failed;
     }
-    out[0] = 2;
     given[0] = 1;
-    leave_silent(end, 1, remainder)
+    if opens(slice, place) {
+        out[0] = 2;
+        return leave_silent(end, 1, remainder);
+    }
+    out[0] = 1;
+    remainder[0] = 2;
+    Stepped::Fed(Step::new(end, 1, 1, 1))
 }
 
-// Level sends its value, once.
+// Level waits as cue does, and then sends its value, once.
 pub fn feed_level(
+    slice: &[u8],
+    place: PrefixPlace,
     nodes: &[u8],
     from: usize,
     out: &mut [u8],
     remainder: &mut [u8],
     given: &mut [u8],
 ) -> Stepped
+    requires { ⌜ SomePrefixIn (now slice) place ⌝ }
     requires { ⌜ CarryingDue 3 (now nodes) from (now out) (now remainder) (now given) ⌝ }
-    ensures { λ r. ⌜ CarryingFed 3 (now (nodes .entry)) from (now (out .entry)) (now (remainder .entry)) (now (given .entry)) (now (out .exit)) (now (remainder .exit)) (now (given .exit)) r ⌝ }
+    ensures { λ r. ⌜ LevelFed (now (slice .entry)) place (now (nodes .entry)) from (now (out .entry)) (now (remainder .entry)) (now (given .entry)) (now (out .exit)) (now (remainder .exit)) (now (given .exit)) r ⌝ }
 {
     if given.len() == 0 {
         return Stepped::Failed;
     }
     let value = from + 1;
     let end = value + VALUE_WIDTH;
-    out[0] = 4;
-    copy(&nodes[value..end], &mut out[1..]);
     given[0] = 2;
-    leave_silent(end, 1 + VALUE_WIDTH, remainder)
+    if opens(slice, place) {
+        out[0] = 4;
+        copy(&nodes[value..end], &mut out[1..]);
+        return leave_silent(end, 1 + VALUE_WIDTH, remainder);
+    }
+    out[0] = 3;
+    copy(&nodes[from..end], remainder);
+    Stepped::Fed(Step::new(end, 1, 1 + VALUE_WIDTH, 1))
 }
 
 // Silent sends nothing of the type that it carries, which stands behind its kind byte, and stays.
@@ -146,7 +170,7 @@ pub fn feed_silent(
     given: &mut [u8],
 ) -> Stepped
     requires { ⌜ CarryingDue 1 (now nodes) from (now out) (now remainder) (now given) ⌝ }
-    ensures { λ r. ⌜ CarryingFed 1 (now (nodes .entry)) from (now (out .entry)) (now (remainder .entry)) (now (given .entry)) (now (out .exit)) (now (remainder .exit)) (now (given .exit)) r ⌝ }
+    ensures { λ r. ⌜ SilentFed (now (nodes .entry)) from (now (out .entry)) (now (remainder .entry)) (now (given .entry)) (now (out .exit)) (now (remainder .exit)) (now (given .exit)) r ⌝ }
 {
     let at = from + 1;
     match nullable_end(nodes, at) {

@@ -1,18 +1,30 @@
--- `feed_cue` meets its contract: it writes the one byte of a cue that has come, where a type of one node has room.
-use borrow.Author.Needs.{needs}
+-- `feed_cue` meets its contract: where a type of one node has room, it writes the one byte of a cue that has come or is awaited, as the
+-- prefix opens it or not (`Emitted`).
+use mathlib.Core.Path.{sym, _∙_}
 use native.Mathlib.Omega.{arith}
-use Rattle.leaf_feeding.proofs.Emitted.{none-given, cue-fed}
+use Rattle.leaf_feeding.proofs.Emitted.{none-given, cue-sent, cue-waits}
+use borrow.Author.Needs.{needs}
 use Rattle.leaf_feeding.proofs.feed_cue.Statement.{statement}
 use Rattle.leaf_feeding.proofs.feed_cue.Tie as tie
 
-returns : tie.Need-returns
-returns c = record { each = λ room s p. none-given (c .if1 .taken) }
+-- The map of places: what stands before what.
+abbrev then2-before-slice-known4 : tie.After-slice-known4 → tie.Then2
+then2-before-slice-known4 c = c .before .before .before .before
 
-slice-write-out : tie.Need-slice-write-out
-slice-write-out c = search needs
+abbrev opens-before-slice-known4 : tie.After-slice-known4 → tie.After-opens
+opens-before-slice-known4 c = then2-before-slice-known4 c .before
+
+returns : tie.Need-returns
+returns c = record { each = λ room s p stands. none-given (c .if1 .taken) }
 
 slice-write-given : tie.Need-slice-write-given
 slice-write-given c = search needs
+
+opens-requires : tie.Need-opens-requires
+opens-requires c κs = search needs
+
+slice-write-out : tie.Need-slice-write-out
+slice-write-out c = search needs
 
 leave-silent-requires : tie.Need-leave-silent-requires
 leave-silent-requires c κs = search needs
@@ -28,18 +40,48 @@ same-length-3 c = search needs
 
 returns-2 : tie.Need-returns-2
 returns-2 c =
-    let left = c .before .before in
-    record { each = λ room. cue-fed room (omega arith) (left .leave-silent .ensures) }
+    let asked = opens-before-slice-known4 c in
+    record { each = λ room s p stands. cue-sent room (omega arith) s p (sym (asked .opens .ensures .each p stands) ∙ then2-before-slice-known4 c .if2 .taken) (c .before .before .leave-silent .ensures) }
+
+slice-write-out-2 : tie.Need-slice-write-out-2
+slice-write-out-2 c = search needs
+
+slice-write-remainder : tie.Need-slice-write-remainder
+slice-write-remainder c = search needs
+
+new-requires : tie.Need-new-requires
+new-requires c κs = search needs
+
+same-length-4 : tie.Need-same-length-4
+same-length-4 c = search needs
+
+same-length-5 : tie.Need-same-length-5
+same-length-5 c = search needs
+
+same-length-6 : tie.Need-same-length-6
+same-length-6 c = search needs
+
+returns-3 : tie.Need-returns-3
+returns-3 c =
+    record { each = λ room s p stands. cue-waits room (omega arith) s p (sym (c .before .before .opens .ensures .each p stands) ∙ c .before .if2 .left) (c .new .ensures) }
 
 pub feed-cue-spec : {M : Type 1} → statement M
 feed-cue-spec =
     tie.close
     (tie.spec
     returns
-    slice-write-out
     slice-write-given
+    opens-requires
+    slice-write-out
     leave-silent-requires
     same-length
     same-length-2
     same-length-3
-    returns-2)
+    returns-2
+    slice-write-out-2
+    slice-write-remainder
+    new-requires
+    same-length-4
+    same-length-5
+    same-length-6
+    returns-3)
