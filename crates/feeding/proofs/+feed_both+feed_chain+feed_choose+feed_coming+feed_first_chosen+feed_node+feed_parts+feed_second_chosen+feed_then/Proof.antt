@@ -79,7 +79,7 @@ use Rattle.patch_reading.specs.PatchReads.Laws.{starts-inside, both-forks}
 use Rattle.reading.specs.Inputs.Laws.{type-starts, prefix-starts}
 use Rattle.feeding.specs.Feeds.{nodes-below}
 use Rattle.feeding.proofs.Below.{both-count, parts-fewer, positive}
-use Rattle.feeding.proofs.FeedingLeaf.{leaf-rooms, leaf-due, carrying-due, mark-due, leaf-fed, free-fed, carrying-fed, mark-fed, other-fed}
+use Rattle.feeding.proofs.FeedingLeaf.{leaf-rooms, leaf-due, some-prefix, carrying-due, mark-due, leaf-fed, silent-fed, cue-fed, level-fed, mark-fed, other-fed}
 use Rattle.feeding.proofs.FeedingBoth.{both-due, both-answers}
 use Rattle.feeding.proofs.FeedingParts as feeding-parts
 use Rattle.feeding.proofs.FeedingThen as feeding-then
@@ -798,12 +798,14 @@ module _ (t : ℕ) where
   feed-node-feed-cue-requires : feed-node-lts.Need-feed-cue-requires calls-node node-here feed-node.Post
   feed-node-feed-cue-requires c κs =
       let arm = c .before .before .before in
-      leaf-rooms (feed-node-entry-before-shared-slice-known4 (arm .before) .pre .1)
+      let due = feed-node-entry-before-shared-slice-known4 (arm .before) .pre .1 in
+      (some-prefix due, leaf-rooms due)
 
   feed-node-feed-level-requires : feed-node-lts.Need-feed-level-requires calls-node node-here feed-node.Post
   feed-node-feed-level-requires c κs =
       let arm = c .before .before .before in
-      carrying-due (feed-node-entry-before-shared-slice-known4 (arm .before) .pre .1) (arm .match .keys4)
+      let due = feed-node-entry-before-shared-slice-known4 (arm .before) .pre .1 in
+      (some-prefix due, carrying-due due (arm .match .keys4))
 
   feed-node-feed-both-requires : feed-node-lts.Need-feed-both-requires calls-node node-here feed-node.Post
   feed-node-feed-both-requires c κs =
@@ -890,20 +892,19 @@ module _ (t : ℕ) where
   feed-node-returns-2 c =
       let fed = feed-node-feed-silent-before-slice-known9 c in
       let asked = fed .before .before .before in
-      carrying-fed (asked .before .match .keys2) (fed .feed-silent .ensures)
+      silent-fed (asked .before .match .keys2) (fed .feed-silent .ensures)
 
   feed-node-returns-3 : feed-node-lts.Need-returns-3 calls-node node-here feed-node.Post
-  unfolding node-bytes
   feed-node-returns-3 c =
       let fed = feed-node-feed-cue-before-slice-known12 c in
       let asked = fed .before .before .before in
-      free-fed (asked .before .match .keys3) refl refl (fed .feed-cue .ensures)
+      cue-fed (asked .before .match .keys3) (fed .feed-cue .ensures)
 
   feed-node-returns-4 : feed-node-lts.Need-returns-4 calls-node node-here feed-node.Post
   feed-node-returns-4 c =
       let fed = feed-node-feed-level-before-slice-known15 c in
       let asked = fed .before .before .before in
-      carrying-fed (asked .before .match .keys4) (fed .feed-level .ensures)
+      level-fed (asked .before .match .keys4) (fed .feed-level .ensures)
 
   feed-node-returns-5 : feed-node-lts.Need-returns-5 calls-node node-here feed-node.Post
   feed-node-returns-5 c = feed-node-feed-both-before-slice-known18 c .feed-both .ensures
