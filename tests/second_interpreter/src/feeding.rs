@@ -32,10 +32,9 @@ pub fn feed_node(node: &Node, input: &Type, slice: &Slice) -> Option<Fed> {
         Node::Pass => Fed::some(slice.clone(), Node::Pass),
         // "Sends n's empty slice; itself."
         Node::Silent(kept) => Fed::some(empty_slice(kept), node.clone()),
-        // "Sends 2 at its first feed, even one that brings nothing; silent 0."
-        Node::Cue => Fed::some(Slice::CueCome, Node::silent(Type::Empty)),
+        Node::Cue => feed_opening(node, Slice::CueCome, input, slice),
         // "as cue, sending 4 and the value"
-        Node::Level(value) => Fed::some(Slice::LevelCome(*value), Node::silent(Type::Empty)),
+        Node::Level(value) => feed_opening(node, Slice::LevelCome(*value), input, slice),
         Node::Both(left, right) => feed_both(left, right, input, slice),
         Node::Left => Fed::some(sides(slice)?.0.clone(), Node::Left),
         Node::Right => Fed::some(sides(slice)?.1.clone(), Node::Right),
@@ -53,6 +52,17 @@ pub fn feed_node(node: &Node, input: &Type, slice: &Slice) -> Option<Fed> {
         Node::MarkFirst(_) => Fed::some(Slice::first_chosen(slice.clone()), Node::Pass),
         Node::MarkSecond(_) => Fed::some(Slice::second_chosen(slice.clone()), Node::Pass),
     }
+}
+
+/// M-103, for nodes 2 and 3: "they send when the slice differs from its type's empty
+/// slice or is complete, otherwise they send the empty slice of their own type and
+/// stay." What is sent, `opening`, and the "silent 0" left by it are document 01's.
+fn feed_opening(node: &Node, opening: Slice, input: &Type, slice: &Slice) -> Option<Fed> {
+    if *slice != empty_slice(input) || slice.is_complete() {
+        return Fed::some(opening, Node::silent(Type::Empty));
+    }
+    let own_type = output_type(node, input).ok()?;
+    Fed::some(empty_slice(&own_type), node.clone())
 }
 
 /// "Each gets the whole slice; sends 7 and both outputs; both of the nodes left."

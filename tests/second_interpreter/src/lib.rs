@@ -1,6 +1,6 @@
 //! A plain interpreter of patches, slices and feeds, written from document 01 and
-//! requests M-100 and M-101 of document 02 alone, to be compared with another
-//! implementation.
+//! requests M-100 to M-103 of document 02 alone, to be compared with another
+//! implementation. M-102 changes no answer, so nothing here is its own.
 //!
 //! Trees live on the heap. Files are read into trees ([`Type`], [`Slice`],
 //! [`Node`]), the rules of the documents work on the trees, and the answers are

@@ -1,4 +1,5 @@
-//! The ten cases of document 01, as bytes through the operations.
+//! The ten cases of document 01, the eighth as M-103 has it, as bytes through the
+//! operations.
 
 use crate::common::{answered, fed, patch, section};
 use second_interpreter::{admit, check, join, left, run_program};
@@ -157,7 +158,8 @@ fn case_7_crossing() {
 #[test]
 fn case_8_least() {
     expect_feed(&[0], &[0], &[0], &[0], &[0], &[0]);
-    expect_feed(&[1], &[2], &[1], &[2], &[1], &[1, 0]);
+    // M-103: "in case 8 node 2 now sends 1 and stays".
+    expect_feed(&[1], &[2], &[1], &[1], &[1], &[2]);
 }
 
 #[test]

@@ -22,14 +22,21 @@ fn choose() {
     let stream: &[u8] = &[5, 1, 2];
     let lamps: &[u8] = &[5, 3, 4, 1, 2, 0, 3, 4, 1, 2, 0];
     expect_feeds(&[
-        // None chosen: neither part is fed, so no cue is sent.
+        // None chosen: neither part is fed, so no cue is sent, even one that would
+        // not wait, the empty slice of its part being complete.
         (stream, &[15, 2, 2], &[8], &[1], stream, &[15, 2, 2]),
+        (&[5, 0, 1], &[15, 2, 0], &[8], &[1], &[5, 0, 1], &[15, 2, 0]),
+        (&[5, 0, 1], &[15, 2, 0], &[9, 0], &[2], &[0], &[1, 0]),
         (lamps, &[15, 0, 0], &[8], &[5, 7, 1, 3], lamps, &[15, 0, 0]),
-        // A choice: the chosen node's remainder alone.
-        (stream, &[15, 2, 2], &[9, 1], &[2], &[1], &[1, 0]),
+        // A choice: the chosen node's remainder alone. A cue there waits while its
+        // part brings nothing.
+        (stream, &[15, 2, 2], &[9, 1], &[1], &[1], &[2]),
+        (stream, &[15, 2, 2], &[9, 2], &[2], &[0], &[1, 0]),
+        (stream, &[15, 2, 2], &[10, 3], &[1], &[2], &[2]),
         (stream, &[15, 2, 2], &[10, 4, 0, 7], &[2], &[0], &[1, 0]),
         (&[5, 1, 1], &[15, 0, 2], &[9, 1], &[1], &[1], &[0]),
-        (&[5, 1, 1], &[15, 0, 2], &[10, 1], &[2], &[1], &[1, 0]),
+        (&[5, 1, 1], &[15, 0, 2], &[10, 1], &[1], &[1], &[2]),
+        (&[5, 1, 1], &[15, 0, 2], &[10, 2], &[2], &[0], &[1, 0]),
         (&[5, 1, 1], &[15, 2, 0], &[10, 2], &[2], &[0], &[0]),
     ]);
     assert_eq!(given(stream, &[15, 2, 2]), Ok(vec![1]));
@@ -49,7 +56,8 @@ fn choose_in_choose() {
         (stream, nodes, &[9, 8], &[1], &[5, 1, 2], &[15, 2, 2]),
         (stream, nodes, &[10, 8], &[1], &[5, 1, 2], &[15, 0, 2]),
         (stream, nodes, &[10, 9, 1], &[1], &[1], &[0]),
-        (stream, nodes, &[10, 10, 3], &[2], &[2], &[1, 0]),
+        (stream, nodes, &[10, 10, 3], &[1], &[2], &[2]),
+        (stream, nodes, &[10, 10, 4, 0, 0], &[2], &[0], &[1, 0]),
     ]);
 }
 
@@ -79,12 +87,13 @@ fn marks() {
 fn marks_before_choose() {
     expect_feeds(&[
         (&[1], &[10, 16, 1, 15, 0, 2], &[1], &[1], &[1], &[10, 0, 0]),
+        (&[1], &[10, 17, 1, 15, 0, 2], &[1], &[1], &[1], &[10, 0, 2]),
         (
             &[1],
             &[10, 17, 1, 15, 0, 2],
-            &[1],
             &[2],
-            &[1],
+            &[2],
+            &[0],
             &[10, 0, 1, 0],
         ),
         // Choose before marks: the first to the first, the second to the second.
@@ -129,7 +138,8 @@ fn other_kinds_on_either() {
         (stream, &[0], &[9, 2], &[9, 2], &[0], &[0]),
         (stream, &[0], &[10, 3], &[10, 3], &[2], &[0]),
         (stream, &[1, 0], &[8], &[0], stream, &[1, 0]),
-        (stream, &[2], &[8], &[2], stream, &[1, 0]),
+        (stream, &[2], &[8], &[1], stream, &[2]),
+        (stream, &[2], &[9, 1], &[2], &[1], &[1, 0]),
         (stream, &[14], &[8], &[6, 0, 8], stream, &[0]),
         (
             stream,
@@ -157,12 +167,13 @@ fn sequences_with_an_either() {
         (SHUT, &[8], &[5, 2], &[8], &[3, 0, 5, 1, 2], &[8]),
         (SHUT, &[8], &[6, 2, 9, 1], &[9, 1], &[1], &[0]),
         (OPEN, OPENED, &[5, 8], &[5, 1], OPEN, OPENED),
+        (OPEN, OPENED, &[5, 10, 3], &[5, 1], &[3, 2, 1], &[9, 2, 0]),
         (
             OPEN,
             OPENED,
-            &[5, 10, 3],
+            &[5, 10, 4, 0, 1],
             &[5, 2],
-            &[3, 2, 1],
+            &[3, 0, 1],
             &[9, 1, 0, 0],
         ),
         (OPEN, OPENED, &[6, 9, 2, 1], &[6, 2, 1], &[1], &[0]),

@@ -1,16 +1,20 @@
-//! Slices cut in two at every place there is: "Choices may be cut anywhere too."
+//! Slices cut in two at every place there is: "Choices may be cut anywhere too"; and
+//! of nodes 2 and 3, "Feeds are judged by this rule from here on, however they are
+//! cut."
 
 use std::collections::{HashMap, HashSet};
 
 use second_interpreter::{
-    check, every_slice, every_type, feed_node, join, join_slices, slice_file, type_file,
-    what_slice_leaves, Node, Slice, Type,
+    check, empty_slice, every_slice, every_type, feed_node, join, join_slices, slice_file,
+    type_file, what_slice_leaves, Node, Slice, Type,
 };
 
 use crate::common::{answered, fed, patch};
 use crate::exhaustive::every_string;
 use crate::generator::{random_node, random_slice, random_type, Random};
+use crate::openings::OPENERS;
 use crate::properties::Run;
+use crate::waiting::Met;
 
 /// Two slices that join to a third.
 type Cut = (Slice, Slice);
@@ -85,19 +89,36 @@ fn exactly_the_cuts_join_to_a_slice() {
     }
 }
 
-/// Feeds the whole at once and in every two pieces.
-fn expect_every_cut(input: &Type, node: &Node, whole: &Slice) -> usize {
+/// What the pieces of many cuts came to.
+#[derive(Debug, Default)]
+struct Pieces {
+    cuts: usize,
+    /// Nodes 2 and 3 in the first pieces, and in the first pieces that are empty.
+    first: Met,
+    empty: Met,
+    /// Those in the second pieces.
+    second: Met,
+}
+
+/// Feeds the whole at once and in every two pieces, of which one first is empty.
+fn expect_every_cut(input: &Type, node: &Node, whole: &Slice, pieces: &mut Pieces) {
     let pairs = cuts(whole);
     let at_once = feed_node(node, input, whole).expect("fits");
+    assert!(pairs.contains(&(empty_slice(input), whole.clone())));
     for (p, q) in &pairs {
         let between = what_slice_leaves(input, p).expect("a slice of the type");
         let first = feed_node(node, input, p).expect("fits");
+        pieces.first.add(node, input, p);
+        pieces.second.add(&first.left, &between, q);
+        if *p == empty_slice(input) {
+            pieces.empty.add(node, input, p);
+        }
         let second = feed_node(&first.left, &between, q).expect("fits");
         let sent = join_slices(&first.sent, &second.sent).expect("joins");
         assert_eq!(sent, at_once.sent, "{input:?} {node:?} {p:?} {q:?}");
         assert_eq!(second.left, at_once.left, "{input:?} {node:?} {p:?} {q:?}");
     }
-    pairs.len()
+    pieces.cuts += pairs.len();
 }
 
 /// Whether a choice is made or taken in the patch.
@@ -111,23 +132,51 @@ fn has_choices(node: &Node) -> bool {
     }
 }
 
-#[test]
-fn random_patches_cut_everywhere() {
-    let mut random = Random::new(0x5EED_0009);
-    let (mut patches, mut pieces) = (0, 0);
-    while patches < 3_000 {
+/// Whether a node 2 or 3 is in the patch.
+fn has_openings(node: &Node) -> bool {
+    match node {
+        Node::Cue | Node::Level(_) => true,
+        Node::Both(one, other)
+        | Node::Then(one, other)
+        | Node::Chain(one, other)
+        | Node::Choose(one, other) => has_openings(one) || has_openings(other),
+        _ => false,
+    }
+}
+
+/// Cuts slices of so many random patches that are wanted.
+fn expect_random_cuts(seed: u64, patches: usize, wanted: fn(&Node) -> bool) -> Pieces {
+    let mut random = Random::new(seed);
+    let mut pieces = Pieces::default();
+    let mut cut = 0;
+    while cut < patches {
         let input = random_type(&mut random, 11);
         let node = random_node(&mut random, &input, 11);
-        if !has_choices(&node) {
+        if !wanted(&node) {
             continue;
         }
-        patches += 1;
+        cut += 1;
         for progress in [3, 6, 8] {
             let whole = random_slice(&mut random, &input, progress);
-            pieces += expect_every_cut(&input, &node, &whole);
+            expect_every_cut(&input, &node, &whole, &mut pieces);
         }
     }
-    assert!(pieces > 20_000, "{pieces}");
+    pieces
+}
+
+#[test]
+fn random_patches_with_choices_cut_everywhere() {
+    let pieces = expect_random_cuts(0x5EED_0009, 3_000, has_choices);
+    assert!(pieces.cuts > 20_000, "{pieces:?}");
+}
+
+#[test]
+fn random_patches_with_openings_cut_everywhere() {
+    let pieces = expect_random_cuts(0x5EED_0011, 3_000, has_openings);
+    assert!(pieces.cuts > 20_000, "{pieces:?}");
+    for met in [&pieces.first, &pieces.empty, &pieces.second] {
+        assert!(met.waiting > 1_000 && met.opening > 1_000, "{pieces:?}");
+    }
 }
 
 #[test]
@@ -137,13 +186,18 @@ fn cut_patches_keep_demand_3_in_files() {
     while patches < 300 {
         let input = random_type(&mut random, 9);
         let node = random_node(&mut random, &input, 9);
-        if !has_choices(&node) {
+        if !has_choices(&node) && !has_openings(&node) {
             continue;
         }
         patches += 1;
         let whole = random_slice(&mut random, &input, 6);
+        let empty = slice_file(&empty_slice(&input));
         for (p, q) in cuts(&whole) {
             let mut run = Run::new(&input, &node);
+            for _ in 0..random.below(3) {
+                assert_eq!(run.feed(&empty, 513, 8_482), 0);
+            }
+            run.holds();
             assert_eq!(run.feed(&slice_file(&p), 513, 8_482), 0);
             run.holds();
             assert_eq!(run.feed(&slice_file(&q), 513, 8_482), 0);
@@ -208,4 +262,28 @@ fn every_small_choose_cut_everywhere() {
         }
     }
     assert!(accepted > 1_000, "{accepted}");
+}
+
+#[test]
+fn every_small_opening_cut_everywhere() {
+    // Nodes 2 and 3 as either part of each kind with parts, beside all small nodes.
+    for parent in [4, 9, 10, 15] {
+        for opener in &OPENERS[..2] {
+            let (mut as_first, mut as_second) = (0, 0);
+            for stream in [1, 3].into_iter().flat_map(every_type) {
+                for length in 1..=2 {
+                    every_string(length, 18, |other| {
+                        let first = [&[parent], opener.bytes, other].concat();
+                        let second = [&[parent], other, opener.bytes].concat();
+                        as_first += usize::from(accepted_and_cut(&stream, &first));
+                        as_second += usize::from(accepted_and_cut(&stream, &second));
+                    });
+                }
+            }
+            assert!(
+                as_first > 2 && as_second > 2,
+                "{parent} {as_first} {as_second}"
+            );
+        }
+    }
 }

@@ -147,18 +147,29 @@ fn try_node(random: &mut Random, input: &Type, nodes: usize) -> Option<Node> {
     if nodes >= 3 && !random.once_in(6) {
         return try_two_parts(random, input, nodes);
     }
+    if random.once_in(6) {
+        return Some(random_opening(random));
+    }
     if !random.once_in(4) {
         return Some(suited(random, input));
     }
-    Some(match random.below(7) {
+    Some(match random.below(5) {
         0 => Node::Pass,
         1 => Node::silent(random_nullable(random, 9)),
-        2 => Node::Cue,
-        3 => Node::Level(random.value()),
-        4 => Node::Front,
-        5 => Node::MarkFirst(random_type(random, 9)),
+        2 => Node::Front,
+        3 => Node::MarkFirst(random_type(random, 9)),
         _ => Node::MarkSecond(random_type(random, 9)),
     })
+}
+
+/// A node 2 or 3. They are wanted in many places, since which slices keep one waiting
+/// depends on where it is.
+fn random_opening(random: &mut Random) -> Node {
+    if random.once_in(2) {
+        Node::Cue
+    } else {
+        Node::Level(random.value())
+    }
 }
 
 /// One of the kinds that ask for a shape, or pass if the type suits none.
@@ -202,6 +213,9 @@ fn try_two_parts(random: &mut Random, input: &Type, nodes: usize) -> Option<Node
         }
         _ => {
             let first = random_node(random, input, one);
+            if random.once_in(5) {
+                return Some(Node::chain(first, random_opening(random)));
+            }
             let between = output_type(&first, input).ok()?;
             Some(Node::chain(first, random_node(random, &between, other)))
         }

@@ -8,6 +8,8 @@ mod exhaustive;
 mod generator;
 mod kinds;
 mod longest;
+mod openings;
 mod program;
 mod properties;
 mod refusals;
+mod waiting;

@@ -37,6 +37,17 @@ fn refused_slices_leave_the_patch() {
 }
 
 #[test]
+fn lamps_wait_while_the_house_fills() {
+    let mut files = vec![patch(&[1], &[4, 2, 3, 0, 7])];
+    files.extend(vec![section(&[1]); 3]);
+    files.extend([section(&[2]), section(&[0])]);
+    assert_eq!(
+        lines(&stream(&files)),
+        "0 070103 01\n0 070103 01\n0 070103 01\n0 0702040007 00\n0 070000 00\n"
+    );
+}
+
+#[test]
 fn refused_patch_stops() {
     let bad = [
         (vec![], "1\n"),

@@ -1,5 +1,7 @@
 //! Laws that hold of random types, slices and patches, and of damaged files.
 
+use std::collections::HashMap;
+
 use second_interpreter::{
     admit, check, empty_slice, feed, feed_node, join, join_slices, left, longest, output_type,
     patch_file, slice_file, type_file, what_slice_leaves, Fed, Node, Number, Slice, Type,
@@ -7,6 +9,7 @@ use second_interpreter::{
 
 use crate::common::{answered, fed};
 use crate::generator::{damaged, random_node, random_slice, random_type, Random};
+use crate::waiting::Met;
 
 /// A random type of a random size.
 fn some_type(random: &mut Random) -> Type {
@@ -145,10 +148,14 @@ fn generated_patches_use_every_kind() {
     assert!(large_outputs > 100, "{large_outputs}");
 }
 
+/// The kind byte of a node.
+fn kind_of(node: &Node) -> u8 {
+    patch_file(&Type::Empty, node)[5]
+}
+
 /// Adds each node of the tree under its kind.
 fn count_kinds(node: &Node, seen: &mut [usize; 18]) {
-    let kind = patch_file(&Type::Empty, node)[5];
-    seen[usize::from(kind)] += 1;
+    seen[usize::from(kind_of(node))] += 1;
     if let Node::Both(one, other)
     | Node::Then(one, other)
     | Node::Chain(one, other)
@@ -156,6 +163,57 @@ fn count_kinds(node: &Node, seen: &mut [usize; 18]) {
     {
         count_kinds(one, seen);
         count_kinds(other, seen);
+    }
+}
+
+#[test]
+fn generated_patches_have_openings_everywhere() {
+    let mut random = Random::new(0x5EED_0012);
+    let mut seen = HashMap::new();
+    for _ in 0..20_000 {
+        let (_, node) = some_patch(&mut random);
+        *seen.entry(Place::Root(kind_of(&node))).or_insert(0) += 1;
+        count_places(&node, &mut seen);
+    }
+    let mut count = |place: Place| *seen.entry(place).or_insert(0);
+    for kind in [2, 3] {
+        assert!(count(Place::Root(kind)) > 100);
+        for parent in [4, 9, 10, 15] {
+            assert!(count(Place::First(parent, kind)) > 100, "{parent} {kind}");
+            assert!(count(Place::Second(parent, kind)) > 100, "{parent} {kind}");
+        }
+        for before in 0..18 {
+            assert!(count(Place::Behind(before, kind)) > 20, "{before} {kind}");
+        }
+    }
+}
+
+/// Where a kind stands: at the root, as a part of another kind, or in a chain behind
+/// another kind.
+#[derive(PartialEq, Eq, Hash)]
+enum Place {
+    Root(u8),
+    First(u8, u8),
+    Second(u8, u8),
+    Behind(u8, u8),
+}
+
+/// Adds the place of each part in the tree.
+fn count_places(node: &Node, seen: &mut HashMap<Place, usize>) {
+    let parent = kind_of(node);
+    if let Node::Both(one, other)
+    | Node::Then(one, other)
+    | Node::Chain(one, other)
+    | Node::Choose(one, other) = node
+    {
+        let (first, second) = (kind_of(one), kind_of(other));
+        *seen.entry(Place::First(parent, first)).or_insert(0) += 1;
+        *seen.entry(Place::Second(parent, second)).or_insert(0) += 1;
+        if matches!(node, Node::Chain(..)) {
+            *seen.entry(Place::Behind(first, second)).or_insert(0) += 1;
+        }
+        count_places(one, seen);
+        count_places(other, seen);
     }
 }
 
@@ -194,12 +252,16 @@ pub struct Run {
 impl Run {
     /// A run before its first feed.
     pub fn new(input: &Type, node: &Node) -> Run {
-        let start = patch_file(input, node);
+        Run::of_files(type_file(input), patch_file(input, node))
+    }
+
+    /// The same from the files of the input type and of the patch.
+    pub fn of_files(input: Vec<u8>, start: Vec<u8>) -> Run {
         let output = answered(|buffer| check(&start, buffer)).expect("well-typed");
         Run {
             patch: start.clone(),
             start,
-            input: type_file(input),
+            input,
             output,
             taken: None,
         }
@@ -254,12 +316,14 @@ impl Run {
 #[test]
 fn demand_3_on_random_runs() {
     let mut random = Random::new(0x5EED_0006);
-    let (mut accepted, mut refused) = (0, 0);
+    let (mut accepted, mut refused, mut met) = (0, 0, Met::default());
     for _ in 0..3_000 {
-        let (mut input, node) = some_patch(&mut random);
+        let (mut input, mut node) = some_patch(&mut random);
         let mut run = Run::new(&input, &node);
-        for _ in 0..random.below(8) {
-            let progress = random.below(5);
+        let empties = random.below(4);
+        for feeds in 0..empties + random.below(8) {
+            // Progress 0 gives the empty slice.
+            let progress = if feeds < empties { 0 } else { random.below(5) };
             let slice = random_slice(&mut random, &input, progress);
             let file = slice_file(&slice);
             let number = match random.below(6) {
@@ -274,6 +338,8 @@ fn demand_3_on_random_runs() {
                 _ => run.feed(&file, 513, 8_482),
             };
             if number == 0 {
+                met.add(&node, &input, &slice);
+                node = feed_node(&node, &input, &slice).expect("fits").left;
                 input = leaves(&input, &slice);
                 accepted += 1;
             } else {
@@ -284,6 +350,7 @@ fn demand_3_on_random_runs() {
         run.holds();
     }
     assert!(accepted > 3_000 && refused > 1_000, "{accepted} {refused}");
+    assert!(met.waiting > 1_000 && met.opening > 1_000, "{met:?}");
 }
 
 /// What an operation with one buffer owes whatever its inputs: a listed number
