@@ -1,11 +1,11 @@
--- Whether a prefix opens a node that waits, by its bytes: the first of them that brings something opens; if none does, each is a kind, and
--- the prefix is complete if none of them is unfinished.
-use mathlib.Core.Path.{_≡_, refl, sym, ap, _∙_}
+-- Whether a prefix opens a node that waits, by its bytes: it does at the first kind that brings something. If there is none, each byte is a
+-- kind, and the prefix is complete if none of them is unfinished.
+use mathlib.Core.Path.{_≡_, refl, ap, _∙_}
 use mathlib.Core.Bool.{Bool, true, false, _&&_, _||_, not, cond}
 use mathlib.Core.List.{List, [], _∷_}
 use Prim.Native.Nat.{ℕ, zero, suc, _+_, _-_, _≤_, _<_}
 use native.Mathlib.Omega.{arith}
-use native.Mathlib.Nat.{add-assoc, add-zero, suc-add}
+use native.Mathlib.Nat.{add-assoc, suc-add}
 use native.Mathlib.Numerals.{add-one, one-add}
 use lib.ListN.{length, getD, drop}
 use lib.Seq.{drop-cons}
@@ -13,14 +13,16 @@ use Rattle.stream.specs.Prefixes.{Prefix, nothing, cue-awaited, cue-come, level
 use Rattle.stream.specs.Prefixes.Functions.{complete, brings-nothing, opens}
 use Rattle.stream.specs.SliceFiles.{prefix-bytes}
 use Rattle.reading.specs.declared.prefixes.PrefixPlace.{PrefixPlace}
-use Rattle.reading.specs.SliceReads.{prefix-width, PrefixIn, SomePrefixIn, is-unfinished, brings-something}
+use Rattle.reading.specs.SliceReads.{prefix-width, PrefixIn, SomePrefixIn, is-unfinished, kind-brings-nothing}
 use Rattle.reading.specs.SliceReads.Laws.{prefix-inside}
 
 -- What the first n bytes tell, after others that brought nothing and of which some were unfinished or none.
 abbrev scan : Bool → ℕ → List ℕ → Bool
 scan unfinished zero s = not unfinished
 scan unfinished (suc n) [] = not unfinished
-scan unfinished (suc n) (k ∷ s) = cond (brings-something k) true (scan (cond (is-unfinished k) true unfinished) n s)
+scan unfinished (suc n) (k ∷ s) = cond (kind-brings-nothing k) (scan (cond (is-unfinished k) true unfinished) n s) true
+
+-- A prefix that brings something decides; of one that does not is told on whether it was complete.
 
 same-either-way : (b : Bool) → cond b true true ≡ true
 same-either-way true = refl
@@ -90,17 +92,17 @@ module _ {slice : List ℕ} {start end : ℕ} {unfinished : Bool} {next : ℕ} (
 
   module _ (inside : next < length slice) (more : next < end) where
     -- The byte at `next` comes to its turn.
-    turn : cond (brings-something (getD slice next 0)) true
-        (scan (cond (is-unfinished (getD slice next 0)) true unfinished) (end - (next + 1)) (drop (next + 1) slice))
+    turn : cond (kind-brings-nothing (getD slice next 0))
+        (scan (cond (is-unfinished (getD slice next 0)) true unfinished) (end - (next + 1)) (drop (next + 1) slice)) true
         ≡ scan false (end - start) (drop start slice)
     turn =
         let one : end - next ≡ suc (end - (next + 1)) = omega arith in
         rw (one, drop-cons slice next 0 inside, ← add-one next) at (scanning .whole)
 
-    pub brought : brings-something (getD slice next 0) ≡ true → (p : Prefix) → PrefixIn slice (record { start = start; end = end }) p → true ≡ opens p
+    pub brought : kind-brings-nothing (getD slice next 0) ≡ false → (p : Prefix) → PrefixIn slice (record { start = start; end = end }) p → true ≡ opens p
     brought brings p prefix-in = (rw brings at turn) ∙ tells prefix-in
 
-    pub scanned-on : {later : Bool} → brings-something (getD slice next 0) ≡ false → later ≡ cond (is-unfinished (getD slice next 0)) true unfinished
+    pub scanned-on : {later : Bool} → kind-brings-nothing (getD slice next 0) ≡ true → later ≡ cond (is-unfinished (getD slice next 0)) true unfinished
         → Scanning slice start end later (next + 1)
     scanned-on none is-later = record { whole = rw is-later (rw none at turn) }
 

@@ -109,8 +109,8 @@ pub record CompleteAt (types : List ℕ) (part : TypePlace) (slice : List ℕ) (
 pub record CompleteEnds (types : List ℕ) (part : TypePlace) (slice : List ℕ) (place end : ℕ) : Type 0 where
   pub each : (due : CompleteAt types part slice place) → end ≡ place + prefix-width (due .prefix)
 
--- The kind of type that each kind of slice belongs to, by its number; the kinds that keep a slice from being complete; those that stand
--- in no empty slice.
+-- The kind of type that each kind of slice belongs to, by its number; the kinds that keep a slice from being complete; those that can
+-- stand in an empty slice.
 abbrev pub types-by-kind : List ℕ
 types-by-kind = 0 ∷ 1 ∷ 1 ∷ 2 ∷ 2 ∷ 3 ∷ 3 ∷ 4 ∷ 5 ∷ 5 ∷ 5 ∷ []
 
@@ -123,11 +123,11 @@ unfinished-by-kind = false ∷ true ∷ false ∷ true ∷ false ∷ true ∷ fa
 abbrev pub is-unfinished : ℕ → Bool
 is-unfinished k = getD unfinished-by-kind k false
 
-abbrev pub brings-by-kind : List Bool
-brings-by-kind = false ∷ false ∷ true ∷ false ∷ true ∷ false ∷ true ∷ false ∷ false ∷ true ∷ true ∷ []
+abbrev pub empty-by-kind : List Bool
+empty-by-kind = true ∷ true ∷ false ∷ true ∷ false ∷ true ∷ false ∷ true ∷ true ∷ false ∷ false ∷ []
 
-abbrev pub brings-something : ℕ → Bool
-brings-something k = getD brings-by-kind k true
+abbrev pub kind-brings-nothing : ℕ → Bool
+kind-brings-nothing k = getD empty-by-kind k false
 
 abbrev pub belongs-at : ℕ → ℕ → Bool → Bool
 belongs-at type-kind k must-complete = eqb type-kind (type-kind-of k) && not (must-complete && is-unfinished k)

@@ -6,7 +6,7 @@ ghost use Prim.Native.Nat.{_+_, _<_};
 ghost use Rattle.stream.specs.Types.{type-limit};
 ghost use Rattle.stream.specs.Prefixes.Kinds.{prefix-arity, root-width};
 ghost use Rattle.reading.specs.TypeReads.{SomeTypeIn};
-ghost use Rattle.reading.specs.SliceReads.{type-kind-of, is-unfinished, brings-something, belongs-at, first-complete, SomePrefixAt, PrefixEnds, SomePrefixIn, OpensIn, CompleteWide, CompleteAt, CompleteEnds, first-known, crossed-known, both-known, combined, SumsFit};
+ghost use Rattle.reading.specs.SliceReads.{type-kind-of, is-unfinished, kind-brings-nothing, belongs-at, first-complete, SomePrefixAt, PrefixEnds, SomePrefixIn, OpensIn, CompleteWide, CompleteAt, CompleteEnds, first-known, crossed-known, both-known, combined, SumsFit};
 
 // No slice file is longer: the count, a byte for each of 255 nodes, and two for each of at most 128 levels.
 pub const MAX_SLICE_FILE: usize = 513;
@@ -91,21 +91,21 @@ pub fn is_unfinished(kind: u8) -> bool
     }
 }
 
-// Whether a slice's kind stands in no empty slice: a cue or a level that has come, a crossing, a choice.
-pub fn brings_something(kind: u8) -> bool
-    ensures { λ r. ⌜ r ≡ brings-something kind ⌝ }
+// Whether a slice's kind can stand in an empty slice: no cue and no level has come, nothing is crossed or chosen.
+pub fn brings_nothing(kind: u8) -> bool
+    ensures { λ r. ⌜ r ≡ kind-brings-nothing kind ⌝ }
 {
     match kind {
-        0..=1 => false,
-        2 => true,
-        3 => false,
-        4 => true,
-        5 => false,
-        6 => true,
-        7..=8 => false,
-        9..=10 => true,
+        0..=1 => true,
+        2 => false,
+        3 => true,
+        4 => false,
+        5 => true,
+        6 => false,
+        7..=8 => true,
+        9..=10 => false,
         // No slice's kind.
-        11..=255 => true,
+        11..=255 => false,
     }
 }
 
@@ -187,7 +187,7 @@ pub fn opens(slice: &[u8], place: PrefixPlace) -> bool
     let end = place.end;
     while next < end {
         let kind = slice[next];
-        if brings_something(kind) {
+        if !brings_nothing(kind) {
             return true;
         }
         if is_unfinished(kind) {

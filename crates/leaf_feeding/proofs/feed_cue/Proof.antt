@@ -1,18 +1,15 @@
 -- `feed_cue` meets its contract: where a type of one node has room, it writes the one byte of a cue that has come or is awaited, as the
 -- prefix opens it or not (`Emitted`).
+use borrow.Author.Needs.{needs}
 use mathlib.Core.Path.{sym, _∙_}
 use native.Mathlib.Omega.{arith}
 use Rattle.leaf_feeding.proofs.Emitted.{none-given, cue-sent, cue-waits}
-use borrow.Author.Needs.{needs}
 use Rattle.leaf_feeding.proofs.feed_cue.Statement.{statement}
 use Rattle.leaf_feeding.proofs.feed_cue.Tie as tie
 
 -- The map of places: what stands before what.
 abbrev then2-before-slice-known4 : tie.After-slice-known4 → tie.Then2
 then2-before-slice-known4 c = c .before .before .before .before
-
-abbrev opens-before-slice-known4 : tie.After-slice-known4 → tie.After-opens
-opens-before-slice-known4 c = then2-before-slice-known4 c .before
 
 returns : tie.Need-returns
 returns c = record { each = λ room s p stands. none-given (c .if1 .taken) }
@@ -40,8 +37,9 @@ same-length-3 c = search needs
 
 returns-2 : tie.Need-returns-2
 returns-2 c =
-    let asked = opens-before-slice-known4 c in
-    record { each = λ room s p stands. cue-sent room (omega arith) s p (sym (asked .opens .ensures .each p stands) ∙ then2-before-slice-known4 c .if2 .taken) (c .before .before .leave-silent .ensures) }
+    let opened = then2-before-slice-known4 c in
+    let answer = opened .before .opens .ensures in
+    record { each = λ room s p stands. cue-sent room (omega arith) s p (sym (answer .each p stands) ∙ opened .if2 .taken) (c .before .before .leave-silent .ensures) }
 
 slice-write-out-2 : tie.Need-slice-write-out-2
 slice-write-out-2 c = search needs
@@ -63,7 +61,8 @@ same-length-6 c = search needs
 
 returns-3 : tie.Need-returns-3
 returns-3 c =
-    record { each = λ room s p stands. cue-waits room (omega arith) s p (sym (c .before .before .opens .ensures .each p stands) ∙ c .before .if2 .left) (c .new .ensures) }
+    let answer = c .before .before .opens .ensures in
+    record { each = λ room s p stands. cue-waits room (omega arith) s p (sym (answer .each p stands) ∙ c .before .if2 .left) (c .new .ensures) }
 
 pub feed-cue-spec : {M : Type 1} → statement M
 feed-cue-spec =

@@ -1,11 +1,11 @@
 -- `feed_level` meets its contract: where a type of one node has room, it writes the bytes of its value, which stand behind the node's kind
 -- byte, behind that of a level that has come, or it stays, as the prefix opens it or not (`LevelSent`).
+use borrow.Author.Needs.{needs}
 use mathlib.Core.Path.{sym, _∙_}
 use native.Mathlib.Omega.{arith}
 use lib.ListN.{length-set}
 use Rattle.leaf_feeding.proofs.Emitted.{none-given}
 use Rattle.leaf_feeding.proofs.LevelSent.{value-inside, level-room, value-room, level-sent, level-fed, node-room, level-waits}
-use borrow.Author.Needs.{needs}
 use Rattle.leaf_feeding.proofs.feed_level.Statement.{statement}
 use Rattle.leaf_feeding.proofs.feed_level.Tie as tie
 
@@ -31,17 +31,11 @@ entry-before-copy-arg4 c = entry-before-else2 (c .before .before)
 abbrev else2-before-new : tie.After-new → tie.Else2
 else2-before-new c = c .before .before .before .before .before .before
 
-abbrev opens-before-new : tie.After-new → tie.After-opens
-opens-before-new c = else2-before-new c .before
-
 abbrev copy-before-slice-known5 : tie.After-slice-known5 → tie.After-copy
 copy-before-slice-known5 c = c .before .before .before .before .before .before
 
 abbrev then2-before-slice-known5 : tie.After-slice-known5 → tie.Then2
 then2-before-slice-known5 c = copy-before-slice-known5 c .before .before .before
-
-abbrev opens-before-slice-known5 : tie.After-slice-known5 → tie.After-opens
-opens-before-slice-known5 c = then2-before-slice-known5 c .before
 
 abbrev entry-before-slice-known5 : tie.After-slice-known5 → tie.Start
 entry-before-slice-known5 c = entry-before-then2 (then2-before-slice-known5 c)
@@ -102,8 +96,10 @@ same-length-3 c = search needs
 
 returns-2 : tie.Need-returns-2
 returns-2 c =
-    let asked = opens-before-slice-known5 c in
-    record { each = λ due s p stands. level-fed due (omega arith) s p (sym (asked .opens .ensures .each p stands) ∙ then2-before-slice-known5 c .if2 .taken) (copy-before-slice-known5 c .copy .ensures) (c .before .before .leave-silent .ensures) }
+    let opened = then2-before-slice-known5 c in
+    let answer = opened .before .opens .ensures in
+    let copied = copy-before-slice-known5 c .copy .ensures in
+    record { each = λ due s p stands. level-fed due (omega arith) s p (sym (answer .each p stands) ∙ opened .if2 .taken) copied (c .before .before .leave-silent .ensures) }
 
 slice-write-out-2 : tie.Need-slice-write-out-2
 slice-write-out-2 c = search needs
@@ -137,8 +133,10 @@ same-length-6 c = search needs
 
 returns-3 : tie.Need-returns-3
 returns-3 c =
-    let asked = opens-before-new c in
-    record { each = λ due s p stands. level-waits due (omega arith) s p (sym (asked .opens .ensures .each p stands) ∙ else2-before-new c .if2 .left) (c .before .before .before .copy2 .ensures) (c .new .ensures) }
+    let closed = else2-before-new c in
+    let answer = closed .before .opens .ensures in
+    let copied = c .before .before .before .copy2 .ensures in
+    record { each = λ due s p stands. level-waits due (omega arith) s p (sym (answer .each p stands) ∙ closed .if2 .left) copied (c .new .ensures) }
 
 pub feed-level-spec : {M : Type 1} → statement M
 feed-level-spec =

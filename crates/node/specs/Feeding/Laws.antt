@@ -7,7 +7,7 @@ use native.Mathlib.Nat.{le-trans}
 use Rattle.stream.specs.Types.{Ty, empty, size, null-empty, Small}
 use Rattle.stream.specs.Prefixes.{Prefix, cue-awaited, cue-come, level-awaited, level-come, in-first, crossed, beside, Complete, whole-nothing, whole-cue, whole-level, whole-crossed, whole-beside, whole-first-chosen, whole-second-chosen, IsPrefix, of-empty, of-cue-awaited, of-cue-come, of-level-awaited, of-level-come, of-first, of-crossed, of-beside, of-none-chosen, of-first-chosen, of-second-chosen, derivative}
 use Rattle.stream.specs.Prefixes.Functions.{opens, concat}
-use Rattle.stream.specs.Prefixes.Laws.{crossed-second, beside-first, beside-second, first-chosen-inside, second-chosen-inside, empty-prefix-is-prefix, empty-prefix-complete, derivative-empty, complete-opens, opens-sound, opens-by-rule, closed-test, complete→nullable, derivative-size, derivative-concat, concat-empty-left, concat-empty-right, opens-concat, closed-concat}
+use Rattle.stream.specs.Prefixes.Laws.{crossed-second, beside-first, beside-second, first-chosen-inside, second-chosen-inside, empty-prefix-is-prefix, empty-prefix-complete, derivative-empty, complete-opens, opens-test, closed-test, complete→nullable, derivative-size, derivative-concat, concat-empty-left, concat-empty-right, opens-concat, closed-concat}
 use Rattle.node.specs.Nodes.{Node, silent, emit-cue, emit-level, both, then, chain, Takes, takes-pass, takes-silent, takes-cue, takes-level, takes-both, takes-left, takes-right, takes-first, takes-second, takes-then, takes-chain, takes-regroup-right, takes-regroup-left, takes-spread, takes-front, takes-choose, takes-mark-first, takes-mark-second, count, Allowed}
 use Rattle.node.specs.Nodes.Functions.{output-type, Fits}
 use Rattle.node.specs.Nodes.Laws.{output-type-is, is-allowed, allowed-fits}
@@ -154,12 +154,12 @@ feeds (takes-silent z) h = feeds-silent
 feeds {s} {p = p} takes-cue h = go (opens p) refl
   where
     go : (b : Bool) → opens p ≡ b → Feeds s emit-cue p (cond b cue-come cue-awaited) (cond b (silent empty) emit-cue)
-    go true e = feeds-cue (opens-sound p e)
+    go true e = feeds-cue (opens-test h .0 e)
     go false e = feeds-cue-waiting (closed-test h .0 e)
 feeds {s} {p = p} (takes-level {v = v} small) h = go (opens p) refl
   where
     go : (b : Bool) → opens p ≡ b → Feeds s (emit-level v) p (cond b (level-come v) level-awaited) (cond b (silent empty) (emit-level v))
-    go true e = feeds-level (opens-sound p e)
+    go true e = feeds-level (opens-test h .0 e)
     go false e = feeds-level-waiting (closed-test h .0 e)
 feeds (takes-both d e) h = feeds-both (feeds d h) (feeds e h)
 feeds takes-left (of-beside h k) = feeds-left
@@ -190,9 +190,9 @@ pub feeds-only : {s : Ty} {n n′ : Node} {p o : Prefix} → Feeds s n p o n′ 
 unfolding sends leaves
 feeds-only feeds-pass h = same
 feeds-only feeds-silent h = same
-feeds-only (feeds-cue o) h = let e = opens-by-rule h o in record { sent = rw e; node = rw e }
+feeds-only (feeds-cue o) h = let e = opens-test h .1 o in record { sent = rw e; node = rw e }
 feeds-only (feeds-cue-waiting o) h = let e = closed-test h .1 o in record { sent = rw e; node = rw e }
-feeds-only (feeds-level o) h = let e = opens-by-rule h o in record { sent = rw e; node = rw e }
+feeds-only (feeds-level o) h = let e = opens-test h .1 o in record { sent = rw e; node = rw e }
 feeds-only (feeds-level-waiting o) h = let e = closed-test h .1 o in record { sent = rw e; node = rw e }
 feeds-only (feeds-both f g) h =
     let a = feeds-only f h in

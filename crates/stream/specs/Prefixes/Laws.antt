@@ -82,7 +82,7 @@ derivative-empty (either s t) = refl
 
 -- The test for the empty prefix is right for the prefixes of a type.
 
-pub brings-nothing-sound : {t : Ty} {p : Prefix} → IsPrefix t p → brings-nothing p ≡ true → p ≡ empty-prefix t
+brings-nothing-sound : {t : Ty} {p : Prefix} → IsPrefix t p → brings-nothing p ≡ true → p ≡ empty-prefix t
 unfolding brings-nothing empty-prefix
 brings-nothing-sound of-empty e = refl
 brings-nothing-sound of-cue-awaited e = refl
@@ -98,7 +98,7 @@ brings-nothing-sound of-none-chosen e = refl
 brings-nothing-sound (of-first-chosen h) e = absurd (false≢true e)
 brings-nothing-sound (of-second-chosen h) e = absurd (false≢true e)
 
-pub empty-brings-nothing : (t : Ty) → brings-nothing (empty-prefix t) ≡ true
+empty-brings-nothing : (t : Ty) → brings-nothing (empty-prefix t) ≡ true
 unfolding brings-nothing empty-prefix
 empty-brings-nothing empty = refl
 empty-brings-nothing cue = refl
@@ -117,15 +117,15 @@ complete-opens {p} c = go (not (brings-nothing p)) (complete-complete c)
     go true e = refl
     go false e = e
 
-pub closed-brings-nothing : (p : Prefix) → opens p ≡ false → brings-nothing p ≡ true
+closed-empty : {t : Ty} {p : Prefix} → IsPrefix t p → opens p ≡ false → p ≡ empty-prefix t
 unfolding opens
-closed-brings-nothing p e = go (brings-nothing p) (complete p) e
+closed-empty {p = p} h e = brings-nothing-sound h (go (brings-nothing p) (complete p) e)
   where
     go : (a b : Bool) → not a || b ≡ false → a ≡ true
     go true b e = refl
     go false b e = sym e
 
-pub opens-sound : {s : Ty} (p : Prefix) → opens p ≡ true → Opens s p
+opens-sound : {s : Ty} (p : Prefix) → opens p ≡ true → Opens s p
 unfolding opens
 opens-sound {s} p e = go (brings-nothing p) refl (complete p) refl e
   where
@@ -134,7 +134,7 @@ opens-sound {s} p e = go (brings-nothing p) refl (complete p) refl e
     go true d true c e = opens-complete (complete-sound p c)
     go true d false c e = absurd (false≢true e)
 
-pub opens-by-rule : {s : Ty} {p : Prefix} → IsPrefix s p → Opens s p → opens p ≡ true
+opens-by-rule : {s : Ty} {p : Prefix} → IsPrefix s p → Opens s p → opens p ≡ true
 unfolding opens
 opens-by-rule {p = p} h (opens-differing d) = go (brings-nothing p) refl
   where
@@ -152,6 +152,10 @@ closed-test {s} {p} h = ((λ e o. true≢false (sym (opens-by-rule h o) ∙ e)),
     go : (b : Bool) → opens p ≡ b → (Opens s p → ⊥) → b ≡ false
     go true e k = absurd (k (opens-sound p e))
     go false e k = refl
+
+-- While a node waits, its input type stays.
+pub closed-derivative : {t : Ty} {p : Prefix} → IsPrefix t p → (Opens t p → ⊥) → derivative t p ≡ t
+closed-derivative {t} h k = rw (closed-empty h (closed-test h .1 k)) (derivative-empty t)
 
 -- A prefix is complete exactly if what it leaves is nullable.
 
@@ -176,7 +180,7 @@ nullable→complete (of-first-chosen h) n = whole-first-chosen (nullable→compl
 nullable→complete (of-second-chosen h) n = whole-second-chosen (nullable→complete h n)
 
 -- Every prefix of a nullable type is complete.
-pub nullable-prefix : {t : Ty} {p : Prefix} → Nullable t → IsPrefix t p → Complete p
+nullable-prefix : {t : Ty} {p : Prefix} → Nullable t → IsPrefix t p → Complete p
 nullable-prefix null-empty of-empty = whole-nothing
 nullable-prefix (null-par n m) (of-beside h k) = whole-beside (nullable-prefix n h) (nullable-prefix m k)
 
@@ -352,8 +356,8 @@ opens-concat {p = p} q h k e = go (complete p) refl (brings-nothing (concat p q)
 
 pub closed-concat : {t : Ty} {p : Prefix} (q : Prefix) → IsPrefix t p → IsPrefix (derivative t p) q → opens p ≡ false → concat p q ≡ q
 closed-concat {t} {p} q h k e =
-    let n : p ≡ empty-prefix t = brings-nothing-sound h (closed-brings-nothing p e) in
-    rw n (concat-empty-left (rw (n, derivative-empty t) at k))
+    let nothing-yet = closed-empty h e in
+    rw nothing-yet (concat-empty-left (rw (nothing-yet, derivative-empty t) at k))
 
 -- Two lanes side by side: which of them comes first does not matter (the source's Theorem 3.4).
 

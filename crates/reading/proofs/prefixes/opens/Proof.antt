@@ -1,6 +1,7 @@
 -- `opens` meets its contract: what the bytes from `next` on tell is what all of them tell (`Scanning`), and the byte there opens or is
 -- passed.
 use borrow.Author.Needs.{needs}
+use borrow.Author.Tests.{not-true, not-false}
 use mathlib.Core.Path.{sym, _∙_}
 use mathlib.Core.Logic.{⊎-elim}
 use Prim.Native.Nat.{_-_}
@@ -28,13 +29,14 @@ loop-holds c = nothing-scanned
 shared-slice-read-kind : tie.Need-shared-slice-read-kind Inv-loop μ-loop
 shared-slice-read-kind c = omega (arith, ends-inside (entry-before-shared-slice-known2 c .pre))
 
-brings-something-requires : tie.Need-brings-something-requires Inv-loop μ-loop
-brings-something-requires c κs = search needs
+brings-nothing-requires : tie.Need-brings-nothing-requires Inv-loop μ-loop
+brings-nothing-requires c κs = search needs
 
 returns : tie.Need-returns Inv-loop μ-loop
 returns c =
     let read = c .before .before in
-    record { each = λ p prefix-in. brought (read .before .before .loop .inv) (shared-slice-read-kind read) (omega arith) (sym (c .before .brings-something .ensures) ∙ c .if1 .taken) p prefix-in }
+    let something = sym (c .before .brings-nothing .ensures) ∙ not-true _ (c .if1 .taken) in
+    record { each = brought (read .before .before .loop .inv) (shared-slice-read-kind read) (omega arith) something }
 
 is-unfinished-requires : tie.Need-is-unfinished-requires Inv-loop μ-loop
 is-unfinished-requires c κs = search needs
@@ -48,12 +50,13 @@ loop-less c = omega arith
 loop-again : tie.Need-loop-again Inv-loop μ-loop
 loop-again c =
     let read = shared-slice-known2-before-joined2 c in
+    let nothing = sym (c .before .before .before .brings-nothing .ensures) ∙ not-false _ (c .before .before .if1 .left) in
     let asked = sym (c .before .is-unfinished .ensures) in
-    scanned-on (read .before .before .loop .inv) (shared-slice-read-kind read) (omega arith) (sym (c .before .before .before .brings-something .ensures) ∙ c .before .before .if1 .left)
+    scanned-on (read .before .before .loop .inv) (shared-slice-read-kind read) (omega arith) nothing
     (⊎-elim (λ w. rw (w .1, asked ∙ w .0 .taken)) (λ w. rw (w .1, asked ∙ w .0 .left)) (c .if2 .came))
 
 returns-2 : tie.Need-returns-2 Inv-loop μ-loop
-returns-2 c = record { each = λ p prefix-in. scanned-all (c .before .loop .inv) (omega arith) p prefix-in }
+returns-2 c = record { each = scanned-all (c .before .loop .inv) (omega arith) }
 
 pub opens-spec : {M : Type 1} → statement M
 opens-spec =
@@ -63,7 +66,7 @@ opens-spec =
     μ-loop
     loop-holds
     shared-slice-read-kind
-    brings-something-requires
+    brings-nothing-requires
     returns
     is-unfinished-requires
     add-next
