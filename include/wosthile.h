@@ -76,8 +76,11 @@
 #include <stddef.h>
 #include <stdint.h>
 
-/* The release, for people. */
-#define WOSTHILE_RELEASE "1.2.1"
+/*
+ * The release, for people. Since 1.3.0 a cue or level node sends only when its own slice is not empty or is complete,
+ * where before it sent at its first feed, whatever that brought.
+ */
+#define WOSTHILE_RELEASE "1.3.0"
 
 /* The binary interface: changes whenever a struct or a function below asks for compiling again. See wosthile_abi. */
 #define WOSTHILE_ABI 1
@@ -278,7 +281,7 @@ wosthile_written wosthile_join(const uint8_t *type, size_t type_len, const uint8
  * WOSTHILE_SLICE_FILE_MAX bytes, and to left the file of the patch left, at most WOSTHILE_PATCH_FILE_MAX bytes. The
  * patch left is a patch that wosthile_check accepts: its input type, the first section, is what the slice leaves of the
  * input type, and it gives what the output leaves of the type that the patch gave. It can be longer than the patch fed:
- * the six bytes 0 1 1 0 1 2, a cue node on a cue, fed 0 1 1 leave the seven 0 1 1 0 2 1 0. Only a buffer of
+ * the six bytes 0 1 1 0 1 2, a cue node on a cue, fed 0 1 2 leave the seven 0 1 0 0 2 1 0. Only a buffer of
  * WOSTHILE_PATCH_FILE_MAX bytes is always long enough.
  *
  * Refuses the patch as wosthile_check does, with 1 to 7 or 30; then the slice with 11 to 14, against the input type of
@@ -290,8 +293,10 @@ wosthile_written wosthile_join(const uint8_t *type, size_t type_len, const uint8
  *   node             on           sends                                        leaves
  *   pass             p            p                                            pass
  *   silent, type n   anything     the empty slice of n                         itself
- *   cue              anything     2, even if nothing has come                  silent 0
- *   level, value v   anything     4 v, even if nothing has come                silent 0
+ *   cue              p            2, if p is not empty or is complete          silent 0
+ *                                 1, if it is empty and not complete           itself
+ *   level, value v   p            4 v, if p is not empty or is complete        silent 0
+ *                                 3, if it is empty and not complete           itself
  *   both             p            7, what each of its nodes sends on p         both, of the nodes left
  *   left             7 p q        p                                            itself
  *   right            7 p q        q                                            itself
@@ -321,6 +326,12 @@ wosthile_written wosthile_join(const uint8_t *type, size_t type_len, const uint8
  *
  * The empty slice of a type says that nothing has come: 0, 1 or 3 at its leaves, 5 with the empty slice of the first
  * part, 7 with both empty, 8 alone.
+ *
+ * Cue and level wait for the first arrival in the slice that they themselves are fed, of the type that they take: on
+ * type 4 1 1 the nodes 10 5 2, a cue on the left side, send 1 for the slice 7 1 2. A 6, a 9 or a 10 is no empty slice,
+ * even with nothing come in it. Of a nullable type the empty slice is complete, so on such a type they send at their
+ * first feed: 10 14 9 2 0 puts a cue in front of the show, and 10 1 0 2 is a cue that does not wait. Front, mark first
+ * and mark second act at their first feed on every type.
  */
 wosthile_fed wosthile_feed(const uint8_t *patch, size_t patch_len, const uint8_t *slice, size_t slice_len,
                            uint8_t *output, size_t output_len, uint8_t *left, size_t left_len);
