@@ -29,15 +29,15 @@ static const struct feed_row node_rows[] = {
     {"case 6, regroup right", PATCH_OF((3, 3, 1, 1, 1), (11)), FILE_OF(5, 6, 2, 1), 0, FILE_OF(6, 2, 5, 1),
      PATCH_OF((3, 1, 1), (0))},
     {"case 8, pass on empty", PATCH_OF((0), (0)), FILE_OF(0), 0, FILE_OF(0), PATCH_OF((0), (0))},
-    {"case 8, cue", PATCH_OF((1), (2)), FILE_OF(1), 0, FILE_OF(2), PATCH_OF((1), (1, 0))},
+    {"case 8, cue, as M-103 has it", PATCH_OF((1), (2)), FILE_OF(1), 0, FILE_OF(1), PATCH_OF((1), (2))},
 
     {"pass, level 0 come is not level not yet", PATCH_OF((2), (0)), FILE_OF(4, 0, 0), 0, FILE_OF(4, 0, 0),
      PATCH_OF((0), (0))},
     {"pass, level not yet", PATCH_OF((2), (0)), FILE_OF(3), 0, FILE_OF(3), PATCH_OF((2), (0))},
     {"silent", PATCH_OF((1), (1, 4, 0, 0)), FILE_OF(2), 0, FILE_OF(7, 0, 0), PATCH_OF((0), (1, 4, 0, 0))},
     {"level", PATCH_OF((1), (3, 1, 44)), FILE_OF(2), 0, FILE_OF(4, 1, 44), PATCH_OF((0), (1, 0))},
-    {"level, nothing has come", PATCH_OF((3, 1, 1), (3, 10, 4)), FILE_OF(5, 1), 0, FILE_OF(4, 10, 4),
-     PATCH_OF((3, 1, 1), (1, 0))},
+    {"level, nothing has come", PATCH_OF((3, 1, 1), (3, 10, 4)), FILE_OF(5, 1), 0, FILE_OF(3),
+     PATCH_OF((3, 1, 1), (3, 10, 4))},
     {"both, each on the whole", PATCH_OF((2), (4, 0, 2)), FILE_OF(4, 7, 8), 0, FILE_OF(7, 4, 7, 8, 2),
      PATCH_OF((0), (4, 0, 1, 0))},
     {"left", PATCH_OF((4, 3, 1, 2, 2), (5)), FILE_OF(7, 6, 2, 3, 4, 1, 1), 0, FILE_OF(6, 2, 3),
@@ -52,8 +52,10 @@ static const struct feed_row node_rows[] = {
      PATCH_OF((3, 0, 4, 2, 3, 1, 1), (8))},
     {"second, crossed", PATCH_OF((3, 1, 4, 2, 1), (8)), FILE_OF(6, 2, 7, 4, 9, 9, 1), 0, FILE_OF(7, 4, 9, 9, 1),
      PATCH_OF((4, 0, 1), (0))},
-    {"then, not crossed", PATCH_OF((3, 1, 1), (9, 2, 14)), FILE_OF(5, 1), 0, FILE_OF(5, 2),
-     PATCH_OF((3, 1, 1), (9, 1, 0, 14))},
+    {"then, not crossed", PATCH_OF((3, 1, 1), (9, 2, 14)), FILE_OF(5, 2), 0, FILE_OF(5, 2),
+     PATCH_OF((3, 0, 1), (9, 1, 0, 14))},
+    {"then, not crossed, nothing has come", PATCH_OF((3, 1, 1), (9, 2, 14)), FILE_OF(5, 1), 0, FILE_OF(5, 1),
+     PATCH_OF((3, 1, 1), (9, 2, 14))},
     {"then is gone after a crossing", PATCH_OF((3, 1, 1), (9, 0, 0)), FILE_OF(6, 2, 1), 0, FILE_OF(6, 2, 1),
      PATCH_OF((1), (0))},
     {"then, crossed, the second node is fed", PATCH_OF((3, 1, 1), (9, 2, 14)), FILE_OF(6, 2, 1), 0,
@@ -84,7 +86,9 @@ static const struct feed_row choice_rows[] = {
     {"choose, first chosen", PATCH_OF((5, 1, 2), (15, 0, 2)), FILE_OF(9, 1), 0, FILE_OF(1), PATCH_OF((1), (0))},
     {"choose, first chosen and come", PATCH_OF((5, 1, 2), (15, 0, 2)), FILE_OF(9, 2), 0, FILE_OF(2),
      PATCH_OF((0), (0))},
-    {"choose, second chosen", PATCH_OF((5, 1, 2), (15, 0, 2)), FILE_OF(10, 3), 0, FILE_OF(2), PATCH_OF((2), (1, 0))},
+    {"choose, second chosen", PATCH_OF((5, 1, 2), (15, 0, 2)), FILE_OF(10, 3), 0, FILE_OF(1), PATCH_OF((2), (2))},
+    {"choose, second chosen and come", PATCH_OF((5, 1, 2), (15, 0, 2)), FILE_OF(10, 4, 0, 0), 0, FILE_OF(2),
+     PATCH_OF((0), (1, 0))},
     {"choose, none of larger parts chosen", PATCH_OF((5, 4, 1, 2, 4, 2, 1), (15, 0, 4, 6, 5)), FILE_OF(8), 0,
      FILE_OF(7, 1, 3), PATCH_OF((5, 4, 1, 2, 4, 2, 1), (15, 0, 4, 6, 5))},
     {"choose, first of larger parts", PATCH_OF((5, 4, 1, 2, 4, 2, 1), (15, 0, 4, 6, 5)), FILE_OF(9, 7, 2, 3), 0,
@@ -99,8 +103,8 @@ static const struct feed_row choice_rows[] = {
      PATCH_OF((5, 1, 1), (15, 2, 0))},
     {"choose in choose, none chosen", PATCH_OF((5, 5, 1, 2, 1), (15, 15, 0, 2, 0)), FILE_OF(9, 8), 0, FILE_OF(1),
      PATCH_OF((5, 1, 2), (15, 0, 2))},
-    {"choose in choose, chosen", PATCH_OF((5, 1, 5, 1, 2), (15, 0, 15, 0, 2)), FILE_OF(10, 10, 3), 0, FILE_OF(2),
-     PATCH_OF((2), (1, 0))},
+    {"choose in choose, chosen", PATCH_OF((5, 1, 5, 1, 2), (15, 0, 15, 0, 2)), FILE_OF(10, 10, 3), 0, FILE_OF(1),
+     PATCH_OF((2), (2))},
     {"mark first, nothing has come", PATCH_OF((1), (16, 2)), FILE_OF(1), 0, FILE_OF(9, 1), PATCH_OF((1), (0))},
     {"mark first", PATCH_OF((1), (16, 2)), FILE_OF(2), 0, FILE_OF(9, 2), PATCH_OF((0), (0))},
     {"mark second, nothing has come", PATCH_OF((1), (17, 2)), FILE_OF(1), 0, FILE_OF(10, 1), PATCH_OF((1), (0))},
@@ -116,7 +120,8 @@ static const struct feed_row choice_rows[] = {
 
     {"pass, none chosen", PATCH_OF((5, 1, 2), (0)), FILE_OF(8), 0, FILE_OF(8), PATCH_OF((5, 1, 2), (0))},
     {"pass, second chosen", PATCH_OF((5, 1, 2), (0)), FILE_OF(10, 3), 0, FILE_OF(10, 3), PATCH_OF((2), (0))},
-    {"cue, none chosen", PATCH_OF((5, 1, 2), (2)), FILE_OF(8), 0, FILE_OF(2), PATCH_OF((5, 1, 2), (1, 0))},
+    {"cue, none chosen", PATCH_OF((5, 1, 2), (2)), FILE_OF(8), 0, FILE_OF(1), PATCH_OF((5, 1, 2), (2))},
+    {"cue, second chosen", PATCH_OF((5, 1, 2), (2)), FILE_OF(10, 3), 0, FILE_OF(2), PATCH_OF((2), (1, 0))},
     {"both, each on the choice", PATCH_OF((5, 1, 2), (4, 15, 0, 2, 0)), FILE_OF(9, 2), 0, FILE_OF(7, 2, 9, 2),
      PATCH_OF((0), (4, 0, 0))},
     {"left of a choice", PATCH_OF((4, 5, 1, 2, 1), (5)), FILE_OF(7, 9, 1, 2), 0, FILE_OF(9, 1),
@@ -131,10 +136,10 @@ static const struct feed_row choice_rows[] = {
      PATCH_OF((0), (0))},
     {"then, crossed, none chosen", PATCH_OF((3, 1, 5, 1, 2), (9, 0, 15, 0, 2)), FILE_OF(6, 2, 8), 0, FILE_OF(6, 2, 1),
      PATCH_OF((5, 1, 2), (15, 0, 2))},
-    {"then, crossed and chosen", PATCH_OF((3, 1, 5, 1, 2), (9, 0, 15, 0, 2)), FILE_OF(6, 2, 10, 3), 0, FILE_OF(6, 2, 2),
-     PATCH_OF((2), (1, 0))},
-    {"then, chosen in its first part", PATCH_OF((3, 5, 1, 2, 1), (9, 15, 0, 2, 0)), FILE_OF(5, 10, 3), 0, FILE_OF(5, 2),
-     PATCH_OF((3, 2, 1), (9, 1, 0, 0))},
+    {"then, crossed and chosen", PATCH_OF((3, 1, 5, 1, 2), (9, 0, 15, 0, 2)), FILE_OF(6, 2, 10, 3), 0, FILE_OF(6, 2, 1),
+     PATCH_OF((2), (2))},
+    {"then, chosen in its first part", PATCH_OF((3, 5, 1, 2, 1), (9, 15, 0, 2, 0)), FILE_OF(5, 10, 3), 0, FILE_OF(5, 1),
+     PATCH_OF((3, 2, 1), (9, 2, 0))},
     {"chain, a mark is chosen", PATCH_OF((1), (10, 16, 2, 15, 0, 2)), FILE_OF(1), 0, FILE_OF(1),
      PATCH_OF((1), (10, 0, 0))},
     {"chain, the other mark is chosen", PATCH_OF((1), (10, 17, 2, 15, 2, 0)), FILE_OF(2), 0, FILE_OF(2),
@@ -148,6 +153,58 @@ static const struct feed_row choice_rows[] = {
     {"spread, choices", PATCH_OF((3, 5, 1, 2, 4, 5, 1, 2, 1), (13)), FILE_OF(6, 9, 2, 7, 10, 3, 1), 0,
      FILE_OF(7, 6, 9, 2, 10, 3, 6, 9, 2, 1), PATCH_OF((4, 2, 1), (0))},
     {"front of a choice", PATCH_OF((5, 1, 2), (14)), FILE_OF(9, 1), 0, FILE_OF(6, 0, 9, 1), PATCH_OF((1), (0))},
+};
+
+/*
+ * Cue and level wait (M-103): they send when the slice that they are fed is not the empty one of their input, or is
+ * complete. What another reading of the request would send is told in parentheses. Many more inputs are in waiting.c.
+ */
+static const struct feed_row waiting_rows[] = {
+    {"empty and not complete (2: as before the request)", PATCH_OF((1), (2)), FILE_OF(1), 0, FILE_OF(1),
+     PATCH_OF((1), (2))},
+    {"not empty", PATCH_OF((1), (2)), FILE_OF(2), 0, FILE_OF(2), PATCH_OF((0), (1, 0))},
+    {"empty and complete (1: \"or is complete\" forgotten)", PATCH_OF((0), (2)), FILE_OF(0), 0, FILE_OF(2),
+     PATCH_OF((0), (1, 0))},
+    {"empty and complete, side by side", PATCH_OF((4, 0, 0), (2)), FILE_OF(7, 0, 0), 0, FILE_OF(2),
+     PATCH_OF((4, 0, 0), (1, 0))},
+    {"a crossing is owed (2: where no cue and no level is)", PATCH_OF((3, 0, 0), (2)), FILE_OF(5, 0), 0, FILE_OF(1),
+     PATCH_OF((3, 0, 0), (2))},
+    {"a choice is owed (2: where no cue and no level is)", PATCH_OF((5, 0, 0), (2)), FILE_OF(8), 0, FILE_OF(1),
+     PATCH_OF((5, 0, 0), (2))},
+    {"before a crossing", PATCH_OF((3, 0, 1), (2)), FILE_OF(5, 0), 0, FILE_OF(1), PATCH_OF((3, 0, 1), (2))},
+    {"a crossing alone (1: only a cue or a level opens)", PATCH_OF((3, 0, 1), (2)), FILE_OF(6, 0, 1), 0, FILE_OF(2),
+     PATCH_OF((1), (1, 0))},
+    {"before a choice", PATCH_OF((5, 1, 1), (2)), FILE_OF(8), 0, FILE_OF(1), PATCH_OF((5, 1, 1), (2))},
+    {"a choice alone (1: only a cue or a level opens)", PATCH_OF((5, 1, 1), (2)), FILE_OF(9, 1), 0, FILE_OF(2),
+     PATCH_OF((1), (1, 0))},
+    {"the other choice alone", PATCH_OF((5, 1, 1), (2)), FILE_OF(10, 1), 0, FILE_OF(2), PATCH_OF((1), (1, 0))},
+    {"one side of two (1: only what is complete opens)", PATCH_OF((4, 1, 2), (2)), FILE_OF(7, 2, 3), 0, FILE_OF(2),
+     PATCH_OF((4, 0, 2), (1, 0))},
+    {"the right side of two (1: only the first part counts)", PATCH_OF((4, 1, 2), (2)), FILE_OF(7, 1, 4, 0, 0), 0,
+     FILE_OF(2), PATCH_OF((4, 1, 0), (1, 0))},
+    {"its own slice is empty (2: the slice of the patch counts)", PATCH_OF((4, 1, 1), (10, 5, 2)), FILE_OF(7, 1, 2), 0,
+     FILE_OF(1), PATCH_OF((4, 1, 0), (10, 5, 2))},
+    {"its own slice is complete (1: the slice of the patch counts)", PATCH_OF((3, 1, 0), (10, 8, 2)), FILE_OF(5, 1), 0,
+     FILE_OF(2), PATCH_OF((3, 1, 0), (10, 8, 1, 0))},
+    {"what choose feeds is behind the mark (2: the mark counts)", PATCH_OF((5, 1, 1), (15, 2, 0)), FILE_OF(9, 1), 0,
+     FILE_OF(1), PATCH_OF((1), (2))},
+    {"what then feeds is behind the crossing (6 2 2: the crossing counts)", PATCH_OF((3, 1, 1), (9, 0, 2)),
+     FILE_OF(6, 2, 1), 0, FILE_OF(6, 2, 1), PATCH_OF((1), (2))},
+    {"level waits with its value, 300", PATCH_OF((4, 1, 2), (3, 1, 44)), FILE_OF(7, 1, 3), 0, FILE_OF(3),
+     PATCH_OF((4, 1, 2), (3, 1, 44))},
+    {"level waits with its value, 0", PATCH_OF((2), (3, 0, 0)), FILE_OF(3), 0, FILE_OF(3), PATCH_OF((2), (3, 0, 0))},
+    {"level waits with its value, 65535", PATCH_OF((2), (3, 255, 255)), FILE_OF(3), 0, FILE_OF(3),
+     PATCH_OF((2), (3, 255, 255))},
+    {"level 0 has come (3: taken for not yet)", PATCH_OF((4, 1, 2), (3, 255, 255)), FILE_OF(7, 1, 4, 0, 0), 0,
+     FILE_OF(4, 255, 255), PATCH_OF((4, 1, 0), (1, 0))},
+    {"level on what is complete", PATCH_OF((0), (3, 0, 0)), FILE_OF(0), 0, FILE_OF(4, 0, 0), PATCH_OF((0), (1, 0))},
+    {"sent once (2: sent at each arrival)", PATCH_OF((4, 0, 1), (1, 0)), FILE_OF(7, 0, 2), 0, FILE_OF(0),
+     PATCH_OF((4, 0, 0), (1, 0))},
+    {"front does not wait", PATCH_OF((1), (14)), FILE_OF(1), 0, FILE_OF(6, 0, 1), PATCH_OF((1), (0))},
+    {"behind front a cue has a crossing", PATCH_OF((1), (10, 14, 2)), FILE_OF(1), 0, FILE_OF(2),
+     PATCH_OF((1), (10, 0, 1, 0))},
+    {"behind silent a cue does not wait", PATCH_OF((1), (10, 1, 0, 2)), FILE_OF(1), 0, FILE_OF(2),
+     PATCH_OF((1), (10, 1, 0, 1, 0))},
 };
 
 /* Every number of a refusal, and which comes first. */
@@ -416,6 +473,9 @@ int main(void)
     }
     for (size_t row = 0; row < sizeof choice_rows / sizeof choice_rows[0]; row++) {
         check_feed(&choice_rows[row]);
+    }
+    for (size_t row = 0; row < sizeof waiting_rows / sizeof waiting_rows[0]; row++) {
+        check_feed(&waiting_rows[row]);
     }
     for (size_t row = 0; row < sizeof refused_rows / sizeof refused_rows[0]; row++) {
         check_feed(&refused_rows[row]);
