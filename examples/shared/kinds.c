@@ -43,8 +43,8 @@ static const struct slice_kind slice_kinds[] = {
 static const struct node_kind node_kinds[] = {
     [WOSTHILE_NODE_PASS]   = {.name = "pass", .takes = SHAPE(ANY)},
     [WOSTHILE_NODE_SILENT] = {.name = "silent", .carries_type = true, .takes = SHAPE(ANY)},
-    [WOSTHILE_NODE_CUE]    = {.name = "cue", .takes = SHAPE(ANY)},
-    [WOSTHILE_NODE_LEVEL]  = {.name = "level", .value_bytes = 2, .takes = SHAPE(ANY)},
+    [WOSTHILE_NODE_CUE]    = {.name = "cue", .waits = true, .takes = SHAPE(ANY)},
+    [WOSTHILE_NODE_LEVEL]  = {.name = "level", .value_bytes = 2, .waits = true, .takes = SHAPE(ANY)},
     [WOSTHILE_NODE_BOTH]   = {.name = "both", .parts = 2, .input = {INPUT_WHOLE, INPUT_WHOLE}, .takes = SHAPE(ANY)},
     [WOSTHILE_NODE_LEFT]   = {.name = "left", .takes = SHAPE(BESIDE, ANY, ANY)},
     [WOSTHILE_NODE_RIGHT]  = {.name = "right", .takes = SHAPE(BESIDE, ANY, ANY)},

@@ -48,6 +48,7 @@ struct node_kind {
     const char *name;
     unsigned value_bytes;
     bool carries_type;
+    bool waits; /* for the first arrival in its input, if anything is owed there */
     unsigned parts;
     enum part_input input[PARTS_MAX];
     struct file takes; /* the shape of its input, a type without its count in which an empty part is any type */

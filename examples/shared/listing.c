@@ -118,12 +118,23 @@ static void print_type(const struct listed *listed, unsigned depth, const char *
     }
 }
 
+/* When a cue or level is sent: an author of a show has to know which of them an empty slice does not open. */
+static void print_moment(const struct listed *listed, const struct patch_node *node)
+{
+    if (node_kind(node->kind)->waits && node->output.length > 0) {
+        print_below(listed, node->depth, node->waits ? "waits" : "sends",
+                    node->waits ? "for the first cue, level, crossing or choice in what it takes"
+                                : "at its first feed: in what it takes nothing is owed");
+    }
+}
+
 /* What is known of a node of a patch that was read whole. */
-static void print_types(const struct listed *listed, const struct patch_node *node)
+static void print_known(const struct listed *listed, const struct patch_node *node)
 {
     print_type(listed, node->depth, "carries", &node->carried);
     print_type(listed, node->depth, "takes", &node->input);
     print_type(listed, node->depth, "gives", &node->output);
+    print_moment(listed, node);
 }
 
 static void list_node(struct walk *walk, unsigned depth)
@@ -143,7 +154,7 @@ static void list_node(struct walk *walk, unsigned depth)
         walk->byte = type_end((struct file){walk->listed->file.bytes, walk->end}, walk->byte);
     }
     if (walk->tree->count > 0) {
-        print_types(walk->listed, &walk->tree->nodes[walk->node++]);
+        print_known(walk->listed, &walk->tree->nodes[walk->node++]);
     }
     for (unsigned part = 0; part < kind->parts; part++) {
         list_node(walk, depth + 1);

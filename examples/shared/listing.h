@@ -22,7 +22,7 @@ void list_slice(const struct listed *listed, const struct lanes *in_force, size_
 
 /*
  * Lists the nodes of a patch, whose section begins at a byte of the file. If the tree has been read whole, each has the
- * type that it takes and the type that it gives below it.
+ * type that it takes and the type that it gives below it, and a cue or level whether it waits.
  */
 void list_nodes(const struct listed *listed, const struct patch_tree *tree, size_t section, size_t end);
 

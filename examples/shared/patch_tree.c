@@ -113,6 +113,17 @@ static struct type part_input(const struct patch_tree *tree, const struct patch_
     return type_of(cut_out(type, from, type_end(type, from)));
 }
 
+/* Is a type owed anything? If not, it is one that silent may carry, and its empty slice is complete. */
+static bool owes(const struct type *type)
+{
+    uint8_t silent[1 + WOSTHILE_TYPE_FILE_MAX] = {WOSTHILE_NODE_SILENT};
+    struct file carried = section_of(type_file(type));
+    memcpy(silent + 1, carried.bytes, carried.length);
+    struct type given;
+    return check_nodes(type_file(type), (struct file){silent, 1 + carried.length}, &given) ==
+           WOSTHILE_FAULT_NOT_NULLABLE;
+}
+
 /* Gives a node its input, and finds what it gives for it. */
 static void feed_type(struct patch_node *node, struct file nodes, struct type input)
 {
@@ -120,6 +131,7 @@ static void feed_type(struct patch_node *node, struct file nodes, struct type in
     if (input.length > 0) {
         node->number = check_nodes(type_file(&input), cut_out(nodes, node->byte, node->end), &node->output);
         node->takes_input = takes_input(node, nodes);
+        node->waits = node_kind(node->kind)->waits && owes(&input);
     }
 }
 

@@ -188,6 +188,26 @@ explains_what_is_accepted() {
         explains 0 --patch "$folder/patch" && diff "$folder/by-bytes" "$folder/out"
 }
 
+# What is told of the cues and levels of a patch, from the first to the last: moments 'waits sends' PATCH
+moments() {
+    local told
+    explains 0 --patch "$2" || return 1
+    told=$(sed -n 's/^ *waits for the first .* in what it takes$/waits/p; s/^ *sends at its first feed: .*/sends/p' "$folder/out" |
+        paste -sd ' ')
+    [ "$told" = "$1" ] && return 0
+    cat "$folder/out"
+    echo "explain --patch '$2': '$1' is due"
+    return 1
+}
+
+# A cue or level waits if anything is owed in what it takes: a cue, a level, a crossing or a choice. No other node does.
+explains_waiting() {
+    moments 'waits' '0 1 1 0 1 2' && moments 'waits' '0 1 2 0 3 3 1 44' && moments 'waits' '0 3 3 0 0 0 1 2' &&
+        moments 'waits' '0 3 5 0 0 0 3 3 0 0' && moments 'sends' '0 1 0 0 1 2' && moments 'sends' '0 3 4 0 0 0 3 3 1 44' &&
+        moments 'sends' '0 1 1 0 5 10 14 9 2 0' && moments 'waits sends' '0 3 4 1 2 0 6 4 2 10 1 0 2' &&
+        moments 'sends waits' '0 3 4 0 2 0 7 4 10 5 2 10 6 2' && moments '' '0 1 1 0 4 4 14 16 2'
+}
+
 # A type's longest slice, its length and its bytes: longest LENGTH BYTES TYPE. Given back, it is a complete slice.
 longest() {
     local length=$1 bytes=$2 type=$3
@@ -294,6 +314,7 @@ holds "counts that promise too much" explains_unread_sections
 holds "each number" explains_each_number
 holds "wrong lengths in a show" explains_wrong_lengths
 holds "what is accepted" explains_what_is_accepted
+holds "cues and levels that wait" explains_waiting
 holds "longest slices of types" explains_longest_types
 holds "longest slices of patches" explains_longest_of_patches
 holds "longest slices in the README" readme_tells_longest

@@ -1,6 +1,6 @@
 /*
  * The tables of kinds are held to the library: it accepts a tree with exactly the parts, the values, the carried types
- * and the shapes that a row lists, and has no kind that lacks a row.
+ * and the shapes that a row lists, and has no kind that lacks a row. The nodes that wait are those whose row says so.
  */
 #include "made.h"
 
@@ -108,6 +108,32 @@ static void try_shape(uint8_t kind)
     }
 }
 
+/* Does a node on a cue stay as it is when it is fed a slice of this kind? */
+static bool stays(const uint8_t *nodes, size_t count, uint8_t slice_kind)
+{
+    static const uint8_t cue = WOSTHILE_TYPE_CUE;
+    enum { BEHIND_TYPE = 3 };
+    struct made patch = section(&cue, 1), slice = section(&slice_kind, 1), left = {.length = 0};
+    uint8_t output[WOSTHILE_SLICE_FILE_MAX];
+    put(&patch, nodes, count);
+    left.length = wosthile_feed(patch.bytes, patch.length, slice.bytes, slice.length, output, sizeof output, left.bytes,
+                                sizeof left.bytes)
+                      .patch;
+    return left.length == patch.length &&
+           memcmp(left.bytes + BEHIND_TYPE, patch.bytes + BEHIND_TYPE, patch.length - BEHIND_TYPE) == 0;
+}
+
+/* A node that takes every input waits for an arrival if an empty slice leaves it as it is, and an arrival does not. */
+static void try_waiting(uint8_t kind)
+{
+    uint8_t nodes[16];
+    size_t length = node_of_kind(kind, nodes);
+    bool takes_all = node_kind(kind)->takes.length == 1;
+    bool waits =
+        takes_all && stays(nodes, length, WOSTHILE_SLICE_CUE_AWAITED) && !stays(nodes, length, WOSTHILE_SLICE_CUE_COME);
+    expect(node_kind(kind)->waits == waits, "a node that waits, or does not", (struct file){nodes, length});
+}
+
 static void try_node_kind(uint8_t kind)
 {
     uint8_t nodes[16] = {0};
@@ -123,6 +149,7 @@ static void try_node_kind(uint8_t kind)
     expect(nodes_number(shape, nodes, length) == WOSTHILE_ACCEPTED, "a node by its row", whole);
     expect(nodes_number(shape, nodes, length + 1) == WOSTHILE_FAULT_LEFT_OVER, "a node and more", whole);
     try_shape(kind);
+    try_waiting(kind);
 }
 
 /* A slice of a kind, on a type of each kind. */
