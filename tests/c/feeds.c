@@ -362,6 +362,44 @@ static void check_choices(void)
                 patch_of(repeated(lane, 31, cue), repeated(node, 31, pass)));
 }
 
+/* A cue on the largest streams: it waits while nothing has come of any lane, and opens with the last of them. */
+static void check_waiting_for_lanes(void)
+{
+    const struct bytes lane = RAW(4, 2), level = RAW(2), cue_node = RAW(2), spent = RAW(1, 0), none = NONE;
+    const struct bytes awaited = RAW(7, 3), not_yet = RAW(3), come = RAW(4, 0, 0), cue = RAW(1), cue_come = RAW(2);
+    const struct bytes empty = RAW(0), empty_lane = RAW(4, 0), nothing = RAW(7, 0);
+    check_large("a cue waits for 128 lanes", patch_of(repeated(lane, 127, level), repeated(none, 0, cue_node)),
+                repeated(awaited, 127, not_yet), 0, repeated(none, 0, cue),
+                patch_of(repeated(lane, 127, level), repeated(none, 0, cue_node)));
+    check_large("the last of 128 lanes has come", patch_of(repeated(lane, 127, level), repeated(none, 0, cue_node)),
+                repeated(awaited, 127, come), 0, repeated(none, 0, cue_come),
+                patch_of(repeated(lane, 127, empty), repeated(none, 0, spent)));
+    check_large("128 lanes in which nothing is owed",
+                patch_of(repeated(empty_lane, 127, empty), repeated(none, 0, cue_node)), repeated(nothing, 127, empty),
+                0, repeated(none, 0, cue_come), patch_of(repeated(empty_lane, 127, empty), repeated(none, 0, spent)));
+    check_large("one of 128 lanes is owed", patch_of(repeated(empty_lane, 127, level), repeated(none, 0, cue_node)),
+                repeated(nothing, 127, not_yet), 0, repeated(none, 0, cue),
+                patch_of(repeated(empty_lane, 127, level), repeated(none, 0, cue_node)));
+}
+
+/* The same on sequences nested in first parts, where the deepest leaf is the first that can come. */
+static void check_waiting_in_first_parts(void)
+{
+    const struct bytes fork = RAW(3), cue = RAW(1), in_first = RAW(5), cue_come = RAW(2), empty = RAW(0), none = NONE;
+    const struct bytes cue_node = RAW(2), spent = RAW(1, 0);
+    struct bytes forks = repeated(fork, 127, none), come = repeated(fork, 127, empty);
+    const struct bytes above = {forks.at + 2, forks.count - 2}, left = {come.at + 2, come.count - 2};
+    const struct section type = {above, cue, 128, none}, type_left = {left, cue, 127, none};
+    check_large("a cue waits for the first of 128", patch_of(file_of(type), repeated(none, 0, cue_node)),
+                repeated(in_first, 127, cue), 0, repeated(none, 0, cue),
+                patch_of(file_of(type), repeated(none, 0, cue_node)));
+    check_large("the first of 128 has come", patch_of(file_of(type), repeated(none, 0, cue_node)),
+                repeated(in_first, 127, cue_come), 0, repeated(none, 0, cue_come),
+                patch_of(file_of(type_left), repeated(none, 0, spent)));
+    struct bytes files[] = {forks, come};
+    release(files, sizeof files / sizeof files[0]);
+}
+
 /* Refusals of large files; the fault in the slice and the short buffers come after the limits of the patch. */
 static void check_limits(void)
 {
@@ -482,6 +520,8 @@ int main(void)
     }
     check_longest();
     check_choices();
+    check_waiting_for_lanes();
+    check_waiting_in_first_parts();
     check_limits();
     check_run("a run of feeds, step", run_start, run_steps, sizeof run_steps / sizeof run_steps[0]);
     check_run("a run with a choice, step", choice_start, choice_steps, sizeof choice_steps / sizeof choice_steps[0]);

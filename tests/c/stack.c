@@ -224,16 +224,45 @@ static void put_nodes(struct file *patch, int fork, struct leaf leaf, struct lea
     end(patch, contents);
 }
 
-/* The deepest of the nodes passes on the largest stream there is, through chains of pass. */
-static void make_passing(struct files *files, struct depth depth)
+/* The empty slice of that type. */
+static void put_empty(struct file *file, int forks, struct depth depth)
+{
+    if (depth.fork == 4) {
+        put_deep(file, forks, 7, LEAF(1), depth.stream);
+        return;
+    }
+    for (int count = 0; depth.fork == 3 && count < (depth.stream == FIRST_PARTS ? forks : 1); count++) {
+        put(file, 5);
+    }
+    put(file, depth.fork == 3 ? 1 : 8);
+}
+
+/* The deepest of the nodes is fed the largest stream there is, through chains of pass. */
+static void make_fed(struct files *files, struct leaf node, void (*put_slice)(struct file *, int, struct depth),
+                     struct depth depth)
 {
     size_t contents = begin(&files->whole);
     put_type(&files->whole, TYPE_FORKS, depth);
     end(&files->whole, contents);
-    put_nodes(&files->whole, 10, LEAF(0), LEAF(0), depth.nodes);
+    put_nodes(&files->whole, 10, LEAF(0), node, depth.nodes);
     contents = begin(&files->first);
-    put_complete(&files->first, TYPE_FORKS, depth);
+    put_slice(&files->first, TYPE_FORKS, depth);
     end(&files->first, contents);
+}
+
+static void make_passing(struct files *files, struct depth depth) { make_fed(files, LEAF(0), put_complete, depth); }
+
+/* A cue and a level judge the whole slice: of the empty one all of it has to be seen. */
+static void make_cue_awaited(struct files *files, struct depth depth) { make_fed(files, LEAF(2), put_empty, depth); }
+
+static void make_level_awaited(struct files *files, struct depth depth)
+{
+    make_fed(files, LEAF(3, 1, 44), put_empty, depth);
+}
+
+static void make_level_sent(struct files *files, struct depth depth)
+{
+    make_fed(files, LEAF(3, 1, 44), put_complete, depth);
 }
 
 /* A cue, and then so large a stream, of which the deepest node sends the empty slice: second, on 5. */
@@ -337,8 +366,9 @@ static void make_silents(struct files *files, struct depth depth)
 
 /* Calls of Feed, each made for every depth. */
 static void (*const feeds[])(struct files *, struct depth) = {
-    make_passing, make_waiting_in_chains,  make_waiting_in_pairs,    make_waiting_in_thens,
-    make_silents, make_crossing_in_chains, make_spreading_in_chains,
+    make_passing,       make_waiting_in_chains,  make_waiting_in_pairs,    make_waiting_in_thens,
+    make_silents,       make_crossing_in_chains, make_spreading_in_chains, make_cue_awaited,
+    make_level_awaited, make_level_sent,
 };
 
 /* How choose and chain are nested above the deepest node. */
