@@ -59,6 +59,21 @@ chooses_both_ways() {
         comes_in 'second chosen: "Southern Cross, dim"' "${shows}_south.show"
 }
 
+# However house_fills is cut, its sign is lit while the house fills, and its opening cue and lamp wait for the greeting.
+opens_with_the_greeting() {
+    local seed
+    for seed in 1 2 3 19 1000003; do
+        "$folder/frame_loop" examples/shows/house_fills.show --fast --seed "$seed" >"$folder/sent" || return 1
+        awk '/^frame / { frame = $2 + 0 }
+             /^    / { sub(/:.*/, ""); sub(/^ */, ""); sent[$0] = frame }
+             END { greeting = sent["greeting"]; sign = sent["opening sign"]
+                   exit !(sign >= 1 && sign < 10 && greeting >= 120 && sent["opening cue"] == greeting &&
+                          sent["opening lamp"] == greeting) }' "$folder/sent" && continue
+        cat "$folder/sent"
+        return 1
+    done
+}
+
 # The frame loop tells one choice of the input, this one: comes_in WORDS SHOW
 comes_in() {
     "$folder/frame_loop" "$2" --fast | grep 'came in' >"$folder/chosen"
@@ -310,6 +325,7 @@ for show in examples/shows/*.show; do
     holds "$show damaged" survives_damage "$show"
 done
 holds "choose_a_sky is played both ways" chooses_both_ways
+holds "house_fills opens with the greeting" opens_with_the_greeting
 holds "what is owed" tells_owed
 holds "damaged.show says what is wrong with it" tells_all_six
 holds "a refused patch" tells_refused_patch_alone
