@@ -74,6 +74,12 @@ opens_with_the_greeting() {
     done
 }
 
+# The README shows what the frame loop prints for house_fills, as it was recorded.
+readme_plays_house_fills() {
+    "$folder/frame_loop" examples/shows/house_fills.show --fast >"$folder/sent" || return 1
+    sed -n '/^\$ .*house_fills\.show --fast$/,/^```$/p' README.md | sed '1d;$d' | diff - "$folder/sent"
+}
+
 # The frame loop tells one choice of the input, this one: comes_in WORDS SHOW
 comes_in() {
     "$folder/frame_loop" "$2" --fast | grep 'came in' >"$folder/chosen"
@@ -326,6 +332,7 @@ for show in examples/shows/*.show; do
 done
 holds "choose_a_sky is played both ways" chooses_both_ways
 holds "house_fills opens with the greeting" opens_with_the_greeting
+holds "house_fills in the README" readme_plays_house_fills
 holds "what is owed" tells_owed
 holds "damaged.show says what is wrong with it" tells_all_six
 holds "a refused patch" tells_refused_patch_alone
