@@ -4,12 +4,13 @@
  * of 300 and of 65,535 in the place of NODE. What is due was worked out from the documents, byte by byte.
  */
 #include "small_feeds.h"
+#include "waiting.h"
 
 /* Bytes of a row that stand for others: the node, the type that it gives, that type's empty slice, and what it sends.
  */
 enum { NODE = 250, LANE = 251, AWAITED = 252, COME = 253 };
 
-enum { NODE_KINDS = 18, EMPTY_FEEDS = 1000, STEPS_MAX = 4 };
+enum { EMPTY_FEEDS = 1000, STEPS_MAX = 4 };
 
 struct form {
     const char *name;
@@ -295,14 +296,6 @@ static void check_run(const struct run *run, const struct form *form)
     count(right && same(file_at(&whole.left), file_at(&so_far.patch)), "fed as one", run->name, run->number);
 }
 
-/* Behind these kinds nothing waits: what silent sends is complete, and the others cross or choose at their first feed.
- */
-static bool never_waited_for(unsigned kind)
-{
-    return kind == WOSTHILE_NODE_SILENT || kind == WOSTHILE_NODE_FRONT || kind == WOSTHILE_NODE_MARK_FIRST ||
-           kind == WOSTHILE_NODE_MARK_SECOND;
-}
-
 /* Does the library take nodes of this kind with two parts, and with no part fewer? */
 static bool has_parts(unsigned kind)
 {
@@ -317,10 +310,8 @@ static bool has_parts(unsigned kind)
 /* Every kind of the library was tried: behind it, and in each of its parts, a node that waits and one that opens. */
 static void check_met(void)
 {
-    const struct bytes other = PATCH_OF((1), (NODE_KINDS));
-    uint32_t number = wosthile_check(other.at, other.count, NULL, 0).number;
-    count(number == WOSTHILE_FAULT_UNLISTED, "kinds of nodes", "all are counted", NODE_KINDS);
     size_t with_parts = 0;
+    count(no_other_kind(), "kinds of nodes", "all are counted", NODE_KINDS);
     for (unsigned kind = 0; kind < NODE_KINDS; kind++) {
         count(opens_met[kind][BEHIND] > 0, "never met", "opens behind a node of kind", kind);
         count((waits_met[kind][BEHIND] > 0) != never_waited_for(kind), "met or not", "waits behind kind", kind);

@@ -9,8 +9,9 @@
  */
 #include "small_feeds.h"
 #include "small_types.h"
+#include "waiting.h"
 
-enum { FEW_NODES = 5, TYPES_LEAST = 10000, NODE_KINDS = 18 };
+enum { FEW_NODES = 5, TYPES_LEAST = 10000 };
 
 /* A node that waits, with the slices that it sends while it waits and when it opens. */
 struct waiting_node {
@@ -75,7 +76,7 @@ static enum meeting meeting_of(const struct growing *slice, bool empty, bool com
     return has_kind(slice, WOSTHILE_SLICE_CROSSED) ? CROSSING_ALONE : CHOICE_ALONE;
 }
 
-/* How many slices of each kind were met, of types of each size. */
+/* How many types were met, and how many slices of each kind. */
 static size_t types_met, met[MEETINGS];
 
 struct judged {
@@ -219,21 +220,6 @@ static void try_few_nodes(struct bytes type)
             every_slice(&(struct slices){type, 0, chain_slice, &chained});
         }
     }
-}
-
-/* Behind these kinds nothing waits: what silent sends is complete, and the others cross or choose at their first feed.
- */
-static bool never_waited_for(unsigned kind)
-{
-    return kind == WOSTHILE_NODE_SILENT || kind == WOSTHILE_NODE_FRONT || kind == WOSTHILE_NODE_MARK_FIRST ||
-           kind == WOSTHILE_NODE_MARK_SECOND;
-}
-
-/* Does the library know no kind of node but those that are counted here? */
-static bool no_other_kind(void)
-{
-    const struct bytes patch = PATCH_OF((1), (NODE_KINDS));
-    return wosthile_check(patch.at, patch.count, NULL, 0).number == WOSTHILE_FAULT_UNLISTED;
 }
 
 static void tell_what_was_met(void)
