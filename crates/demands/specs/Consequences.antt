@@ -1,6 +1,7 @@
 -- What else follows from the promises, call by call: what Check, Left, Join and Longest write and what Admit says, which numbers each
--- operation gives and when 20 comes, how long an answer is, that bytes stay bytes, that a promise leaves no choice, that no slice of a run
--- is longer than Longest says, and that neither the cut of a stream nor the order of two lanes changes the show.
+-- operation gives and when 20 comes, how long an answer is, that bytes stay bytes, that a promise leaves no choice, that a patch which
+-- waits stays, that no slice of a run is longer than Longest says, and that neither the cut of a stream nor the order of two lanes changes
+-- the show.
 use mathlib.Core.Path.{_≡_, refl, sym, _∙_}
 use mathlib.Core.Bool.{true}
 use mathlib.Core.Logic.{_↔_, Iff·trans, _⊎_}
@@ -10,14 +11,14 @@ use lib.ListN.{length}
 use Rattle.stream.specs.Bounds.{type-file-limit, slice-file-limit, patch-file-limit}
 use Rattle.stream.specs.Faults.{type-numbers, patch-numbers, contains}
 use Rattle.stream.specs.Types.{Ty, par, Small}
-use Rattle.stream.specs.Prefixes.{Prefix, beside, IsPrefix, Complete, empty-prefix, derivative, Concat}
+use Rattle.stream.specs.Prefixes.{Prefix, cue-awaited, level-awaited, beside, IsPrefix, Complete, empty-prefix, Opens, derivative, Concat}
 use Rattle.stream.specs.Prefixes.Laws.{concats, concat-only}
 use Rattle.stream.specs.Reading.{Bytes, accepted}
 use Rattle.stream.specs.TypeFiles.{type-file-bytes, TypeFile}
 use Rattle.stream.specs.SliceFiles.{slice-file-bytes, SliceFile}
 use Rattle.stream.specs.Longest.{longest-prefix}
-use Rattle.node.specs.Nodes.{Node, Patch, Allowed}
-use Rattle.node.specs.Feeding.{Feeds, FeedsPatch}
+use Rattle.node.specs.Nodes.{Node, emit-cue, emit-level, Patch, Allowed}
+use Rattle.node.specs.Feeding.{Feeds, feeds-cue-waiting, feeds-level-waiting, FeedsPatch}
 use Rattle.node.specs.Feeding.Laws.{feeds, feeds-only}
 use Rattle.node.specs.PatchFiles.{patch-file-bytes, PatchFile}
 use Rattle.meaning.specs.declared.Written.{Written}
@@ -29,7 +30,7 @@ use Rattle.meaning.specs.Promises.{CheckPromise, AdmitPromise, LeftPromise, Joi
 use Rattle.demands.specs.Calls.{Wrote, WroteBoth, TooShortFor}
 use Rattle.demands.specs.Calls.Laws.{writes-aside, feeds-aside, writes-exactly, admits-complete, writes-listed, admits-listed, feeds-listed, writes-twenty, feeds-twenty, writes-bounded, feeds-bounded, writes-never-twenty, feeds-never-twenty, writes-bytes, feeds-bytes, writes-alike, admits-alike, feeds-alike, one-type}
 use Rattle.demands.specs.Runs.{Call, ByteSlices, RunEnd, Ran, Joined, AsOne, NoneLonger}
-use Rattle.demands.specs.Runs.Laws.{run-patch, runs-alike, runs-agree, one-joined, one-patch, one-prefix, run-slices-fit, run-outputs-fit}
+use Rattle.demands.specs.Runs.Laws.{stays-on-file, run-patch, runs-alike, runs-agree, one-joined, one-patch, one-prefix, run-slices-fit, run-outputs-fit}
 use Rattle.demands.specs.Runs.Files.{OnFiles, on-files}
 use Rattle.demands.specs.Demands.{demand-2-slice, demand-2-sends}
 
@@ -221,6 +222,21 @@ module _ {start : List ℕ} {calls : List Call} {r : RunEnd} (ran : Ran start ca
       → length (slice-file-bytes sent) ≤ length output-lent → length (patch-file-bytes next) ≤ length patch-lent
       → WroteBoth (slice-file-bytes sent) (patch-file-bytes next) output-lent patch-lent answer output-after patch-after
   run-sends taken rule h k = demand-2-sends call (run-accepted ran patch b) taken rule h k
+
+-- Document 02, M-103, of a patch that is a node 2 or 3: until the slice "differs from its type's empty slice or is complete" the node sends
+-- "the empty slice of [its] own type" and stays, so that the patch file is written back, byte for byte.
+
+module _ {file slice output-lent patch-lent output-after patch-after : List ℕ} {answer : Fed}
+    (call : FeedPromise file slice output-lent patch-lent answer output-after patch-after)
+    (patch : PatchFile file) (taken : SliceFile (patch .trees .input) slice) (closed : Opens (patch .trees .input) (taken .prefix) → ⊥)
+    (room : length file ≤ length patch-lent) where
+  pub cue-stays : patch .trees .node ≡ emit-cue → length (slice-file-bytes cue-awaited) ≤ length output-lent
+      → WroteBoth (slice-file-bytes cue-awaited) file output-lent patch-lent answer output-after patch-after
+  cue-stays is-cue h = stays-on-file call patch taken closed (rw is-cue (feeds-cue-waiting closed)) h room
+
+  pub level-stays : {v : ℕ} → patch .trees .node ≡ emit-level v → length (slice-file-bytes level-awaited) ≤ length output-lent
+      → WroteBoth (slice-file-bytes level-awaited) file output-lent patch-lent answer output-after patch-after
+  level-stays is-level h = stays-on-file call patch taken closed (rw is-level (feeds-level-waiting closed)) h room
 
 -- What a link has to carry: no slice that a run takes is longer than the longest slice of the input type at the start, and no output
 -- longer than that of the output type. (The input type file is the first section of the patch; Check writes the output type file.)

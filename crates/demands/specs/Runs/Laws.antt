@@ -9,14 +9,14 @@ use lib.ListN.{length, take, drop, length-append}
 use lib.Seq.{take-append-seam}
 use borrow.Author.Tests.{eqb-true, eqb-false}
 use Rattle.stream.specs.Types.{Ty, Small}
-use Rattle.stream.specs.Prefixes.{Prefix, IsPrefix, derivative}
-use Rattle.stream.specs.Prefixes.Laws.{concat-is-prefix, derivative-concat, concats, concat-only, derivative-size}
+use Rattle.stream.specs.Prefixes.{Prefix, IsPrefix, Opens, derivative}
+use Rattle.stream.specs.Prefixes.Laws.{closed-derivative, concat-is-prefix, derivative-concat, concats, concat-only, derivative-size}
 use Rattle.stream.specs.Reading.{Bytes, accepted}
 use Rattle.stream.specs.Reading.Laws.{go-on-accepted}
 use Rattle.stream.specs.SliceFiles.{slice-file, slice-file-bytes, SliceFile}
 use Rattle.stream.specs.SliceFiles.Laws.{prefix-short, slice-file-sound, slice-file-complete}
 use Rattle.node.specs.Nodes.{Node, Allowed, patch-of, Patch}
-use Rattle.node.specs.Feeding.{FeedsPatch}
+use Rattle.node.specs.Feeding.{Feeds, FeedsPatch}
 use Rattle.node.specs.Feeding.Functions.{sends, leaves, patch-left}
 use Rattle.node.specs.Feeding.Laws.{Preserved, preserved, leaves-allowed, feeds}
 use Rattle.node.specs.Feeding.Lists.{Pieces, no-more, piece, concat-all, derivative-all, sends-all, leaves-all, sends-pieces, concat-all-is-prefix, derivative-concat-all, sends-concat-all, leaves-concat-all, leaves-all-allowed}
@@ -147,6 +147,18 @@ pub feed-by-rules : {b : Patch} {o : Prefix} {file slice output-lent patch-lent 
 feed-by-rules call patch taken rule i j =
     feeds-exactly call
     (rw (patch .bytes, taken .bytes) at (feed-answers (patch .allowed) (taken .is-prefix)) ∙ ap accepted (left-only (taken .is-prefix) rule)) i j
+
+-- Where the node stays, on a prefix that opens nothing, the patch file is written back, byte for byte.
+pub stays-on-file : {o : Prefix} {file slice output-lent patch-lent output-after patch-after : List ℕ} {answer : Fed}
+    → FeedPromise file slice output-lent patch-lent answer output-after patch-after
+    → (patch : PatchFile file) (taken : SliceFile (patch .trees .input) slice) → (Opens (patch .trees .input) (taken .prefix) → ⊥)
+    → Feeds (patch .trees .input) (patch .trees .node) (taken .prefix) o (patch .trees .node)
+    → length (slice-file-bytes o) ≤ length output-lent → length file ≤ length patch-lent
+    → WroteBoth (slice-file-bytes o) file output-lent patch-lent answer output-after patch-after
+stays-on-file call patch taken closed rule i j =
+    let fed : FeedsPatch (patch .trees) (taken .prefix) _ (patch .trees) =
+    record { by-node = rule; input-left = sym (closed-derivative (taken .is-prefix) closed) } in
+    rw (patch .bytes) at (feed-by-rules call patch taken fed i (rw (patch .bytes) j))
 
 -- The rules define what is sent and left, of every prefix.
 pub feed-defined : {file slice : List ℕ} (patch : PatchFile file) (taken : SliceFile (patch .trees .input) slice)
