@@ -3,13 +3,17 @@
 use crate::formats::files::{
     contents, section, LONGEST_PATCH_FILE, LONGEST_SLICE_FILE, LONGEST_TYPE_FILE,
 };
-use crate::generators::patches::{any_patch, crossing_patch};
+use crate::generators::patches::{any_patch, crossing_patch, waiting_patch};
 use crate::generators::random::Random;
 use crate::generators::slices::{slice_at, slice_of, Pace};
 
 /// A patch, most often one that is accepted, and a slice of its input type.
 pub fn feed_files(random: &mut Random) -> [Vec<u8>; 2] {
-    let mut patch = any_patch(random);
+    let mut patch = if random.chance(30) {
+        waiting_patch(random)
+    } else {
+        any_patch(random)
+    };
     if random.chance(30) {
         patch = fed(random, patch);
     }
@@ -20,7 +24,8 @@ pub fn feed_files(random: &mut Random) -> [Vec<u8>; 2] {
 /// The patch that a few feeds leave; a patch that is refused stays as it is.
 pub fn fed(random: &mut Random, mut patch: Vec<u8>) -> Vec<u8> {
     for _ in 0..random.between(1, 6) {
-        let pace = Pace::gentle(random);
+        let gentle = Pace::gentle(random);
+        let pace = random.pick(&[gentle, gentle, Pace::NOTHING]);
         let slice = section(&slice_at(random, pace, contents(&patch)).slice);
         let (mut output, mut left) = ([0; LONGEST_SLICE_FILE], vec![0; LONGEST_PATCH_FILE]);
         if let Ok((_, length)) = second_interpreter::feed(&patch, &slice, &mut output, &mut left) {
@@ -33,10 +38,10 @@ pub fn fed(random: &mut Random, mut patch: Vec<u8>) -> Vec<u8> {
 /// An accepted patch, new or left by earlier feeds.
 pub fn accepted_patch(random: &mut Random, old: bool) -> Vec<u8> {
     loop {
-        let mut patch = if random.chance(70) {
-            crossing_patch(random)
-        } else {
-            any_patch(random)
+        let mut patch = match random.below(10) {
+            0..=4 => crossing_patch(random),
+            5..=7 => waiting_patch(random),
+            _ => any_patch(random),
         };
         if old {
             patch = fed(random, patch);

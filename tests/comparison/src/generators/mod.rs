@@ -11,3 +11,4 @@ pub mod sides;
 pub mod slices;
 mod targets;
 pub mod types;
+mod waiting;

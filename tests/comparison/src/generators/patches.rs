@@ -35,6 +35,8 @@ const LEAVES: [u8; 14] = [
 ];
 const KEEPING: [u8; 5] = [PASS, REGROUP_RIGHT, REGROUP_LEFT, SPREAD, FRONT];
 const CHANGING: [u8; 5] = [FIRST, SECOND, REGROUP_RIGHT, REGROUP_LEFT, SPREAD];
+/// Those that wait for an arrival.
+const WAITING: [u8; 2] = [CUE, LEVEL];
 
 /// So many kinds are tried at a leaf before one is taken that fits everywhere.
 const TRIES: usize = 8;
@@ -46,6 +48,7 @@ struct Style {
     chooses: usize,
     chains: usize,
     thens: usize,
+    waiting: usize,
     keeping: usize,
     changing: usize,
     misfits: usize,
@@ -60,6 +63,7 @@ impl Style {
             chooses: random.pick(&[0, 50, 90]),
             chains: random.pick(&[10, 40, 80, 100]),
             thens: random.pick(&[20, 50, 90]),
+            waiting: random.pick(&[0, 0, 0, 50]),
             keeping: random.pick(&[0, 50, 90]),
             changing: 0,
             misfits: random.pick(&[0, 0, 0, 0, 0, 0, 0, 3]),
@@ -74,6 +78,7 @@ impl Style {
             chooses: 90,
             chains: random.pick(&[20, 50]),
             thens: 90,
+            waiting: random.pick(&[0, 0, 20, 50]),
             keeping: random.pick(&[0, 30, 70]),
             changing: random.pick(&[50, 70]),
             misfits: 0,
@@ -116,6 +121,14 @@ pub fn crossing_patch(random: &mut Random) -> Vec<u8> {
     grown(random, style, &input, forks)
 }
 
+/// A patch file in which a cue or a level is behind a node of any kind, or under one: of few nodes,
+/// so that what they wait for comes.
+pub fn waiting_patch(random: &mut Random) -> Vec<u8> {
+    let style = Style::crossing(random);
+    let (input, root) = Grower { random, style }.waiting();
+    patch_file(&input, &root.node)
+}
+
 /// A patch file with so many forks among its nodes, and one leaf more than that.
 pub fn patch_of(random: &mut Random, forks: usize) -> Vec<u8> {
     let input = any_type(random);
@@ -156,7 +169,7 @@ fn any_type(random: &mut Random) -> Type {
     a_type(random, &style, forks)
 }
 
-fn a_type(random: &mut Random, style: &types::Style, forks: usize) -> Type {
+pub(super) fn a_type(random: &mut Random, style: &types::Style, forks: usize) -> Type {
     let mut tree = Vec::new();
     write_type(random, style, forks, &mut tree);
     type_of(&tree)
@@ -191,8 +204,20 @@ impl Grower<'_> {
             return self.leaf(input, room);
         }
         let first = self.style.shape.in_first(self.random, forks - 1);
-        let forks = [first, forks - 1 - first];
-        match (self.fork(input, room), input) {
+        let kind = self.fork(input, room);
+        self.grow_fork(kind, input, [first, forks - 1 - first], room)
+    }
+
+    /// A fork of this kind, with so many forks in each of its parts. Where the kind does not fit it
+    /// is both.
+    pub(super) fn grow_fork(
+        &mut self,
+        kind: u8,
+        input: &Type,
+        forks: [usize; 2],
+        room: usize,
+    ) -> Grown {
+        match (kind, input) {
             (CHAIN, _) => {
                 let one = self.grow(input, forks[0], Type::LIMIT);
                 let other = self.grow(&one.gives, forks[1], room);
@@ -305,7 +330,9 @@ impl Grower<'_> {
     }
 
     fn leaf_kind(&mut self) -> u8 {
-        let kinds: &[u8] = if self.random.chance(self.style.changing) {
+        let kinds: &[u8] = if self.random.chance(self.style.waiting) {
+            &WAITING
+        } else if self.random.chance(self.style.changing) {
             &CHANGING
         } else if self.random.chance(self.style.keeping) {
             &KEEPING
@@ -316,7 +343,7 @@ impl Grower<'_> {
     }
 
     /// A node of this kind, which need not fit. What it carries leaves it room, if there is any.
-    fn leaf_of(&mut self, kind: u8, input: &Type, room: usize) -> Node {
+    pub(super) fn leaf_of(&mut self, kind: u8, input: &Type, room: usize) -> Node {
         match kind {
             PASS => Node::Pass,
             SILENT => Node::silent(self.carried(room)),

@@ -63,17 +63,40 @@ impl Pace {
     }
 }
 
-/// A slice of the type with this tree, at any pace.
+/// A slice of the type with this tree: mostly at any pace, often with nothing in it or with one
+/// thing alone.
 pub fn slice_of(random: &mut Random, tree: &[u8]) -> Come {
-    let pace = Pace::any(random);
-    slice_at(random, pace, tree)
+    match random.below(10) {
+        0 => slice_at(random, Pace::NOTHING, tree),
+        1..=2 => one_arrival(random, tree),
+        _ => {
+            let pace = Pace::any(random);
+            slice_at(random, pace, tree)
+        }
+    }
 }
 
 /// A slice of the type with this tree, at this pace.
 pub fn slice_at(random: &mut Random, pace: Pace, tree: &[u8]) -> Come {
+    written(random, Coming::AtPace(pace), tree).come
+}
+
+/// A slice of the type with this tree that differs from the empty one in one thing: a cue, a level,
+/// a crossing or a choice. Often it is the last that could come. Where nothing can it is the empty
+/// slice.
+pub fn one_arrival(random: &mut Random, tree: &[u8]) -> Come {
+    let could = written(random, Coming::Only(usize::MAX), tree).could;
+    let any = random.below(could);
+    let last = could.saturating_sub(1);
+    let before = random.pick(&[any, any, last]);
+    written(random, Coming::Only(before), tree).come
+}
+
+fn written<'a>(random: &'a mut Random, coming: Coming, tree: &'a [u8]) -> Writer<'a> {
     let mut writer = Writer {
         random,
-        pace,
+        coming,
+        could: 0,
         tree,
         at: 0,
         come: Come {
@@ -82,19 +105,39 @@ pub fn slice_at(random: &mut Random, pace: Pace, tree: &[u8]) -> Come {
         },
     };
     writer.write(false);
-    writer.come
+    writer
+}
+
+/// Which of the things that could come do.
+#[derive(Clone, Copy, Debug)]
+enum Coming {
+    /// Each by chance.
+    AtPace(Pace),
+    /// The one that has so many before it, and nothing else.
+    Only(usize),
 }
 
 /// Walks a type once, from left to right.
 struct Writer<'a> {
     random: &'a mut Random,
-    pace: Pace,
+    coming: Coming,
+    /// How many things could have come so far.
+    could: usize,
     tree: &'a [u8],
     at: usize,
     come: Come,
 }
 
 impl Writer<'_> {
+    /// Whether the next of the things that could come does. At a pace it has this chance.
+    fn comes(&mut self, chance: fn(Pace) -> usize) -> bool {
+        self.could += 1;
+        match self.coming {
+            Coming::AtPace(pace) => self.random.chance(chance(pace)),
+            Coming::Only(before) => self.could - 1 == before,
+        }
+    }
+
     /// Writes a slice of the type at hand, a complete one if it has to be.
     fn write(&mut self, complete: bool) {
         let kind = self.tree[self.at];
@@ -108,12 +151,12 @@ impl Writer<'_> {
                 self.write(complete);
                 self.write(complete);
             }
-            type_kind::EITHER if complete || self.random.chance(self.pace.choose) => {
+            type_kind::EITHER if complete || self.comes(|pace| pace.choose) => {
                 self.chosen(complete);
             }
             type_kind::EITHER => self.none_chosen(),
             type_kind::EMPTY => self.leaf(&[slice_kind::NOTHING], kind),
-            leaf if complete || self.random.chance(self.pace.come) => self.leaf_come(leaf),
+            leaf if complete || self.comes(|pace| pace.come) => self.leaf_come(leaf),
             type_kind::CUE => self.leaf(&[slice_kind::CUE_AWAITED], kind),
             _ => self.leaf(&[slice_kind::LEVEL_AWAITED], kind),
         }
@@ -124,11 +167,12 @@ impl Writer<'_> {
         let first = &self.tree[self.at..type_end(self.tree, self.at)];
         let spent =
             (first.iter()).all(|kind| matches!(*kind, type_kind::EMPTY | type_kind::BESIDE));
-        self.random.chance(if spent {
-            self.pace.cross_spent
-        } else {
-            self.pace.cross
-        })
+        match self.coming {
+            _ if spent => self.comes(|pace| pace.cross_spent),
+            Coming::AtPace(pace) => self.random.chance(pace.cross),
+            // With this crossing more than one thing would come.
+            Coming::Only(_) => false,
+        }
     }
 
     fn leaf(&mut self, slice: &[u8], left: u8) {

@@ -10,7 +10,7 @@ use crate::formats::trees::type_of;
 use crate::generators::damage::{damage, few_bytes, SLICE_KINDS};
 use crate::generators::feeds::accepted_patch;
 use crate::generators::random::Random;
-use crate::generators::slices::{slice_at, Pace};
+use crate::generators::slices::{one_arrival, slice_at, Come, Pace};
 use crate::runs::demand::Demand;
 use crate::runs::recut::recut;
 use crate::runs::room::Room;
@@ -34,6 +34,9 @@ pub struct Step {
 struct Plan {
     /// At most so many.
     feeds: usize,
+    /// At first so many bring nothing, as while the house fills; and then so many one thing each.
+    empty: usize,
+    single: usize,
     pace: Pace,
     /// The chances, in a hundred, of a slice that need not fit and of buffers that need not.
     faults: usize,
@@ -49,8 +52,15 @@ impl Plan {
             9..=16 => random.between(10, 40),
             _ => random.between(40, 120),
         };
+        let empty = match random.below(4) {
+            0..=1 => 0,
+            2 => random.between(1, 4),
+            _ => random.between(5, 40),
+        };
         Plan {
             feeds,
+            empty,
+            single: random.pick(&[0, 0, 2, 5]),
             pace: Pace::gentle(random),
             faults: random.pick(&[0, 0, 10, 10, 30, 30, 100]),
             short: random.pick(&[0, 10, 30]),
@@ -190,13 +200,8 @@ impl Run {
 
     /// A slice of what is left of the input, or one that need not be.
     fn next_slice(&self, random: &mut Random) -> Vec<u8> {
-        let pace = match random.below(20) {
-            0..=1 => Pace::NOTHING,
-            2 => Pace::any(random),
-            3 if random.chance(20) => Pace::ALL,
-            _ => self.plan.pace,
-        };
-        let mut slice = section(&slice_at(random, pace, contents(&self.patch)).slice);
+        let left = contents(&self.patch);
+        let mut slice = section(&self.next_come(random, left).slice);
         if random.chance(self.plan.faults) {
             match random.below(4) {
                 // What comes once more is refused, unless it brought nothing.
@@ -206,5 +211,22 @@ impl Run {
             }
         }
         slice
+    }
+
+    /// A slice of what is left of the input.
+    fn next_come(&self, random: &mut Random, left: &[u8]) -> Come {
+        if self.feeds < self.plan.empty {
+            return slice_at(random, Pace::NOTHING, left);
+        }
+        if self.feeds < self.plan.empty + self.plan.single {
+            return one_arrival(random, left);
+        }
+        let pace = match random.below(20) {
+            0..=1 => Pace::NOTHING,
+            2 => Pace::any(random),
+            3 if random.chance(20) => Pace::ALL,
+            _ => self.plan.pace,
+        };
+        slice_at(random, pace, left)
     }
 }
