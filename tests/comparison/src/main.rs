@@ -124,6 +124,7 @@ fn compare_all(words: &[&str]) -> Result<(), Stop> {
         "{} choices were made, {in_runs} of them in runs",
         alone + in_runs
     )?;
+    writeln!(Output, "{}", tally.waits.told())?;
     writeln!(
         Output,
         "{} calls of Longest: {}",

@@ -78,6 +78,22 @@ pub fn choices(tree: &[u8]) -> u64 {
     roots.filter(|at| is_choice(tree[*at])).count() as u64
 }
 
+/// Whether a slice brings anything: a cue, a level, a crossing or a choice. The empty slice of a type
+/// brings nothing, and every other slice of it does.
+pub fn brings(tree: &[u8]) -> bool {
+    slice_roots(tree).into_iter().any(|at| {
+        !matches!(
+            tree[at],
+            slice_kind::NOTHING
+                | slice_kind::CUE_AWAITED
+                | slice_kind::LEVEL_AWAITED
+                | slice_kind::IN_FIRST
+                | slice_kind::BESIDE
+                | slice_kind::NONE_CHOSEN
+        )
+    })
+}
+
 /// The root of a node, and how deep it lies; the outermost has depth 1.
 #[derive(Clone, Copy, Debug)]
 pub struct Root {

@@ -25,6 +25,30 @@ pub fn patch_trees(patch: &[u8]) -> (Type, Node) {
     )
 }
 
+/// The kind of a node.
+pub fn kind_of(node: &Node) -> u8 {
+    match node {
+        Node::Pass => node_kind::PASS,
+        Node::Silent(_) => node_kind::SILENT,
+        Node::Cue => node_kind::CUE,
+        Node::Level(_) => node_kind::LEVEL,
+        Node::Both(..) => node_kind::BOTH,
+        Node::Left => node_kind::LEFT,
+        Node::Right => node_kind::RIGHT,
+        Node::First => node_kind::FIRST,
+        Node::Second => node_kind::SECOND,
+        Node::Then(..) => node_kind::THEN,
+        Node::Chain(..) => node_kind::CHAIN,
+        Node::RegroupRight => node_kind::REGROUP_RIGHT,
+        Node::RegroupLeft => node_kind::REGROUP_LEFT,
+        Node::Spread => node_kind::SPREAD,
+        Node::Front => node_kind::FRONT,
+        Node::Choose(..) => node_kind::CHOOSE,
+        Node::MarkFirst(_) => node_kind::MARK_FIRST,
+        Node::MarkSecond(_) => node_kind::MARK_SECOND,
+    }
+}
+
 struct Reader<'a> {
     tree: &'a [u8],
     at: usize,

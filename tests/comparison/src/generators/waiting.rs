@@ -29,7 +29,10 @@ fn in_order<Tree>(is_first: bool, one: Tree, other: Tree) -> [Tree; 2] {
 impl Grower<'_> {
     /// An input type, and the nodes of a patch on it.
     pub(super) fn waiting(&mut self) -> (Type, Grown) {
-        let kind = self.random.below(usize::from(LISTED)) as u8;
+        let any = self.random.below(usize::from(LISTED)) as u8;
+        let part = self.random.pick(&[LEFT, RIGHT, FIRST, SECOND]);
+        // Behind those that send a part it matters most which part comes first.
+        let kind = self.random.pick(&[any, any, part]);
         let mut input = self.taken_by(kind);
         let mut grown = if self.random.chance(BARE) {
             self.waiting_on(&input)

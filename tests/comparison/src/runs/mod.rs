@@ -15,6 +15,7 @@ use crate::runs::demand::Demand;
 use crate::runs::recut::recut;
 use crate::runs::room::Room;
 use crate::tallies::feeds::Position;
+use crate::tallies::waits::Waits;
 use crate::tallies::Tally;
 
 mod demand;
@@ -60,7 +61,7 @@ impl Plan {
         Plan {
             feeds,
             empty,
-            single: random.pick(&[0, 0, 2, 5]),
+            single: random.pick(&[0, 1, 1, 2, 5]),
             pace: Pace::gentle(random),
             faults: random.pick(&[0, 0, 10, 10, 30, 30, 100]),
             short: random.pick(&[0, 10, 30]),
@@ -97,15 +98,18 @@ impl Runs {
             steps: Vec::new(),
             patch: start.clone(),
             slice: Vec::new(),
+            waits: Waits::default(),
         };
         let demand = run
             .go(&mut self.random, noise, tally, demand)
             .map_err(|text| format!("{text}\n{}", run_so_far(&start, &run.steps)))?;
         tally.runs.add_run(&run.steps, run.feeds, old);
+        tally.waits.add_run(&run.steps, &run.waits);
         if !run.steps.is_empty() {
             let anew = recut(&mut self.random, &mut Asking { noise }, &demand, &run.steps)
                 .map_err(|text| format!("{text}\n{}", run_so_far(&start, &run.steps)))?;
             tally.runs.add_recut(&anew);
+            tally.waits.add_recut(&anew, &run.waits);
         }
         Ok(())
     }
@@ -136,6 +140,7 @@ struct Run {
     patch: Vec<u8>,
     /// The slice of the last call, accepted or not.
     slice: Vec<u8>,
+    waits: Waits,
 }
 
 impl Run {
@@ -160,7 +165,8 @@ impl Run {
             let position = Position::InRun {
                 after: self.steps.len(),
             };
-            tally.feeds.add(position, &call.files, &agreed.files)?;
+            let openings = (tally.feeds).add(position, &call.files, &agreed.files)?;
+            self.waits.follow(&openings)?;
             self.accept(agreed.files);
             let step = self.steps.last().expect("one was accepted");
             demand.after(&mut Asking { noise }, &step.slice, &step.fed)?;

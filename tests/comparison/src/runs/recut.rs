@@ -7,10 +7,11 @@ use crate::runs::demand::Demand;
 use crate::runs::Step;
 
 /// What a new cut was like.
-#[derive(Clone, Copy, Debug, Default)]
+#[derive(Clone, Debug, Default)]
 pub struct Anew {
-    /// How many feeds it had, and how many of them brought several slices as one.
-    pub feeds: usize,
+    /// The steps of the run that its feeds begin with.
+    pub begins: Vec<usize>,
+    /// How many of its feeds brought several slices as one.
     pub joined: usize,
 }
 
@@ -37,7 +38,7 @@ pub fn recut(
             return Err("cut anew, the stream sends or leaves something else".to_string());
         }
         demand.after(asking, &slice, &fed)?;
-        anew.feeds += 1;
+        anew.begins.push(steps.len() - rest.len());
         anew.joined += usize::from(group.len() > 1);
         patch = fed.left;
         rest = others;

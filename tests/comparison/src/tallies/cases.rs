@@ -1,15 +1,16 @@
-//! Which of document 01's cases a feed meets: every node of the patch, with the slice that comes to
-//! it.
+//! Which of document 01's cases a node meets with the slice that comes to it.
 
-use second_interpreter::{empty_slice, feed_node, output_type, Node, Slice, Type};
+use second_interpreter::{Node, Slice};
 
-/// The cases, in the order of the kinds. Where a node does one thing before a crossing or a choice
-/// and another after it, each is a case.
-pub const CASES: [&str; 28] = [
+/// The cases, in the order of the kinds. Where a node does one thing before an arrival, a crossing or
+/// a choice and another after it, each is a case.
+pub const CASES: [&str; 30] = [
     "pass",
     "silent",
-    "cue",
-    "level",
+    "cue waits",
+    "cue sends",
+    "level waits",
+    "level sends",
     "both",
     "left",
     "right",
@@ -39,17 +40,23 @@ pub const CASES: [&str; 28] = [
 /// How many nodes met each case.
 pub type Met = [u64; CASES.len()];
 
-/// The nodes were checked, and the slice was read against their input type.
-const FITS: &str = "a checked node takes every slice of its input";
+/// Counts a case by its name.
+pub fn count(met: &mut Met, name: &str) {
+    let case = CASES.iter().position(|case| *case == name);
+    met[case.expect("the names are those of the cases")] += 1;
+}
 
-fn name(node: &Node, slice: &Slice) -> &'static str {
+/// The case of a node. What a cue or a level does is told by what is left of it: whether it waits.
+pub fn name(node: &Node, slice: &Slice, waits: bool) -> &'static str {
     let crossed = matches!(slice, Slice::Crossed(..));
     let by_crossing = |before, after| if crossed { after } else { before };
     match node {
         Node::Pass => "pass",
         Node::Silent(_) => "silent",
-        Node::Cue => "cue",
-        Node::Level(_) => "level",
+        Node::Cue if waits => "cue waits",
+        Node::Cue => "cue sends",
+        Node::Level(_) if waits => "level waits",
+        Node::Level(_) => "level sends",
         Node::Both(..) => "both",
         Node::Left => "left",
         Node::Right => "right",
@@ -78,67 +85,5 @@ fn name(node: &Node, slice: &Slice) -> &'static str {
         },
         Node::MarkFirst(_) => "mark first",
         Node::MarkSecond(_) => "mark second",
-    }
-}
-
-/// Counts the cases of the node and of its parts. Answers what the node sends, which is what comes
-/// to the next one in a chain, and the type that it gives.
-pub fn walk(node: &Node, input: &Type, slice: &Slice, met: &mut Met) -> (Slice, Type) {
-    let name = name(node, slice);
-    let case = CASES.iter().position(|case| *case == name).expect(FITS);
-    met[case] += 1;
-    match node {
-        Node::Both(left, right) => {
-            let (left, left_type) = walk(left, input, slice, met);
-            let (right, right_type) = walk(right, input, slice, met);
-            (
-                Slice::beside(left, right),
-                Type::beside(left_type, right_type),
-            )
-        }
-        Node::Then(first, second) => walk_then([first, second], input, slice, met),
-        Node::Chain(first, second) => {
-            let (sent, between) = walk(first, input, slice, met);
-            walk(second, &between, &sent, met)
-        }
-        Node::Choose(first, second) => walk_choose([first, second], input, slice, met),
-        leaf => (
-            feed_node(leaf, input, slice).expect(FITS).sent,
-            output_type(leaf, input).expect(FITS),
-        ),
-    }
-}
-
-fn walk_then(parts: [&Node; 2], input: &Type, slice: &Slice, met: &mut Met) -> (Slice, Type) {
-    let [first, second] = parts;
-    let (first_input, second_input) = input.sequence_parts().expect(FITS);
-    match slice {
-        Slice::Crossed(b, q) => {
-            let (b, first_type) = walk(first, first_input, b, met);
-            let (q, second_type) = walk(second, second_input, q, met);
-            (
-                Slice::crossed(b, q),
-                Type::sequence(first_type, second_type),
-            )
-        }
-        Slice::Uncrossed(p) => {
-            let (p, first_type) = walk(first, first_input, p, met);
-            let second_type = output_type(second, second_input).expect(FITS);
-            (Slice::uncrossed(p), Type::sequence(first_type, second_type))
-        }
-        _ => unreachable!("{FITS}"),
-    }
-}
-
-fn walk_choose(parts: [&Node; 2], input: &Type, slice: &Slice, met: &mut Met) -> (Slice, Type) {
-    let [first, second] = parts;
-    let (first_input, second_input) = input.either_parts().expect(FITS);
-    match slice {
-        Slice::FirstChosen(p) => walk(first, first_input, p, met),
-        Slice::SecondChosen(q) => walk(second, second_input, q, met),
-        _ => {
-            let gives = output_type(first, first_input).expect(FITS);
-            (empty_slice(&gives), gives)
-        }
     }
 }

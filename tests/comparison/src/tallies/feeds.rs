@@ -7,7 +7,9 @@ use second_interpreter::{slice_file, Node};
 use crate::formats::files::contents;
 use crate::formats::preorder::choices;
 use crate::formats::trees::{patch_trees, slice_tree};
-use crate::tallies::cases::{walk, Met, CASES};
+use crate::tallies::cases::{Met, CASES};
+use crate::tallies::openings::{Opening, OpeningTally};
+use crate::tallies::walk::Walk;
 
 /// Where a feed is made.
 #[derive(Clone, Copy, Debug, PartialEq, Eq)]
@@ -34,32 +36,35 @@ pub struct FeedTally {
     longer: u64,
     /// The choices in slices of calls of their own.
     choices_alone: u64,
+    openings: OpeningTally,
 }
 
 impl FeedTally {
-    /// Counts an accepted feed. Says if what the walk finds is not what was sent.
+    /// Counts an accepted feed. Answers what it did to each cue and level of the patch, or says if
+    /// what is found by following it is not what was sent.
     pub fn add(
         &mut self,
         position: Position,
         files: &[Vec<u8>],
         written: &[Vec<u8>],
-    ) -> Result<(), String> {
+    ) -> Result<Vec<Opening>, String> {
         let [patch, slice] = files else {
             unreachable!("Feed has two files");
         };
         let (input, node) = patch_trees(patch);
-        let mut met = Met::default();
-        let (sent, _) = walk(&node, &input, &slice_tree(contents(slice)), &mut met);
+        let (_, left) = patch_trees(&written[1]);
+        let (walk, sent) = Walk::of(&node, &input, &slice_tree(contents(slice)), &left)?;
         if slice_file(&sent) != written[0] {
-            return Err("the walk over the cases sends something else".to_string());
+            return Err("the walk over the nodes sends something else".to_string());
         }
+        self.openings.add(&walk.openings, contents(slice))?;
         let columns: &[usize] = match position {
             Position::Alone => &[0],
             Position::InRun { after } if after < LATE => &[1],
             Position::InRun { .. } => &[1, 2],
         };
         for column in columns {
-            for (feeds, times) in self.feeds[*column].iter_mut().zip(met) {
+            for (feeds, times) in self.feeds[*column].iter_mut().zip(walk.met) {
                 *feeds += u64::from(times > 0);
             }
         }
@@ -68,7 +73,7 @@ impl FeedTally {
         }
         self.largest += u64::from(node.count() == Node::LIMIT);
         self.longer += u64::from(written[1].len() > patch.len());
-        Ok(())
+        Ok(walk.openings)
     }
 
     /// The choices in slices of calls of their own.
@@ -91,6 +96,7 @@ impl FeedTally {
                 gaps.push(format!("no accepted feed {what}"));
             }
         }
+        gaps.extend(self.openings.gaps());
         gaps
     }
 
@@ -121,6 +127,6 @@ impl fmt::Display for FeedTally {
         for (times, what) in self.extremes() {
             writeln!(out, "{times} times an accepted feed {what}")?;
         }
-        Ok(())
+        write!(out, "\n{}", self.openings)
     }
 }

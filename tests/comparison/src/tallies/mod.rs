@@ -10,13 +10,17 @@ use crate::tallies::longest::LongestTally;
 use crate::tallies::patches::PatchTally;
 use crate::tallies::runs::RunTally;
 use crate::tallies::streams::StreamTally;
+use crate::tallies::waits::WaitTally;
 
 mod cases;
 pub(crate) mod feeds;
 mod longest;
+mod openings;
 mod patches;
 mod runs;
 mod streams;
+pub(crate) mod waits;
+mod walk;
 
 /// The numbers that the operations can answer.
 const NUMBERS: [u32; 14] = [
@@ -72,6 +76,8 @@ pub struct Tally {
     pub longest: LongestTally,
     /// The runs, whose feeds are not among the calls.
     pub runs: RunTally,
+    /// The cues and levels that waited in runs.
+    pub waits: WaitTally,
 }
 
 impl Tally {
@@ -127,6 +133,7 @@ impl Tally {
         gaps.extend(self.feeds.gaps());
         gaps.extend(self.longest.gaps());
         gaps.extend(self.runs.gaps());
+        gaps.extend(self.waits.gaps());
         for operation in Operation::ALL {
             let counts = &self.counts[operation as usize];
             if counts[0] * 100 < self.calls(operation) * LEAST_ACCEPTED {
@@ -174,6 +181,7 @@ impl fmt::Display for Tally {
             self.complete
         )?;
         write!(out, "\n{}\n{}", self.streams, self.patches)?;
-        write!(out, "\n{}\n{}\n{}", self.feeds, self.longest, self.runs)
+        write!(out, "\n{}\n{}\n{}", self.feeds, self.longest, self.runs)?;
+        write!(out, "\n{}", self.waits)
     }
 }

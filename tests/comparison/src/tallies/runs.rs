@@ -99,7 +99,7 @@ impl RunTally {
     /// Counts a stream that was cut anew.
     pub fn add_recut(&mut self, anew: &Anew) {
         self.recuts += 1;
-        self.recut_feeds += anew.feeds as u64;
+        self.recut_feeds += anew.begins.len() as u64;
         self.joined += anew.joined as u64;
     }
 

@@ -1,0 +1,242 @@
+//! Which cues and levels waited for an arrival, and which sent, counted: by where they are, and by
+//! what the slice that came to them brought.
+
+use std::fmt;
+
+use crate::formats::kinds::node_kind::{
+    BOTH, CHAIN, CHOOSE, FRONT, MARK_FIRST, MARK_SECOND, NAMES, SILENT, THEN,
+};
+use crate::formats::kinds::slice_kind::{
+    CROSSED, CUE_AWAITED, CUE_COME, FIRST_CHOSEN, IN_FIRST, LEVEL_AWAITED, LEVEL_COME, NONE_CHOSEN,
+    SECOND_CHOSEN,
+};
+use crate::formats::preorder::{brings, slice_roots};
+
+/// What the slice of a node brought, told by the kinds in its bytes.
+#[derive(Clone, Copy, Debug, PartialEq, Eq)]
+pub enum Brought {
+    /// It is the empty slice, and something is awaited.
+    Nothing,
+    /// It is the empty slice, and nothing is awaited.
+    NothingAwaited,
+    /// A crossing, of a first part of which nothing came.
+    Crossing,
+    /// A choice, and nothing of the part that is chosen.
+    Choice,
+    CrossingAndChoice,
+    /// A cue or a level.
+    Arrival,
+    /// A cue or a level in the last node of a long slice, and nothing before it.
+    LastArrival,
+}
+
+/// In the order of the values.
+const BROUGHT: [&str; 7] = [
+    "nothing, and something is awaited",
+    "nothing, and nothing is awaited",
+    "a crossing alone",
+    "a choice alone",
+    "crossings and choices alone",
+    "a cue or a level",
+    "that in the last of more than 100 bytes alone",
+];
+
+/// A slice of more bytes is long.
+const LONG: usize = 100;
+
+impl Brought {
+    /// By the slice with this tree.
+    pub fn by(tree: &[u8]) -> Self {
+        let roots = slice_roots(tree);
+        let has = |kinds: &[u8]| roots.iter().any(|at| kinds.contains(&tree[*at]));
+        let crossed = has(&[CROSSED]);
+        let chosen = has(&[FIRST_CHOSEN, SECOND_CHOSEN]);
+        if has(&[CUE_COME, LEVEL_COME]) {
+            let before_last = &tree[..roots[roots.len() - 1]];
+            return if tree.len() > LONG && !brings(before_last) {
+                Brought::LastArrival
+            } else {
+                Brought::Arrival
+            };
+        }
+        match (crossed, chosen) {
+            (true, true) => Brought::CrossingAndChoice,
+            (true, false) => Brought::Crossing,
+            (false, true) => Brought::Choice,
+            _ if has(&[CUE_AWAITED, LEVEL_AWAITED, IN_FIRST, NONE_CHOSEN]) => Brought::Nothing,
+            _ => Brought::NothingAwaited,
+        }
+    }
+}
+
+/// What a feed did to a cue or a level.
+#[derive(Clone, Copy, Debug, PartialEq, Eq)]
+pub enum Fate {
+    /// It stays, and was not fed.
+    Unfed,
+    /// It was not fed, and its part was not chosen.
+    Gone,
+    /// It was fed a slice that brought this, and is still there.
+    Waited(Brought),
+    /// It was fed a slice that brought this, and is no longer there.
+    Sent(Brought),
+}
+
+/// Where a node is: alone, a part of a fork of some kind, or behind a node of some kind in a chain.
+#[derive(Clone, Copy, Debug, PartialEq, Eq)]
+pub enum Seat {
+    Alone,
+    First(u8),
+    Second(u8),
+    Behind(u8),
+}
+
+/// The seats that are not behind a node.
+const UNDER: [(Seat, &str); 8] = [
+    (Seat::Alone, "alone"),
+    (Seat::First(BOTH), "first of both"),
+    (Seat::Second(BOTH), "second of both"),
+    (Seat::First(THEN), "first of then"),
+    (Seat::Second(THEN), "second of then"),
+    (Seat::First(CHAIN), "first of chain"),
+    (Seat::First(CHOOSE), "first of choose"),
+    (Seat::Second(CHOOSE), "second of choose"),
+];
+
+const SEATS: usize = UNDER.len() + NAMES.len();
+
+impl Seat {
+    fn row(self) -> usize {
+        match self {
+            Seat::Behind(kind) => UNDER.len() + usize::from(kind),
+            other => (UNDER.iter().position(|(seat, _)| *seat == other))
+                .expect("every kind with parts has its seats"),
+        }
+    }
+}
+
+fn seat_name(row: usize) -> String {
+    match row.checked_sub(UNDER.len()) {
+        Some(kind) => format!("behind {}", NAMES[kind]),
+        None => UNDER[row].1.to_string(),
+    }
+}
+
+/// Whether a node can wait there. Some kinds send nothing on which one does: slices that are
+/// complete, crossings and choices.
+fn can_wait(row: usize) -> bool {
+    [SILENT, FRONT, MARK_FIRST, MARK_SECOND]
+        .iter()
+        .all(|kind| row != Seat::Behind(*kind).row())
+}
+
+/// A cue or a level of a patch that was fed.
+#[derive(Clone, Copy, Debug)]
+pub struct Opening {
+    pub seat: Seat,
+    pub is_level: bool,
+    pub fate: Fate,
+}
+
+/// The columns of the tables.
+const DONE: [&str; 2] = ["waited", "sent"];
+const OPENINGS: [&str; 2] = ["cue", "level"];
+
+/// What was met in accepted feeds; first those that waited, then those that sent.
+#[derive(Clone, Debug, Default)]
+pub struct OpeningTally {
+    seats: [[[u64; DONE.len()]; OPENINGS.len()]; SEATS],
+    brought: [[u64; DONE.len()]; BROUGHT.len()],
+    /// Those that did other than the slice of the whole patch would tell.
+    unlike_patch: [u64; DONE.len()],
+}
+
+impl OpeningTally {
+    /// Counts the cues and levels of a patch that was fed this slice. Says if one did what no slice
+    /// like the one it was fed can bring about.
+    pub fn add(&mut self, openings: &[Opening], slice: &[u8]) -> Result<(), String> {
+        let patch_waits = Brought::by(slice) == Brought::Nothing;
+        for opening in openings {
+            let (brought, done) = match opening.fate {
+                Fate::Waited(brought) => (brought, 0),
+                Fate::Sent(brought) => (brought, 1),
+                Fate::Unfed | Fate::Gone => continue,
+            };
+            let waits = brought == Brought::Nothing;
+            if waits != (done == 0) {
+                let (name, done) = (OPENINGS[usize::from(opening.is_level)], DONE[done]);
+                let what = BROUGHT[brought as usize];
+                return Err(format!("a {name} {done} on a slice that brought {what}"));
+            }
+            self.seats[opening.seat.row()][usize::from(opening.is_level)][done] += 1;
+            self.brought[brought as usize][done] += 1;
+            self.unlike_patch[done] += u64::from(waits != patch_waits);
+        }
+        Ok(())
+    }
+
+    fn named(&self) -> [(u64, &'static str); 2] {
+        let [waited, sent] = self.unlike_patch;
+        [
+            (waited, "waited though the patch's slice brought something"),
+            (sent, "sent though the patch's slice brought nothing"),
+        ]
+    }
+
+    /// What a long comparison should have met and did not.
+    pub fn gaps(&self) -> Vec<String> {
+        let mut gaps = Vec::new();
+        for (row, counts) in self.seats.iter().enumerate() {
+            for (name, [waited, sent]) in OPENINGS.iter().zip(counts) {
+                let seat = seat_name(row);
+                if *waited == 0 && can_wait(row) {
+                    gaps.push(format!("no {name} waited, {seat}"));
+                }
+                if *sent == 0 {
+                    gaps.push(format!("no {name} sent, {seat}"));
+                }
+            }
+        }
+        for (name, done) in BROUGHT.iter().zip(self.brought) {
+            if done == [0, 0] {
+                gaps.push(format!("no cue or level was fed a slice with {name}"));
+            }
+        }
+        let missing = self.named().into_iter().filter(|(count, _)| *count == 0);
+        gaps.extend(missing.map(|(_, name)| format!("no cue or level {name}")));
+        gaps
+    }
+}
+
+impl fmt::Display for OpeningTally {
+    fn fmt(&self, out: &mut fmt::Formatter<'_>) -> fmt::Result {
+        write!(out, "{:<23}", "cues and levels, fed")?;
+        for name in OPENINGS {
+            for done in DONE {
+                write!(out, "{:>15}", format!("{name} {done}"))?;
+            }
+        }
+        for (row, counts) in self.seats.iter().enumerate() {
+            write!(out, "\n{:<23}", seat_name(row))?;
+            for [waited, sent] in counts {
+                if can_wait(row) {
+                    write!(out, "{waited:>15}{sent:>15}")?;
+                } else {
+                    write!(out, "{:>15}{sent:>15}", "-")?;
+                }
+            }
+        }
+        write!(out, "\n{:<53}", "their slice brought")?;
+        for done in DONE {
+            write!(out, "{done:>15}")?;
+        }
+        for (name, [waited, sent]) in BROUGHT.iter().zip(self.brought) {
+            write!(out, "\n{name:<53}{waited:>15}{sent:>15}")?;
+        }
+        writeln!(out)?;
+        for (count, name) in self.named() {
+            writeln!(out, "{count:>9} {name}")?;
+        }
+        Ok(())
+    }
+}
