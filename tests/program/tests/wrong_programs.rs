@@ -3,6 +3,7 @@
 use std::time::Duration;
 
 use comparison::convention::Stop;
+use comparison::other_rules::Rule;
 use comparison::Random;
 use program::Kind::{
     Boundaries, DamagedPatches, Ends, Inputs, LargestAnswers, LongStreams, OpenInput, PatchLengths,
@@ -18,7 +19,7 @@ fn wrong_program(fault: &str) -> Program {
 }
 
 /// The faults, and who finds them.
-const WRONG: [(&str, &[Kind]); 50] = [
+const WRONG: [(&str, &[Kind]); 56] = [
     // What is printed.
     ("upper_case", &[Runs, LargestAnswers, OpenInput]),
     ("one_digit_below_16", &[Runs, Ends]),
@@ -58,6 +59,13 @@ const WRONG: [(&str, &[Kind]); 50] = [
     ("second_choice_fed_as_first", &[Runs, Ends]),
     ("second_marked_as_first", &[Runs, Ends]),
     ("none_chosen_sends_nothing", &[Runs, Ends]),
+    // When cues and levels send: the rules of `comparison::other_rules`.
+    ("only_arrivals_open", &[Runs, Ends]),
+    ("opened_by_the_slice_of_the_patch", &[Runs, Ends]),
+    ("complete_does_not_open", &[Runs, Ends]),
+    ("sends_twice", &[Runs, Ends]),
+    ("sends_at_the_first_feed", &[Runs, Ends]),
+    ("waits_for_a_complete_slice", &[Runs, Ends]),
     // Files and their lengths.
     ("cut_file_prints", &[Ends]),
     ("cut_length_prints", &[Ends]),
@@ -91,13 +99,14 @@ const WRONG: [(&str, &[Kind]); 50] = [
 /// So many streams of a kind find the error, or it is not found.
 const MOST_STREAMS: usize = 250;
 
-/// Whether a kind finds it.
-fn finds(kind: Kind, program: &Program) -> bool {
+/// How many streams of a kind it takes to find it, if the kind does.
+fn streams_to_find(kind: Kind, program: &Program) -> Option<usize> {
     let mut random = Random::new(5);
     let turns = 0..MOST_STREAMS;
     let mut streams = turns.flat_map(|turn| kind.streams(turn, &mut random));
     let mut some = streams.by_ref().take(MOST_STREAMS);
-    some.any(|case| matches!(hold(program, &case), Err(Stop::Difference(_))))
+    let found = some.position(|case| matches!(hold(program, &case), Err(Stop::Difference(_))))?;
+    Some(found + 1)
 }
 
 #[test]
@@ -107,10 +116,26 @@ fn every_wrong_program_is_found() {
         let mut program = wrong_program(fault);
         program.at_once = Duration::from_secs(1);
         program.to_the_end = Duration::from_secs(5);
-        let some = kinds.iter().filter(|kind| !finds(**kind, &program));
-        missed.extend(some.map(|kind| format!("{fault}: {kind}")));
+        for kind in kinds {
+            match streams_to_find(*kind, &program) {
+                Some(streams) => println!("{fault}: {kind}, found at stream {streams}"),
+                None => missed.push(format!("{fault}: {kind}")),
+            }
+        }
     }
     assert_eq!(missed, Vec::<String>::new(), "not found");
+}
+
+/// A wrong rule that the list above does not name would be tried by no stream.
+#[test]
+fn every_wrong_rule_is_among_the_faults() {
+    for rule in Rule::WRONG {
+        assert!(
+            WRONG.iter().any(|(fault, _)| *fault == rule.name),
+            "{}",
+            rule.name
+        );
+    }
 }
 
 /// Without this a comparison that refuses everything would find every wrong program, too.

@@ -12,6 +12,7 @@ use comparison::formats::files::{
 };
 use comparison::formats::kinds::slice_kind::{FIRST_CHOSEN, NONE_CHOSEN, NOTHING, SECOND_CHOSEN};
 use comparison::formats::preorder::{choices, slice_roots};
+use comparison::other_rules::Rule;
 use second_interpreter::{check, feed};
 
 /// A buffer of this size is what faults of reading and writing are about.
@@ -130,31 +131,40 @@ impl Wrong {
         }
     }
 
-    /// The line of a feed, and the patch left.
-    fn fed(&self, patch: &[u8], slice: &[u8]) -> Result<(String, Vec<u8>), u32> {
+    /// The output file of a feed, and the patch left.
+    fn written(&self, patch: &[u8], slice: &[u8]) -> Result<[Vec<u8>; 2], u32> {
         let (mut output, mut left) = (vec![0; LONGEST_SLICE_FILE], vec![0; LONGEST_PATCH_FILE]);
-        let slice = if self.is("second_choice_fed_as_first") {
-            &with_other_kind(slice, SECOND_CHOSEN, FIRST_CHOSEN)
-        } else {
-            slice
-        };
         let (output_length, patch_length) = feed(patch, slice, &mut output, &mut left)?;
         let short = self.is("output_buffer_of_512") && output_length > 512
             || self.is("patch_buffer_of_8481") && patch_length > 8_481;
         if short {
             return Err(fault::NO_ROOM);
         }
+        if let Some(rule) = Rule::wrong(&self.fault) {
+            return rule.feed(patch, slice).ok_or(fault::SLICE_MISPLACED);
+        }
+        output.truncate(output_length);
         left.truncate(patch_length);
+        Ok([output, left])
+    }
+
+    /// The line of a feed, and the patch left.
+    fn fed(&self, patch: &[u8], slice: &[u8]) -> Result<(String, Vec<u8>), u32> {
+        let slice = if self.is("second_choice_fed_as_first") {
+            &with_other_kind(slice, SECOND_CHOSEN, FIRST_CHOSEN)
+        } else {
+            slice
+        };
+        let [sent, left] = self.written(patch, slice)?;
         let printed = if self.is("type_before_printed") {
             patch
         } else {
             &left
         };
-        let sent = &output[..output_length];
         let sent = self.field(&match self.fault.as_str() {
-            "second_marked_as_first" => with_other_kind(sent, SECOND_CHOSEN, FIRST_CHOSEN),
-            "none_chosen_sends_nothing" => with_other_kind(sent, NONE_CHOSEN, NOTHING),
-            _ => sent.to_vec(),
+            "second_marked_as_first" => with_other_kind(&sent, SECOND_CHOSEN, FIRST_CHOSEN),
+            "none_chosen_sends_nothing" => with_other_kind(&sent, NONE_CHOSEN, NOTHING),
+            _ => sent,
         });
         let rest = self.field(&printed[..2 + count(printed)]);
         Ok((format!("0 {sent} {rest}"), left))

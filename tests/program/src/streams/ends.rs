@@ -16,8 +16,9 @@ pub fn at_every_byte(turn: usize, random: &mut Random) -> Vec<Vec<u8>> {
         1 => refused_slices(),
         2 => stream(&[patch(&[1], &[1, 3, 0, 0]), section(&[1]), section(&[2])]),
         3 => levels(),
-        4 => choices(),
-        5 => stream(&[
+        4 => waits(),
+        5 => choices(),
+        6 => stream(&[
             patch(&[5, 1, 2], &[15, 0, 0]),
             section(&[8]),
             section(&[9, 2]),
@@ -54,6 +55,17 @@ fn levels() -> Vec<u8> {
         section(&[7, 4, 10, 13, 3]),
         section(&[7, 0, 4, 0, 0]),
         section(&[7, 0, 0]),
+    ])
+}
+
+/// A cue that waits for the left side, beside a level that waits for either: nothing comes, then the
+/// right side is crossed, then the left side comes.
+fn waits() -> Vec<u8> {
+    stream(&[
+        patch(&[4, 1, 3, 0, 1], &[4, 10, 5, 2, 3, 1, 44]),
+        section(&[7, 1, 5, 0]),
+        section(&[7, 1, 6, 0, 1]),
+        section(&[7, 2, 1]),
     ])
 }
 

@@ -7,7 +7,7 @@ use comparison::generators::damage::{damage, few_bytes, SLICE_KINDS};
 use comparison::generators::feeds::accepted_patch;
 use comparison::generators::patch_damage::damage_patch;
 use comparison::generators::patches::any_patch;
-use comparison::generators::slices::{slice_at, slice_of, Pace};
+use comparison::generators::slices::{one_arrival, slice_at, slice_of, Come, Pace};
 use comparison::Random;
 
 use crate::formats::{stream, LONGEST_FILE};
@@ -76,6 +76,10 @@ impl Show {
     /// Adds a slice at this pace.
     pub fn come(&mut self, random: &mut Random, pace: Pace) {
         let come = slice_at(random, pace, &self.left);
+        self.add(come);
+    }
+
+    fn add(&mut self, come: Come) {
         self.left = come.left;
         self.push(section(&come.slice));
     }
@@ -109,6 +113,19 @@ impl Show {
         self.files.push(file);
     }
 
+    /// Often adds slices that bring nothing, as while the house fills, up to so many; and then one
+    /// that brings one thing.
+    fn begin(&mut self, random: &mut Random, most: usize) {
+        if random.chance(60) {
+            return;
+        }
+        for _ in 0..random.between(1, most) {
+            self.come(random, Pace::NOTHING);
+        }
+        let come = one_arrival(random, &self.left);
+        self.add(come);
+    }
+
     /// Adds so many slices.
     fn go_on(&mut self, random: &mut Random, slices: usize) {
         let pace = Pace::gentle(random);
@@ -133,6 +150,9 @@ pub fn run(random: &mut Random) -> Vec<u8> {
         10..=17 => random.between(12, 60),
         _ => random.between(100, 400),
     };
+    if slices > 1 {
+        show.begin(random, slices.min(40));
+    }
     show.go_on(random, slices);
     if slices > 0 && random.chance(30) {
         show.come(random, Pace::ALL);
@@ -148,6 +168,7 @@ pub fn short_run(random: &mut Random) -> Vec<u8> {
         return damaged_patch(random);
     }
     let mut show = Show::any(random);
+    show.begin(random, 4);
     let slices = random.between(1, 20);
     show.go_on(random, slices);
     show.stream()

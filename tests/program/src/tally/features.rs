@@ -1,7 +1,7 @@
 //! What a stream and its lines are like, as far as it is counted by name.
 
 use comparison::formats::files::contents;
-use comparison::formats::preorder::choices;
+use comparison::formats::preorder::{brings, choices};
 
 use crate::formats::{line_ends, refuses_patch, Parts};
 use crate::running::delivery::Delivery;
@@ -36,7 +36,7 @@ pub fn way(delivery: &Delivery) -> usize {
 }
 
 /// What has to be met in some stream.
-pub const FEATURES: [&str; 18] = [
+pub const FEATURES: [&str; 20] = [
     "no bytes at all",
     "end inside the patch's length",
     "end inside the patch file",
@@ -55,6 +55,8 @@ pub const FEATURES: [&str; 18] = [
     "choice in a middle one of them",
     "choice in the last of them",
     "choice that is never made",
+    "slices that bring nothing in front of the first arrival",
+    "ten of them or more",
 ];
 
 /// Whether each feature is there.
@@ -64,6 +66,7 @@ pub fn features(case: &Case, parts: &Parts, output: &[u8]) -> [bool; FEATURES.le
     let lines: Vec<&[u8]> = output.split_inclusive(|byte| *byte == b'\n').collect();
     let longest = longest_line(output);
     let [first, middle, last, never] = chosen_in(parts, &lines);
+    let waits = before_arrival(parts, &lines);
     [
         case.stream.is_empty(),
         files == 0 && rest == 1,
@@ -85,16 +88,30 @@ pub fn features(case: &Case, parts: &Parts, output: &[u8]) -> [bool; FEATURES.le
         middle,
         last,
         never,
+        waits > 0,
+        waits >= 10,
     ]
+}
+
+/// The accepted slices of a stream.
+fn accepted<'a>(parts: &'a Parts, lines: &'a [&[u8]]) -> impl Iterator<Item = &'a [u8]> {
+    let slices = parts.files.iter().skip(1).zip(lines);
+    slices
+        .filter(|(_, line)| is_accepted(line))
+        .map(|((_, file), _)| contents(file))
+}
+
+/// How many accepted slices bring nothing in front of the first that brings something; none if that
+/// never comes.
+fn before_arrival(parts: &Parts, lines: &[&[u8]]) -> usize {
+    accepted(parts, lines).position(brings).unwrap_or_default()
 }
 
 /// In which of its accepted slices, if there are several, a stream chooses: in the first, in one
 /// between, in the last, or in none though it could.
 fn chosen_in(parts: &Parts, lines: &[&[u8]]) -> [bool; 4] {
-    let slices = parts.files.iter().skip(1).zip(lines);
-    let chooses: Vec<bool> = slices
-        .filter(|(_, line)| is_accepted(line))
-        .map(|((_, file), _)| choices(contents(file)) > 0)
+    let chooses: Vec<bool> = accepted(parts, lines)
+        .map(|slice| choices(slice) > 0)
         .collect();
     let [first, middle @ .., last] = chooses.as_slice() else {
         return [false; 4];
