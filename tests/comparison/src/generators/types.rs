@@ -108,6 +108,15 @@ impl Style {
         }
     }
 
+    /// Nearly all side by side: of its size it has the longest empty slice.
+    pub fn lanes(random: &mut Random) -> Self {
+        Style {
+            choices: 0,
+            sequences: random.pick(&[0, 10]),
+            ..Style::any(random)
+        }
+    }
+
     fn fork(&self, random: &mut Random) -> u8 {
         if random.chance(self.choices) {
             EITHER

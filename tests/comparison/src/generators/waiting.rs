@@ -14,6 +14,9 @@ use crate::generators::types::Style;
 /// In so many of a hundred patches nothing is in front of the node that waits.
 const BARE: usize = 20;
 
+/// So many of a hundred parts of a type are large.
+const LARGE: usize = 10;
+
 /// The node that waits is at most so many forks deep.
 const DEEPEST: usize = 2;
 
@@ -56,12 +59,15 @@ impl Grower<'_> {
         self.of_kind(kind, input)
     }
 
-    /// A small type, seldom a larger one.
+    /// A small type, seldom a large one with long slices: what comes may be at their end.
     fn part(&mut self) -> Type {
+        if self.random.chance(LARGE) {
+            let style = Style::lanes(self.random);
+            let forks = self.random.between(20, 120);
+            return a_type(self.random, &style, forks);
+        }
         let style = Style::any(self.random);
-        let few = self.random.below(5);
-        let some = self.random.below(40);
-        let forks = self.random.pick(&[0, 0, 0, 1, few, few, few, some]);
+        let forks = self.random.pick(&[0, 0, 0, 1, 2, 3, 4]);
         a_type(self.random, &style, forks)
     }
 
