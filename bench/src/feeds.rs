@@ -6,7 +6,7 @@ use comparison::formats::kinds::node_kind::{
     SPREAD, THEN,
 };
 use comparison::formats::kinds::slice_kind;
-use comparison::formats::kinds::type_kind::{BESIDE, CUE, LEVEL, SEQUENCE};
+use comparison::formats::kinds::type_kind::{BESIDE, CUE, EMPTY, LEVEL, SEQUENCE};
 use comparison::Operation;
 
 use crate::nodes::{
@@ -14,7 +14,7 @@ use crate::nodes::{
     nodes_of, seeking, silent_largest, tree_of, MOST_NODES,
 };
 use crate::patches::{growing_chooses, growing_patches, pass_on_growing_types, OF_PASS};
-use crate::rows::{claiming, lengthened, Group, Row, LARGEST};
+use crate::rows::{claiming, grown, lengthened, Group, Row, LARGEST};
 use crate::streams::{slice_tree, type_tree, Shape, Share};
 
 /// A name, a patch, and how much of its input comes.
@@ -41,12 +41,14 @@ pub fn legal() -> Vec<Row> {
     rows.extend(deep_chains());
     rows.extend(changing());
     rows.extend(waiting());
+    rows.extend(opening());
     rows.extend(crossing());
     rows.extend(choosing_between());
     rows.into_iter().map(|fed| row(Group::Legal, fed)).collect()
 }
 
 fn small() -> Vec<Fed> {
+    // Nothing comes, and the cue sends: its part, which front puts there, is complete.
     let prepend = [CHAIN, FRONT, THEN, node_kind::CUE, PASS];
     let typical = [
         CHAIN, SPREAD, BOTH, CHAIN, LEFT, SECOND, CHAIN, RIGHT, SECOND,
@@ -104,7 +106,8 @@ fn deep_chains() -> Vec<Fed> {
     rows
 }
 
-/// The largest patches along which one stream is changed again and again.
+/// The largest patches along which one stream is changed again and again. Of the thens of cue: where
+/// nothing comes, only the innermost first node is fed, and it waits; where all comes, each sends.
 fn changing() -> Vec<Fed> {
     let mut rows = Vec::new();
     for (name, file) in chains().into_iter().chain(seeking()) {
@@ -149,6 +152,32 @@ fn waiting() -> Vec<Fed> {
             let below = format!("63, second on 253, {kind} {name}");
             rows.push(fed(&alone, patch(&tree, &[SECOND]), Share::Nothing));
             rows.push(fed(&below, patch(&tree, &chained), Share::Nothing));
+        }
+    }
+    rows
+}
+
+/// Cues and levels that look at a long slice to its end: they wait on the longest empty one, send for
+/// its last byte, or send because nothing in it is awaited.
+fn opening() -> Vec<Fed> {
+    let cues = lanes(LARGEST, CUE);
+    let slices = [
+        ("nothing", &cues, Share::Nothing),
+        ("the last", &cues, Share::Last),
+        ("none awaited", &lanes(LARGEST, EMPTY), Share::Nothing),
+    ];
+    let nodes = [
+        ("cue", vec![node_kind::CUE]),
+        ("level", vec![node_kind::LEVEL, 1, 44]),
+    ];
+    let mut rows = Vec::new();
+    for (kind, node) in nodes {
+        let pairs = nodes_of(Shape::Balanced, BOTH, &node);
+        for (come, tree, share) in slices {
+            let alone = format!("{kind} on 255, {come}");
+            let below = format!("63, pairs of {kind} on 255, {come}");
+            rows.push(fed(&alone, patch(tree, &node), share));
+            rows.push(fed(&below, patch(tree, &pairs), share));
         }
     }
     rows
@@ -199,6 +228,19 @@ fn choosing_between() -> Vec<Fed> {
     rows
 }
 
+/// A cue on lanes of a growing number: where nothing comes, and where the last does.
+fn growing_openings() -> Vec<Row> {
+    let of_lanes = |series, share| {
+        let types = grown(&[(series, |nodes| lanes(nodes, CUE))]).into_iter();
+        types.map(move |(group, name, tree)| {
+            row(group, (name, patch(&tree, &[node_kind::CUE]), share))
+        })
+    };
+    of_lanes("cue on lanes, nothing", Share::Nothing)
+        .chain(of_lanes("cue on lanes, the last", Share::Last))
+        .collect()
+}
+
 /// One node on types of a growing size, and patches of a growing number of nodes.
 pub fn growing() -> Vec<Row> {
     let on_types = pass_on_growing_types().into_iter();
@@ -206,6 +248,7 @@ pub fn growing() -> Vec<Row> {
     on_types
         .map(|(group, name, file)| row(group, (name, file, Share::Half)))
         .chain(patches.map(|(group, name, file)| row(group, (name, file, Share::All))))
+        .chain(growing_openings())
         .collect()
 }
 

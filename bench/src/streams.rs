@@ -1,5 +1,7 @@
 //! The types and slices of the rows, written as the bytes of their trees; nothing here is random.
 
+use std::ops::Range;
+
 use comparison::formats::kinds::slice_kind;
 use comparison::formats::kinds::type_kind::{BESIDE, CUE, EITHER, EMPTY, LEVEL, SEQUENCE};
 use comparison::formats::preorder::type_end;
@@ -36,6 +38,8 @@ pub enum Share {
     Nothing,
     Half,
     All,
+    /// The last of all that could come, and nothing before it.
+    Last,
 }
 
 /// A type of so many nodes, an odd number. Sequence and side by side take turns from the root
@@ -63,21 +67,24 @@ fn write_type(shape: Shape, forks: usize, kind: u8, leaves: &mut usize, tree: &m
 /// The slice in which this share of all that can come has come, from left to right, and every first
 /// part that has fully come is crossed. A choice comes as a leaf does; it is that of the larger part.
 pub fn slice_tree(tree: &[u8], share: Share) -> Vec<u8> {
-    let slice_of = |still_come| {
+    let slice_of = |coming| {
         let mut writer = Writer {
             tree,
             at: 0,
-            still_come,
+            could: 0,
+            coming,
             slice: Vec::new(),
         };
         writer.write(share != Share::Nothing);
-        (writer.slice, still_come - writer.still_come)
+        (writer.slice, writer.could)
     };
-    let (all, come) = slice_of(tree.len());
+    let (all, come) = slice_of(0..usize::MAX);
+    let (nothing, could) = slice_of(0..0);
     match share {
-        Share::Nothing => slice_of(0).0,
-        Share::Half => slice_of(come / 2).0,
+        Share::Nothing => nothing,
+        Share::Half => slice_of(0..come / 2).0,
         Share::All => all,
+        Share::Last => slice_of(could - 1..could).0,
     }
 }
 
@@ -85,7 +92,9 @@ pub fn slice_tree(tree: &[u8], share: Share) -> Vec<u8> {
 struct Writer<'a> {
     tree: &'a [u8],
     at: usize,
-    still_come: usize,
+    /// How many things could have come so far, and which of them do.
+    could: usize,
+    coming: Range<usize>,
     slice: Vec<u8>,
 }
 
@@ -142,8 +151,8 @@ impl Writer<'_> {
 
     /// Whether what is at hand comes.
     fn comes(&mut self) -> bool {
-        let comes = self.still_come > 0;
-        self.still_come -= usize::from(comes);
+        let comes = self.coming.contains(&self.could);
+        self.could += 1;
         comes
     }
 
