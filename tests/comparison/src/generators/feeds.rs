@@ -5,11 +5,12 @@ use crate::formats::files::{
 };
 use crate::generators::patches::{any_patch, crossing_patch, waiting_patch};
 use crate::generators::random::Random;
-use crate::generators::slices::{slice_at, slice_of, Pace};
+use crate::generators::slices::{little_of, slice_at, slice_of, Pace};
 
 /// A patch, most often one that is accepted, and a slice of its input type.
 pub fn feed_files(random: &mut Random) -> [Vec<u8>; 2] {
-    let mut patch = if random.chance(30) {
+    let waits = random.chance(25);
+    let mut patch = if waits {
         waiting_patch(random)
     } else {
         any_patch(random)
@@ -17,7 +18,11 @@ pub fn feed_files(random: &mut Random) -> [Vec<u8>; 2] {
     if random.chance(30) {
         patch = fed(random, patch);
     }
-    let slice = slice_of(random, contents(&patch));
+    let slice = if waits && random.chance(50) {
+        little_of(random, contents(&patch))
+    } else {
+        slice_of(random, contents(&patch))
+    };
     [patch, section(&slice.slice)]
 }
 

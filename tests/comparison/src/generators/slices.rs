@@ -63,16 +63,21 @@ impl Pace {
     }
 }
 
-/// A slice of the type with this tree: mostly at any pace, often with nothing in it or with one
-/// thing alone.
+/// A slice of the type with this tree, mostly at any pace.
 pub fn slice_of(random: &mut Random, tree: &[u8]) -> Come {
-    match random.below(10) {
-        0 => slice_at(random, Pace::NOTHING, tree),
-        1..=2 => one_arrival(random, tree),
-        _ => {
-            let pace = Pace::any(random);
-            slice_at(random, pace, tree)
-        }
+    if random.chance(10) {
+        return little_of(random, tree);
+    }
+    let pace = Pace::any(random);
+    slice_at(random, pace, tree)
+}
+
+/// A slice of the type with this tree that brings nothing, or one thing.
+pub fn little_of(random: &mut Random, tree: &[u8]) -> Come {
+    if random.chance(40) {
+        slice_at(random, Pace::NOTHING, tree)
+    } else {
+        one_arrival(random, tree)
     }
 }
 

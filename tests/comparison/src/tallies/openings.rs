@@ -38,7 +38,7 @@ const BROUGHT: [&str; 7] = [
     "a choice alone",
     "crossings and choices alone",
     "a cue or a level",
-    "that in the last of more than 100 bytes alone",
+    "a cue or a level at the end of more than 100 bytes",
 ];
 
 /// A slice of more bytes is long.
