@@ -8,7 +8,7 @@ use crate::formats::files::contents;
 use crate::formats::preorder::choices;
 use crate::formats::trees::{patch_trees, slice_tree};
 use crate::tallies::cases::{Met, CASES};
-use crate::tallies::openings::{Opening, OpeningTally};
+use crate::tallies::openings::{Fate, OpeningTally};
 use crate::tallies::walk::Walk;
 
 /// Where a feed is made.
@@ -40,14 +40,14 @@ pub struct FeedTally {
 }
 
 impl FeedTally {
-    /// Counts an accepted feed. Answers what it did to each cue and level of the patch, or says if
+    /// Counts an accepted feed. Answers what was done to each cue and level of the patch, or says if
     /// what is found by following it is not what was sent.
     pub fn add(
         &mut self,
         position: Position,
         files: &[Vec<u8>],
         written: &[Vec<u8>],
-    ) -> Result<Vec<Opening>, String> {
+    ) -> Result<Vec<Fate>, String> {
         let [patch, slice] = files else {
             unreachable!("Feed has two files");
         };
@@ -57,7 +57,7 @@ impl FeedTally {
         if slice_file(&sent) != written[0] {
             return Err("the walk over the nodes sends something else".to_string());
         }
-        self.openings.add(&walk.openings, contents(slice))?;
+        self.openings.add(&walk.fates, contents(slice))?;
         let columns: &[usize] = match position {
             Position::Alone => &[0],
             Position::InRun { after } if after < LATE => &[1],
@@ -73,7 +73,7 @@ impl FeedTally {
         }
         self.largest += u64::from(node.count() == Node::LIMIT);
         self.longer += u64::from(written[1].len() > patch.len());
-        Ok(walk.openings)
+        Ok(walk.fates)
     }
 
     /// The choices in slices of calls of their own.

@@ -76,10 +76,18 @@ pub enum Fate {
     Unfed,
     /// It was not fed, and its part was not chosen.
     Gone,
-    /// It was fed a slice that brought this, and is still there.
-    Waited(Brought),
-    /// It was fed a slice that brought this, and is no longer there.
-    Sent(Brought),
+    /// It was fed, and is still there.
+    Waited(Came),
+    /// It was fed, and is no longer there.
+    Sent(Came),
+}
+
+/// A cue or a level, and what came to it.
+#[derive(Clone, Copy, Debug, PartialEq, Eq)]
+pub struct Came {
+    pub seat: Seat,
+    pub is_level: bool,
+    pub brought: Brought,
 }
 
 /// Where a node is: alone, a part of a fork of some kind, or behind a node of some kind in a chain.
@@ -130,14 +138,6 @@ fn can_wait(row: usize) -> bool {
         .all(|kind| row != Seat::Behind(*kind).row())
 }
 
-/// A cue or a level of a patch that was fed.
-#[derive(Clone, Copy, Debug)]
-pub struct Opening {
-    pub seat: Seat,
-    pub is_level: bool,
-    pub fate: Fate,
-}
-
 /// The columns of the tables.
 const DONE: [&str; 2] = ["waited", "sent"];
 const OPENINGS: [&str; 2] = ["cue", "level"];
@@ -152,24 +152,24 @@ pub struct OpeningTally {
 }
 
 impl OpeningTally {
-    /// Counts the cues and levels of a patch that was fed this slice. Says if one did what no slice
-    /// like the one it was fed can bring about.
-    pub fn add(&mut self, openings: &[Opening], slice: &[u8]) -> Result<(), String> {
+    /// Counts what was done to the cues and levels of a patch that was fed this slice. Says if one did
+    /// what a slice like the one that came to it cannot bring about.
+    pub fn add(&mut self, fates: &[Fate], slice: &[u8]) -> Result<(), String> {
         let patch_waits = Brought::by(slice) == Brought::Nothing;
-        for opening in openings {
-            let (brought, done) = match opening.fate {
-                Fate::Waited(brought) => (brought, 0),
-                Fate::Sent(brought) => (brought, 1),
+        for fate in fates {
+            let (came, done) = match fate {
+                Fate::Waited(came) => (came, 0),
+                Fate::Sent(came) => (came, 1),
                 Fate::Unfed | Fate::Gone => continue,
             };
-            let waits = brought == Brought::Nothing;
+            let (opening, brought) = (usize::from(came.is_level), came.brought as usize);
+            let waits = came.brought == Brought::Nothing;
             if waits != (done == 0) {
-                let (name, done) = (OPENINGS[usize::from(opening.is_level)], DONE[done]);
-                let what = BROUGHT[brought as usize];
+                let (name, done, what) = (OPENINGS[opening], DONE[done], BROUGHT[brought]);
                 return Err(format!("a {name} {done} on a slice that brought {what}"));
             }
-            self.seats[opening.seat.row()][usize::from(opening.is_level)][done] += 1;
-            self.brought[brought as usize][done] += 1;
+            self.seats[came.seat.row()][opening][done] += 1;
+            self.brought[brought][done] += 1;
             self.unlike_patch[done] += u64::from(waits != patch_waits);
         }
         Ok(())

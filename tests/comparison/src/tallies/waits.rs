@@ -9,7 +9,7 @@ use crate::formats::preorder::brings;
 use crate::formats::trees::slice_tree;
 use crate::runs::recut::Anew;
 use crate::runs::Step;
-use crate::tallies::openings::{Fate, Opening};
+use crate::tallies::openings::Fate;
 
 /// A cue or a level of a run that waited and then sent.
 #[derive(Clone, Copy, Debug)]
@@ -32,15 +32,15 @@ pub struct Waits {
 }
 
 impl Waits {
-    /// After an accepted feed: what it did to each cue and level of the patch.
-    pub fn follow(&mut self, openings: &[Opening]) -> Result<(), String> {
-        let waited = (self.waited.take()).unwrap_or_else(|| vec![0; openings.len()]);
-        if waited.len() != openings.len() {
+    /// After an accepted feed: what was done to each cue and level of the patch.
+    pub fn follow(&mut self, fates: &[Fate]) -> Result<(), String> {
+        let waited = (self.waited.take()).unwrap_or_else(|| vec![0; fates.len()]);
+        if waited.len() != fates.len() {
             return Err("the patch has other cues and levels than were left in it".to_string());
         }
         let mut still = Vec::new();
-        for (waited, opening) in waited.into_iter().zip(openings) {
-            match opening.fate {
+        for (waited, fate) in waited.into_iter().zip(fates) {
+            match fate {
                 Fate::Unfed => still.push(waited),
                 Fate::Waited(_) => still.push(waited + 1),
                 Fate::Sent(_) if waited > 0 => {

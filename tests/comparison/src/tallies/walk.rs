@@ -8,7 +8,7 @@ use crate::formats::files::contents;
 use crate::formats::kinds::node_kind::{BOTH, CHAIN, CHOOSE, THEN};
 use crate::formats::trees::kind_of;
 use crate::tallies::cases::{count, name, Met};
-use crate::tallies::openings::{Brought, Fate, Opening, Seat};
+use crate::tallies::openings::{Brought, Came, Fate, Seat};
 
 /// The nodes were checked, and the slice was read against their input type.
 const FITS: &str = "a checked node takes every slice of its input";
@@ -29,8 +29,8 @@ struct Place<'a> {
 pub struct Walk {
     /// How many nodes met each case.
     pub met: Met,
-    /// The cues and levels of the patch, from left to right.
-    pub openings: Vec<Opening>,
+    /// What was done to each cue and level of the patch, from left to right.
+    pub fates: Vec<Fate>,
     /// Whether what is left of a node is none of what can be.
     astray: bool,
 }
@@ -60,13 +60,13 @@ impl Walk {
     /// Counts the node and its parts. Answers what the node sends, which is what comes to the next
     /// one in a chain, and the type that it gives.
     fn go(&mut self, place: Place) -> (Slice, Type) {
-        let waits = place.left == Some(place.node);
+        let waits = is_opening(place.node) && place.left == Some(place.node);
         count(&mut self.met, name(place.node, place.slice, waits));
         match place.node {
             Node::Cue | Node::Level(_) => self.opening(place, waits),
             Node::Both(..) => self.both(place),
             Node::Then(..) => self.then(place),
-            Node::Chain(..) => self.chain(place),
+            Node::Chain(before, _) => self.chain(place, Seat::Behind(kind_of(before))),
             Node::Choose(..) => self.choose(place),
             leaf => (
                 feed_node(leaf, place.input, place.slice).expect(FITS).sent,
@@ -79,15 +79,15 @@ impl Walk {
     fn opening(&mut self, place: Place, waits: bool) -> (Slice, Type) {
         let silent = |left: &Node| *left == Node::silent(Type::Empty);
         self.astray |= !waits && !place.left.is_none_or(silent);
-        let brought = Brought::by(contents(&slice_file(place.slice)));
-        self.openings.push(Opening {
+        let came = Came {
             seat: place.seat,
             is_level: matches!(place.node, Node::Level(_)),
-            fate: if waits {
-                Fate::Waited(brought)
-            } else {
-                Fate::Sent(brought)
-            },
+            brought: Brought::by(contents(&slice_file(place.slice))),
+        };
+        self.fates.push(if waits {
+            Fate::Waited(came)
+        } else {
+            Fate::Sent(came)
         });
         match (place.node, waits) {
             (Node::Level(_), true) => (Slice::LevelNotYet, Type::Level),
@@ -107,15 +107,10 @@ impl Walk {
         )
     }
 
-    fn chain(&mut self, place: Place) -> (Slice, Type) {
-        let [first, second] = self.parts(place, [Seat::First(CHAIN), Seat::Alone]);
+    fn chain(&mut self, place: Place, behind: Seat) -> (Slice, Type) {
+        let [first, second] = self.parts(place, [Seat::First(CHAIN), behind]);
         let (sent, between) = self.go(first);
-        self.go(Place {
-            seat: Seat::Behind(kind_of(first.node)),
-            input: &between,
-            slice: &sent,
-            ..second
-        })
+        self.go(second.fed(&between, &sent, second.left))
     }
 
     fn then(&mut self, place: Place) -> (Slice, Type) {
@@ -188,19 +183,18 @@ impl Walk {
             for part in parts {
                 self.pass_over(part, fate);
             }
-        } else if matches!(node, Node::Cue | Node::Level(_)) {
-            self.openings.push(Opening {
-                seat: Seat::Alone,
-                is_level: matches!(node, Node::Level(_)),
-                fate,
-            });
+        } else if is_opening(node) {
+            self.fates.push(fate);
         }
     }
 }
 
-impl<'a> Place<'a> {
+impl Place<'_> {
     /// The same node, with what comes to it and what is left of it.
-    fn fed(self, input: &'a Type, slice: &'a Slice, left: Option<&'a Node>) -> Self {
+    fn fed<'a>(self, input: &'a Type, slice: &'a Slice, left: Option<&'a Node>) -> Place<'a>
+    where
+        Self: 'a,
+    {
         Place {
             input,
             slice,
@@ -208,6 +202,11 @@ impl<'a> Place<'a> {
             ..self
         }
     }
+}
+
+/// Whether it is a cue or a level.
+fn is_opening(node: &Node) -> bool {
+    matches!(node, Node::Cue | Node::Level(_))
 }
 
 /// The two parts of a node.
