@@ -106,8 +106,9 @@ fn deep_chains() -> Vec<Fed> {
     rows
 }
 
-/// The largest patches along which one stream is changed again and again. Of the thens of cue: where
-/// nothing comes, only the innermost first node is fed, and it waits; where all comes, each sends.
+/// The largest patches along which one stream is changed again and again. Of the thens of cue:
+/// where nothing comes, only the innermost first node is fed, and it waits; where all comes, each
+/// sends.
 fn changing() -> Vec<Fed> {
     let mut rows = Vec::new();
     for (name, file) in chains().into_iter().chain(seeking()) {
@@ -157,8 +158,8 @@ fn waiting() -> Vec<Fed> {
     rows
 }
 
-/// Cues and levels that look at a long slice to its end: they wait on the longest empty one, send for
-/// its last byte, or send because nothing in it is awaited.
+/// Cues and levels that look at a long slice to its end: they wait on the longest empty one, send
+/// for its last byte, or send because nothing in it is awaited.
 fn opening() -> Vec<Fed> {
     let cues = lanes(LARGEST, CUE);
     let slices = [

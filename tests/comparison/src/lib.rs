@@ -4,11 +4,11 @@
 //! draws calls from a seed, many of them accepted and the others damaged in every way that a file
 //! can be. [`calls`] hands one to both and compares number, lengths and every byte of the lent
 //! buffers and beside them. [`runs`] makes lists of feeds, each on the patch that the last one
-//! left, and holds demand 3 to them. [`other_slices`] holds what Longest wrote to other slices of its
-//! type. [`tallies`] counts what was answered, so that one sees which numbers and which kinds of
-//! nodes were met. [`limits`] holds the answers that a program stored. [`other_rules`] feeds by wrong
-//! rules, which have to be found. [`convention`] is what this package's program and those of others
-//! have in common for their users.
+//! left, and holds demand 3 to them. [`other_slices`] holds what Longest wrote to other slices of
+//! its type. [`tallies`] counts what was answered, so that one sees which numbers and which kinds
+//! of nodes were met. [`limits`] holds the answers that a program stored. [`other_rules`] feeds by
+//! wrong rules, which have to be found. [`convention`] is what this package's program and those of
+//! others have in common for their users.
 
 pub mod calls;
 pub mod convention;

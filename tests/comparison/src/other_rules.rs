@@ -85,9 +85,9 @@ impl Rule {
         Rule::WRONG.into_iter().find(|rule| rule.name == name)
     }
 
-    /// The output file and the patch file that a feed of accepted files writes by this rule. None if
-    /// a node is sent what is no slice of its input: a wrong rule can send a crossing of what is not
-    /// complete.
+    /// The output file and the patch file that a feed of accepted files writes by this rule. None
+    /// if a node is sent what is no slice of its input: a wrong rule can send a crossing of what is
+    /// not complete.
     pub fn feed(self, patch: &[u8], slice: &[u8]) -> Option<[Vec<u8>; 2]> {
         let (input, node) = patch_trees(patch);
         let slice = slice_tree(contents(slice));

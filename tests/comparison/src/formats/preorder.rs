@@ -78,8 +78,8 @@ pub fn choices(tree: &[u8]) -> u64 {
     roots.filter(|at| is_choice(tree[*at])).count() as u64
 }
 
-/// Whether a slice brings anything: a cue, a level, a crossing or a choice. The empty slice of a type
-/// brings nothing, and every other slice of it does.
+/// Whether a slice brings anything: a cue, a level, a crossing or a choice. The empty slice of a
+/// type brings nothing, and every other slice of it does.
 pub fn brings(tree: &[u8]) -> bool {
     slice_roots(tree).into_iter().any(|at| {
         !matches!(

@@ -1,5 +1,5 @@
-//! Patches with a cue or a level that waits for an arrival: behind a node of each kind, and under each
-//! kind with parts. Where it is decides which slice it is fed.
+//! Patches with a cue or a level that waits for an arrival: behind a node of each kind, and under
+//! each kind with parts. Where it is decides which slice it is fed.
 
 use second_interpreter::{output_type, Node, Type};
 

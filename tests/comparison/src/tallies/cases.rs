@@ -2,8 +2,8 @@
 
 use second_interpreter::{Node, Slice};
 
-/// The cases, in the order of the kinds. Where a node does one thing before an arrival, a crossing or
-/// a choice and another after it, each is a case.
+/// The cases, in the order of the kinds. Where a node does one thing before an arrival, a crossing
+/// or a choice and another after it, each is a case.
 pub const CASES: [&str; 30] = [
     "pass",
     "silent",

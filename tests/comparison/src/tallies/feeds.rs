@@ -40,8 +40,8 @@ pub struct FeedTally {
 }
 
 impl FeedTally {
-    /// Counts an accepted feed. Answers what was done to each cue and level of the patch, or says if
-    /// what is found by following it is not what was sent.
+    /// Counts an accepted feed. Answers what was done to each cue and level of the patch, or says
+    /// if what is found by following it is not what was sent.
     pub fn add(
         &mut self,
         position: Position,

@@ -152,8 +152,8 @@ pub struct OpeningTally {
 }
 
 impl OpeningTally {
-    /// Counts what was done to the cues and levels of a patch that was fed this slice. Says if one did
-    /// what a slice like the one that came to it cannot bring about.
+    /// Counts what was done to the cues and levels of a patch that was fed this slice. Says if one
+    /// did what a slice like the one that came to it cannot bring about.
     pub fn add(&mut self, fates: &[Fate], slice: &[u8]) -> Result<(), String> {
         let patch_waits = Brought::by(slice) == Brought::Nothing;
         for fate in fates {

@@ -78,8 +78,8 @@ fn count_length(counts: &mut Lengths, length: usize) {
     }
 }
 
-/// Runs in which what a cue or a level waited for came in two slices: those in which it sent with the
-/// first of them, and those in which it waited on and sent with the second.
+/// Runs in which what a cue or a level waited for came in two slices: those in which it sent with
+/// the first of them, and those in which it waited on and sent with the second.
 type Split = [u64; 2];
 
 /// What was met in runs.
@@ -146,7 +146,7 @@ impl WaitTally {
     /// How many waited and then sent, and in how many runs.
     pub fn told(&self) -> String {
         format!(
-            "{} cues and levels waited in runs and then sent, in {} runs; in {} runs one never sent",
+            "{} cues and levels waited and then sent, in {} runs; in {} runs one never sent",
             self.opened.iter().sum::<u64>(),
             self.runs_opened,
             self.runs_never

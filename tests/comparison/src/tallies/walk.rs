@@ -1,6 +1,6 @@
-//! A feed, followed from node to node: the slice that comes to each, and what is in its place in the
-//! patch left. What a cue or a level has done is told by its place in the patch left, and no rule is
-//! asked about it.
+//! A feed, followed from node to node: the slice that comes to each, and what is in its place in
+//! the patch left. What a cue or a level has done is told by its place in the patch left, and no
+//! rule is asked about it.
 
 use second_interpreter::{empty_slice, feed_node, output_type, slice_file, Node, Slice, Type};
 

@@ -58,8 +58,8 @@ fn levels() -> Vec<u8> {
     ])
 }
 
-/// A cue that waits for the left side, beside a level that waits for either: nothing comes, then the
-/// right side is crossed, then the left side comes.
+/// A cue that waits for the left side, beside a level that waits for either: nothing comes, then
+/// the right side is crossed, then the left side comes.
 fn waits() -> Vec<u8> {
     stream(&[
         patch(&[4, 1, 3, 0, 1], &[4, 10, 5, 2, 3, 1, 44]),
