@@ -165,8 +165,8 @@ impl Run {
             let position = Position::InRun {
                 after: self.steps.len(),
             };
-            let fates = (tally.feeds).add(position, &call.files, &agreed.files)?;
-            self.waits.follow(&fates)?;
+            let effects = (tally.feeds).add(position, &call.files, &agreed.files)?;
+            self.waits.follow(&effects)?;
             self.accept(agreed.files);
             let step = self.steps.last().expect("one was accepted");
             demand.after(&mut Asking { noise }, &step.slice, &step.fed)?;

@@ -8,7 +8,7 @@ use crate::formats::files::contents;
 use crate::formats::preorder::choices;
 use crate::formats::trees::{patch_trees, slice_tree};
 use crate::tallies::cases::{Met, CASES};
-use crate::tallies::openings::{Fate, OpeningTally};
+use crate::tallies::openings::{Effect, OpeningTally};
 use crate::tallies::walk::Walk;
 
 /// Where a feed is made.
@@ -47,7 +47,7 @@ impl FeedTally {
         position: Position,
         files: &[Vec<u8>],
         written: &[Vec<u8>],
-    ) -> Result<Vec<Fate>, String> {
+    ) -> Result<Vec<Effect>, String> {
         let [patch, slice] = files else {
             unreachable!("Feed has two files");
         };
@@ -57,7 +57,7 @@ impl FeedTally {
         if slice_file(&sent) != written[0] {
             return Err("the walk over the nodes sends something else".to_string());
         }
-        self.openings.add(&walk.fates, contents(slice))?;
+        self.openings.add(&walk.effects, contents(slice))?;
         let columns: &[usize] = match position {
             Position::Alone => &[0],
             Position::InRun { after } if after < LATE => &[1],
@@ -73,7 +73,7 @@ impl FeedTally {
         }
         self.largest += u64::from(node.count() == Node::LIMIT);
         self.longer += u64::from(written[1].len() > patch.len());
-        Ok(walk.fates)
+        Ok(walk.effects)
     }
 
     /// The choices in slices of calls of their own.

@@ -71,7 +71,7 @@ impl Brought {
 
 /// What a feed did to a cue or a level.
 #[derive(Clone, Copy, Debug, PartialEq, Eq)]
-pub enum Fate {
+pub enum Effect {
     /// It stays, and was not fed.
     Unfed,
     /// It was not fed, and its part was not chosen.
@@ -85,45 +85,45 @@ pub enum Fate {
 /// A cue or a level, and what came to it.
 #[derive(Clone, Copy, Debug, PartialEq, Eq)]
 pub struct Came {
-    pub seat: Seat,
+    pub location: Location,
     pub is_level: bool,
     pub brought: Brought,
 }
 
 /// Where a node is: alone, a part of a fork of some kind, or behind a node of some kind in a chain.
 #[derive(Clone, Copy, Debug, PartialEq, Eq)]
-pub enum Seat {
+pub enum Location {
     Alone,
     First(u8),
     Second(u8),
     Behind(u8),
 }
 
-/// The seats that are not behind a node.
-const UNDER: [(Seat, &str); 8] = [
-    (Seat::Alone, "alone"),
-    (Seat::First(BOTH), "first of both"),
-    (Seat::Second(BOTH), "second of both"),
-    (Seat::First(THEN), "first of then"),
-    (Seat::Second(THEN), "second of then"),
-    (Seat::First(CHAIN), "first of chain"),
-    (Seat::First(CHOOSE), "first of choose"),
-    (Seat::Second(CHOOSE), "second of choose"),
+/// The locations that are not behind a node.
+const UNDER: [(Location, &str); 8] = [
+    (Location::Alone, "alone"),
+    (Location::First(BOTH), "first of both"),
+    (Location::Second(BOTH), "second of both"),
+    (Location::First(THEN), "first of then"),
+    (Location::Second(THEN), "second of then"),
+    (Location::First(CHAIN), "first of chain"),
+    (Location::First(CHOOSE), "first of choose"),
+    (Location::Second(CHOOSE), "second of choose"),
 ];
 
-const SEATS: usize = UNDER.len() + NAMES.len();
+const LOCATIONS: usize = UNDER.len() + NAMES.len();
 
-impl Seat {
+impl Location {
     fn row(self) -> usize {
         match self {
-            Seat::Behind(kind) => UNDER.len() + usize::from(kind),
-            other => (UNDER.iter().position(|(seat, _)| *seat == other))
-                .expect("every kind with parts has its seats"),
+            Location::Behind(kind) => UNDER.len() + usize::from(kind),
+            other => (UNDER.iter().position(|(location, _)| *location == other))
+                .expect("every kind with parts has its locations"),
         }
     }
 }
 
-fn seat_name(row: usize) -> String {
+fn location_name(row: usize) -> String {
     match row.checked_sub(UNDER.len()) {
         Some(kind) => format!("behind {}", NAMES[kind]),
         None => UNDER[row].1.to_string(),
@@ -135,7 +135,7 @@ fn seat_name(row: usize) -> String {
 fn can_wait(row: usize) -> bool {
     [SILENT, FRONT, MARK_FIRST, MARK_SECOND]
         .iter()
-        .all(|kind| row != Seat::Behind(*kind).row())
+        .all(|kind| row != Location::Behind(*kind).row())
 }
 
 /// The columns of the tables.
@@ -145,7 +145,7 @@ const OPENINGS: [&str; 2] = ["cue", "level"];
 /// What was met in accepted feeds; first those that waited, then those that sent.
 #[derive(Clone, Debug, Default)]
 pub struct OpeningTally {
-    seats: [[[u64; DONE.len()]; OPENINGS.len()]; SEATS],
+    locations: [[[u64; DONE.len()]; OPENINGS.len()]; LOCATIONS],
     brought: [[u64; DONE.len()]; BROUGHT.len()],
     /// Those that did other than the slice of the whole patch would tell.
     unlike_patch: [u64; DONE.len()],
@@ -154,13 +154,13 @@ pub struct OpeningTally {
 impl OpeningTally {
     /// Counts what was done to the cues and levels of a patch that was fed this slice. Says if one
     /// did what a slice like the one that came to it cannot bring about.
-    pub fn add(&mut self, fates: &[Fate], slice: &[u8]) -> Result<(), String> {
+    pub fn add(&mut self, effects: &[Effect], slice: &[u8]) -> Result<(), String> {
         let patch_waits = Brought::by(slice) == Brought::Nothing;
-        for fate in fates {
-            let (came, done) = match fate {
-                Fate::Waited(came) => (came, 0),
-                Fate::Sent(came) => (came, 1),
-                Fate::Unfed | Fate::Gone => continue,
+        for effect in effects {
+            let (came, done) = match effect {
+                Effect::Waited(came) => (came, 0),
+                Effect::Sent(came) => (came, 1),
+                Effect::Unfed | Effect::Gone => continue,
             };
             let (opening, brought) = (usize::from(came.is_level), came.brought as usize);
             let waits = came.brought == Brought::Nothing;
@@ -168,7 +168,7 @@ impl OpeningTally {
                 let (name, done, what) = (OPENINGS[opening], DONE[done], BROUGHT[brought]);
                 return Err(format!("a {name} {done} on a slice that brought {what}"));
             }
-            self.seats[came.seat.row()][opening][done] += 1;
+            self.locations[came.location.row()][opening][done] += 1;
             self.brought[brought][done] += 1;
             self.unlike_patch[done] += u64::from(waits != patch_waits);
         }
@@ -186,14 +186,14 @@ impl OpeningTally {
     /// What a long comparison should have met and did not.
     pub fn gaps(&self) -> Vec<String> {
         let mut gaps = Vec::new();
-        for (row, counts) in self.seats.iter().enumerate() {
+        for (row, counts) in self.locations.iter().enumerate() {
             for (name, [waited, sent]) in OPENINGS.iter().zip(counts) {
-                let seat = seat_name(row);
+                let location = location_name(row);
                 if *waited == 0 && can_wait(row) {
-                    gaps.push(format!("no {name} waited, {seat}"));
+                    gaps.push(format!("no {name} waited, {location}"));
                 }
                 if *sent == 0 {
-                    gaps.push(format!("no {name} sent, {seat}"));
+                    gaps.push(format!("no {name} sent, {location}"));
                 }
             }
         }
@@ -216,8 +216,8 @@ impl fmt::Display for OpeningTally {
                 write!(out, "{:>15}", format!("{name} {done}"))?;
             }
         }
-        for (row, counts) in self.seats.iter().enumerate() {
-            write!(out, "\n{:<23}", seat_name(row))?;
+        for (row, counts) in self.locations.iter().enumerate() {
+            write!(out, "\n{:<23}", location_name(row))?;
             for [waited, sent] in counts {
                 if can_wait(row) {
                     write!(out, "{waited:>15}{sent:>15}")?;

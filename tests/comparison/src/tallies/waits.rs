@@ -9,7 +9,7 @@ use crate::formats::preorder::brings;
 use crate::formats::trees::slice_tree;
 use crate::runs::recut::Anew;
 use crate::runs::Step;
-use crate::tallies::openings::Fate;
+use crate::tallies::openings::Effect;
 
 /// A cue or a level of a run that waited and then sent.
 #[derive(Clone, Copy, Debug)]
@@ -33,21 +33,21 @@ pub struct Waits {
 
 impl Waits {
     /// After an accepted feed: what was done to each cue and level of the patch.
-    pub fn follow(&mut self, fates: &[Fate]) -> Result<(), String> {
-        let waited = (self.waited.take()).unwrap_or_else(|| vec![0; fates.len()]);
-        if waited.len() != fates.len() {
+    pub fn follow(&mut self, effects: &[Effect]) -> Result<(), String> {
+        let waited = (self.waited.take()).unwrap_or_else(|| vec![0; effects.len()]);
+        if waited.len() != effects.len() {
             return Err("the patch has other cues and levels than were left in it".to_string());
         }
         let mut still = Vec::new();
-        for (waited, fate) in waited.into_iter().zip(fates) {
-            match fate {
-                Fate::Unfed => still.push(waited),
-                Fate::Waited(_) => still.push(waited + 1),
-                Fate::Sent(_) if waited > 0 => {
+        for (waited, effect) in waited.into_iter().zip(effects) {
+            match effect {
+                Effect::Unfed => still.push(waited),
+                Effect::Waited(_) => still.push(waited + 1),
+                Effect::Sent(_) if waited > 0 => {
                     let step = self.steps;
                     self.opened.push(Opened { step, waited });
                 }
-                Fate::Sent(_) | Fate::Gone => {}
+                Effect::Sent(_) | Effect::Gone => {}
             }
         }
         self.waited = Some(still);

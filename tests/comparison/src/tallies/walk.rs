@@ -8,7 +8,7 @@ use crate::formats::files::contents;
 use crate::formats::kinds::node_kind::{BOTH, CHAIN, CHOOSE, THEN};
 use crate::formats::trees::kind_of;
 use crate::tallies::cases::{count, name, Met};
-use crate::tallies::openings::{Brought, Came, Fate, Seat};
+use crate::tallies::openings::{Brought, Came, Effect, Location};
 
 /// The nodes were checked, and the slice was read against their input type.
 const FITS: &str = "a checked node takes every slice of its input";
@@ -17,7 +17,7 @@ const FITS: &str = "a checked node takes every slice of its input";
 /// nothing, if it was in a first part that is crossed.
 #[derive(Clone, Copy)]
 struct Place<'a> {
-    seat: Seat,
+    location: Location,
     node: &'a Node,
     input: &'a Type,
     slice: &'a Slice,
@@ -30,9 +30,9 @@ pub struct Walk {
     /// How many nodes met each case.
     pub met: Met,
     /// What was done to each cue and level of the patch, from left to right.
-    pub fates: Vec<Fate>,
+    pub effects: Vec<Effect>,
     /// Whether what is left of a node is none of what can be.
-    astray: bool,
+    impossible: bool,
 }
 
 impl Walk {
@@ -45,13 +45,13 @@ impl Walk {
     ) -> Result<(Self, Slice), String> {
         let mut walk = Walk::default();
         let (sent, _) = walk.go(Place {
-            seat: Seat::Alone,
+            location: Location::Alone,
             node,
             input,
             slice,
             left: Some(left),
         });
-        if walk.astray {
+        if walk.impossible {
             return Err("the patch left is not built as the nodes leave it".to_string());
         }
         Ok((walk, sent))
@@ -66,7 +66,7 @@ impl Walk {
             Node::Cue | Node::Level(_) => self.opening(place, waits),
             Node::Both(..) => self.both(place),
             Node::Then(..) => self.then(place),
-            Node::Chain(before, _) => self.chain(place, Seat::Behind(kind_of(before))),
+            Node::Chain(before, _) => self.chain(place, Location::Behind(kind_of(before))),
             Node::Choose(..) => self.choose(place),
             leaf => (
                 feed_node(leaf, place.input, place.slice).expect(FITS).sent,
@@ -78,16 +78,16 @@ impl Walk {
     /// A cue or a level waits as long as it is still in its place. What has sent is silent 0.
     fn opening(&mut self, place: Place, waits: bool) -> (Slice, Type) {
         let silent = |left: &Node| *left == Node::silent(Type::Empty);
-        self.astray |= !waits && !place.left.is_none_or(silent);
+        self.impossible |= !waits && !place.left.is_none_or(silent);
         let came = Came {
-            seat: place.seat,
+            location: place.location,
             is_level: matches!(place.node, Node::Level(_)),
             brought: Brought::by(contents(&slice_file(place.slice))),
         };
-        self.fates.push(if waits {
-            Fate::Waited(came)
+        self.effects.push(if waits {
+            Effect::Waited(came)
         } else {
-            Fate::Sent(came)
+            Effect::Sent(came)
         });
         match (place.node, waits) {
             (Node::Level(_), true) => (Slice::LevelNotYet, Type::Level),
@@ -98,7 +98,7 @@ impl Walk {
     }
 
     fn both(&mut self, place: Place) -> (Slice, Type) {
-        let [one, other] = self.parts(place, [Seat::First(BOTH), Seat::Second(BOTH)]);
+        let [one, other] = self.parts(place, [Location::First(BOTH), Location::Second(BOTH)]);
         let (one, one_type) = self.go(one);
         let (other, other_type) = self.go(other);
         (
@@ -107,27 +107,27 @@ impl Walk {
         )
     }
 
-    fn chain(&mut self, place: Place, behind: Seat) -> (Slice, Type) {
-        let [first, second] = self.parts(place, [Seat::First(CHAIN), behind]);
+    fn chain(&mut self, place: Place, behind: Location) -> (Slice, Type) {
+        let [first, second] = self.parts(place, [Location::First(CHAIN), behind]);
         let (sent, between) = self.go(first);
         self.go(second.fed(&between, &sent, second.left))
     }
 
     fn then(&mut self, place: Place) -> (Slice, Type) {
         let (first_input, second_input) = place.input.sequence_parts().expect(FITS);
-        let seats = [Seat::First(THEN), Seat::Second(THEN)];
+        let locations = [Location::First(THEN), Location::Second(THEN)];
         match place.slice {
             Slice::Crossed(b, q) => {
-                let [first, second] = halves(place, seats);
+                let [first, second] = halves(place, locations);
                 let (b, first_type) = self.go(first.fed(first_input, b, None));
                 let (q, second_type) = self.go(second.fed(second_input, q, place.left));
                 let sent = Slice::crossed(b, q);
                 (sent, Type::sequence(first_type, second_type))
             }
             Slice::Uncrossed(p) => {
-                let [first, second] = self.parts(place, seats);
+                let [first, second] = self.parts(place, locations);
                 let (p, first_type) = self.go(first.fed(first_input, p, first.left));
-                self.pass_over(second.node, Fate::Unfed);
+                self.pass_over(second.node, Effect::Unfed);
                 let second_type = output_type(second.node, second_input).expect(FITS);
                 (Slice::uncrossed(p), Type::sequence(first_type, second_type))
             }
@@ -137,19 +137,19 @@ impl Walk {
 
     fn choose(&mut self, place: Place) -> (Slice, Type) {
         let (first_input, second_input) = place.input.either_parts().expect(FITS);
-        let [first, second] = halves(place, [Seat::First(CHOOSE), Seat::Second(CHOOSE)]);
+        let [first, second] = halves(place, [Location::First(CHOOSE), Location::Second(CHOOSE)]);
         match place.slice {
             Slice::FirstChosen(p) => {
                 let answer = self.go(first.fed(first_input, p, place.left));
-                self.pass_over(second.node, Fate::Gone);
+                self.pass_over(second.node, Effect::Gone);
                 answer
             }
             Slice::SecondChosen(q) => {
-                self.pass_over(first.node, Fate::Gone);
+                self.pass_over(first.node, Effect::Gone);
                 self.go(second.fed(second_input, q, place.left))
             }
             _ => {
-                self.pass_over(place.node, Fate::Unfed);
+                self.pass_over(place.node, Effect::Unfed);
                 let gives = output_type(first.node, first_input).expect(FITS);
                 (empty_slice(&gives), gives)
             }
@@ -157,13 +157,13 @@ impl Walk {
     }
 
     /// The parts of a fork that stays, each with what is left of it.
-    fn parts<'a>(&mut self, place: Place<'a>, seats: [Seat; 2]) -> [Place<'a>; 2] {
-        let [first, second] = halves(place, seats);
+    fn parts<'a>(&mut self, place: Place<'a>, locations: [Location; 2]) -> [Place<'a>; 2] {
+        let [first, second] = halves(place, locations);
         let Some(left) = place.left else {
             return [first, second];
         };
         let same_kind = kind_of(left) == kind_of(place.node);
-        self.astray |= !same_kind;
+        self.impossible |= !same_kind;
         let [one, other] = match parts_of(left).filter(|_| same_kind) {
             Some([one, other]) => [Some(one), Some(other)],
             None => [None, None],
@@ -178,13 +178,13 @@ impl Walk {
     }
 
     /// The cues and levels of a node that is not fed.
-    fn pass_over(&mut self, node: &Node, fate: Fate) {
+    fn pass_over(&mut self, node: &Node, effect: Effect) {
         if let Some(parts) = parts_of(node) {
             for part in parts {
-                self.pass_over(part, fate);
+                self.pass_over(part, effect);
             }
         } else if is_opening(node) {
-            self.fates.push(fate);
+            self.effects.push(effect);
         }
     }
 }
@@ -221,12 +221,12 @@ fn parts_of(node: &Node) -> Option<[&Node; 2]> {
 }
 
 /// The parts of a fork, each with all that the fork has.
-fn halves<'a>(place: Place<'a>, seats: [Seat; 2]) -> [Place<'a>; 2] {
+fn halves<'a>(place: Place<'a>, locations: [Location; 2]) -> [Place<'a>; 2] {
     let [one, other] = parts_of(place.node).expect("a fork has two parts");
-    let part = |seat, node| Place {
-        seat,
+    let part = |location, node| Place {
+        location,
         node,
         ..place
     };
-    [part(seats[0], one), part(seats[1], other)]
+    [part(locations[0], one), part(locations[1], other)]
 }
