@@ -1,11 +1,12 @@
 -- A fed node keeps its typing and its limits, the functions are the rules, and feeding a joined prefix is feeding its parts.
 use mathlib.Core.Path.{_≡_, refl, sym, ap, ap₂}
 use mathlib.Core.Bool.{Bool, true, false, cond}
-use Prim.Native.Nat.{_≤_}
+use Prim.Native.Nat.{ℕ, _≤_, _<_}
 use native.Mathlib.Omega.{arith}
 use native.Mathlib.Nat.{le-trans}
-use Rattle.stream.specs.Types.{Ty, empty, size, null-empty, Small}
-use Rattle.stream.specs.Prefixes.{Prefix, cue-awaited, cue-come, level-awaited, level-come, in-first, crossed, beside, Complete, whole-nothing, whole-cue, whole-level, whole-crossed, whole-beside, whole-first-chosen, whole-second-chosen, IsPrefix, of-empty, of-cue-awaited, of-cue-come, of-level-awaited, of-level-come, of-first, of-crossed, of-beside, of-none-chosen, of-first-chosen, of-second-chosen, derivative}
+use Rattle.stream.specs.Types.{Ty, empty, cue, level, size, null-empty, Small}
+use Rattle.stream.specs.Levels.{level-limit}
+use Rattle.stream.specs.Prefixes.{Prefix, cue-awaited, cue-come, level-awaited, level-come, in-first, crossed, beside, Complete, whole-nothing, whole-cue, whole-level, whole-crossed, whole-beside, whole-first-chosen, whole-second-chosen, IsPrefix, of-empty, of-cue-awaited, of-cue-come, of-level-awaited, of-level-come, of-first, of-crossed, of-beside, of-none-chosen, of-first-chosen, of-second-chosen, Opens, derivative}
 use Rattle.stream.specs.Prefixes.Functions.{opens, concat}
 use Rattle.stream.specs.Prefixes.Laws.{crossed-second, beside-first, beside-second, first-chosen-inside, second-chosen-inside, empty-prefix-is-prefix, empty-prefix-complete, derivative-empty, complete-opens, opens-test, closed-test, complete→nullable, derivative-size, derivative-concat, concat-empty-left, concat-empty-right, opens-concat, closed-concat}
 use Rattle.node.specs.Nodes.{Node, silent, emit-cue, emit-level, both, then, chain, Takes, takes-pass, takes-silent, takes-cue, takes-level, takes-both, takes-left, takes-right, takes-first, takes-second, takes-then, takes-chain, takes-regroup-right, takes-regroup-left, takes-spread, takes-front, takes-choose, takes-mark-first, takes-mark-second, count, Allowed}
@@ -29,47 +30,106 @@ pub record Same (o u : Prefix) (n m : Node) : Type 0 where
 abbrev same : {o : Prefix} {n : Node} → Same o o n n
 same = record { sent = refl; node = refl }
 
--- Nodes 2 and 3 wait, and send once: a node n that sends `come` and leaves silent where the prefix opens it, and else sends `awaited` and
--- stays. What holds of both is said of n.
-module _ {t : Ty} (n : Node) (come awaited : Prefix) (takes : (s : Ty) → Takes s n t)
-    (sending : (s : Ty) (p : Prefix) → sends s n p ≡ cond (opens p) come awaited)
-    (leaving : (s : Ty) (p : Prefix) → leaves s n p ≡ cond (opens p) (silent empty) n) where
-  waiting-preserved : {s : Ty} {p : Prefix} → IsPrefix t come → IsPrefix t awaited → Complete come → derivative t come ≡ empty
-      → derivative t awaited ≡ t → Preserved s n t p
-  waiting-preserved {s} {p} h k c d e =
+-- Nodes 2 and 3 wait, and send once: n sends `come` and leaves silent where the prefix opens it, and else sends `awaited` and stays. What
+-- follows is said of both.
+record Waiting (n : Node) (t : Ty) : Type 0 where
+  come : Prefix
+  awaited : Prefix
+  takes : (s : Ty) → Takes s n t
+  sending : (s : Ty) (p : Prefix) → sends s n p ≡ cond (opens p) come awaited
+  leaving : (s : Ty) (p : Prefix) → leaves s n p ≡ cond (opens p) (silent empty) n
+  opened : {s : Ty} {p : Prefix} → Opens s p → Feeds s n p come (silent empty)
+  closed : {s : Ty} {p : Prefix} → (Opens s p → ⊥) → Feeds s n p awaited n
+  come-is-prefix : IsPrefix t come
+  come-whole : Complete come
+  come-leaves : derivative t come ≡ empty
+  come-first : (q : Prefix) → concat come q ≡ come
+  awaited-is-prefix : IsPrefix t awaited
+  awaited-leaves : derivative t awaited ≡ t
+  awaited-first : (q : Prefix) → concat awaited q ≡ q
+
+waiting-cue : Waiting emit-cue cue
+unfolding sends leaves derivative concat
+waiting-cue =
+    record {
+      come = cue-come;
+      awaited = cue-awaited;
+      takes = λ s. takes-cue;
+      sending = λ s p. refl;
+      leaving = λ s p. refl;
+      opened = feeds-cue;
+      closed = feeds-cue-waiting;
+      come-is-prefix = of-cue-come;
+      come-whole = whole-cue;
+      come-leaves = refl;
+      come-first = λ q. refl;
+      awaited-is-prefix = of-cue-awaited;
+      awaited-leaves = refl;
+      awaited-first = λ q. refl;
+    }
+
+waiting-level : {v : ℕ} → v < level-limit → Waiting (emit-level v) level
+unfolding sends leaves derivative concat
+waiting-level {v} small =
+    record {
+      come = level-come v;
+      awaited = level-awaited;
+      takes = λ s. takes-level small;
+      sending = λ s p. refl;
+      leaving = λ s p. refl;
+      opened = feeds-level;
+      closed = feeds-level-waiting;
+      come-is-prefix = of-level-come small;
+      come-whole = whole-level;
+      come-leaves = refl;
+      come-first = λ q. refl;
+      awaited-is-prefix = of-level-awaited;
+      awaited-leaves = refl;
+      awaited-first = λ q. refl;
+    }
+
+module _ {n : Node} {t : Ty} (w : Waiting n t) where
+  waiting-preserved : {s : Ty} {p : Prefix} → Preserved s n t p
+  waiting-preserved {s} {p} =
       record {
-        sent = rw (sending s p) (on-sent (opens p));
-        whole = λ w. rw (sending s p, complete-opens w) c;
-        types = rw (sending s p, leaving s p) (on-left (opens p));
+        sent = rw (w .sending s p) (on-sent (opens p));
+        whole = λ whole. rw (w .sending s p, complete-opens whole) (w .come-whole);
+        types = rw (w .sending s p, w .leaving s p) (on-left (opens p));
       }
     where
-      on-sent : (b : Bool) → IsPrefix t (cond b come awaited)
-      on-sent true = h
-      on-sent false = k
+      on-sent : (b : Bool) → IsPrefix t (cond b (w .come) (w .awaited))
+      on-sent true = w .come-is-prefix
+      on-sent false = w .awaited-is-prefix
 
-      on-left : (b : Bool) → Takes (derivative s p) (cond b (silent empty) n) (derivative t (cond b come awaited))
-      on-left true = rw d (takes-silent null-empty)
-      on-left false = rw e (takes (derivative s p))
+      on-left : (b : Bool) → Takes (derivative s p) (cond b (silent empty) n) (derivative t (cond b (w .come) (w .awaited)))
+      on-left true = rw (w .come-leaves) (takes-silent null-empty)
+      on-left false = rw (w .awaited-leaves) (w .takes (derivative s p))
+
+  waiting-feeds : {s : Ty} {p : Prefix} → IsPrefix s p → Feeds s n p (sends s n p) (leaves s n p)
+  waiting-feeds {s} {p} h = rw (w .sending s p, w .leaving s p) (go (opens p) refl)
+    where
+      go : (b : Bool) → opens p ≡ b → Feeds s n p (cond b (w .come) (w .awaited)) (cond b (silent empty) n)
+      go true e = w .opened (opens-test h .0 e)
+      go false e = w .closed (closed-test h .0 e)
 
   -- Demand 3 holds of it, since a prefix that opens it does so with anything joined to it, and one that does not is the empty prefix,
   -- after which the next one is all that has come.
   waiting-concat : {s : Ty} {p : Prefix} (q : Prefix) → IsPrefix s p → IsPrefix (derivative s p) q
-      → ((x : Prefix) → concat come x ≡ come) → ((x : Prefix) → concat awaited x ≡ x)
       → Same (sends s n (concat p q)) (concat (sends s n p) (sends (derivative s p) (leaves s n p) q))
       (leaves s n (concat p q)) (leaves (derivative s p) (leaves s n p) q)
   unfolding sends leaves
-  waiting-concat {s} {p} q h k c a =
-      rw (sending s (concat p q), leaving s (concat p q), sending s p, leaving s p) (go (opens p) refl)
+  waiting-concat {s} {p} q h k =
+      rw (w .sending s (concat p q), w .leaving s (concat p q), w .sending s p, w .leaving s p) (go (opens p) refl)
     where
       go : (b : Bool) → opens p ≡ b
-          → Same (cond (opens (concat p q)) come awaited)
-          (concat (cond b come awaited) (sends (derivative s p) (cond b (silent empty) n) q))
+          → Same (cond (opens (concat p q)) (w .come) (w .awaited))
+          (concat (cond b (w .come) (w .awaited)) (sends (derivative s p) (cond b (silent empty) n) q))
           (cond (opens (concat p q)) (silent empty) n) (leaves (derivative s p) (cond b (silent empty) n) q)
-      go true e = record { sent = rw (opens-concat q h k e, c); node = rw (opens-concat q h k e) }
+      go true e = record { sent = rw (opens-concat q h k e, w .come-first); node = rw (opens-concat q h k e) }
       go false e =
           record {
-            sent = rw (closed-concat q h k e, a, sending (derivative s p) q);
-            node = rw (closed-concat q h k e, leaving (derivative s p) q);
+            sent = rw (closed-concat q h k e, w .awaited-first, w .sending (derivative s p) q);
+            node = rw (closed-concat q h k e, w .leaving (derivative s p) q);
           }
 
 pub preserved : {s t : Ty} {n : Node} {p : Prefix} → Takes s n t → IsPrefix s p → Preserved s n t p
@@ -77,11 +137,8 @@ unfolding sends leaves derivative output-type
 preserved takes-pass h = record { sent = h; whole = λ c. c; types = takes-pass }
 preserved (takes-silent {n = t} z) h =
     record { sent = empty-prefix-is-prefix t; whole = λ c. empty-prefix-complete z; types = rw (derivative-empty t) (takes-silent z) }
-preserved takes-cue h =
-    waiting-preserved emit-cue cue-come cue-awaited (λ s. takes-cue) (λ s p. refl) (λ s p. refl) of-cue-come of-cue-awaited whole-cue refl refl
-preserved (takes-level {v = v} small) h =
-    waiting-preserved (emit-level v) (level-come v) level-awaited (λ s. takes-level small) (λ s p. refl) (λ s p. refl) (of-level-come small)
-    of-level-awaited whole-level refl refl
+preserved takes-cue h = waiting-preserved waiting-cue
+preserved (takes-level small) h = waiting-preserved (waiting-level small)
 preserved (takes-both d e) h =
     let a = preserved d h in
     let b = preserved e h in
@@ -151,16 +208,8 @@ pub feeds : {s t : Ty} {n : Node} {p : Prefix} → Takes s n t → IsPrefix s p 
 unfolding sends leaves
 feeds takes-pass h = feeds-pass
 feeds (takes-silent z) h = feeds-silent
-feeds {s} {p = p} takes-cue h = go (opens p) refl
-  where
-    go : (b : Bool) → opens p ≡ b → Feeds s emit-cue p (cond b cue-come cue-awaited) (cond b (silent empty) emit-cue)
-    go true e = feeds-cue (opens-test h .0 e)
-    go false e = feeds-cue-waiting (closed-test h .0 e)
-feeds {s} {p = p} (takes-level {v = v} small) h = go (opens p) refl
-  where
-    go : (b : Bool) → opens p ≡ b → Feeds s (emit-level v) p (cond b (level-come v) level-awaited) (cond b (silent empty) (emit-level v))
-    go true e = feeds-level (opens-test h .0 e)
-    go false e = feeds-level-waiting (closed-test h .0 e)
+feeds takes-cue h = waiting-feeds waiting-cue h
+feeds (takes-level small) h = waiting-feeds (waiting-level small) h
 feeds (takes-both d e) h = feeds-both (feeds d h) (feeds e h)
 feeds takes-left (of-beside h k) = feeds-left
 feeds takes-right (of-beside h k) = feeds-right
@@ -237,10 +286,8 @@ pub feed-concat : {s t : Ty} {n : Node} {p : Prefix} (q : Prefix) → Takes s n 
 unfolding sends leaves derivative concat output-type
 feed-concat q takes-pass h k = same
 feed-concat q (takes-silent {n = t} z) h k = record { sent = sym (concat-empty-left (empty-prefix-is-prefix t)); node = refl }
-feed-concat q takes-cue h k =
-    waiting-concat emit-cue cue-come cue-awaited (λ s. takes-cue) (λ s p. refl) (λ s p. refl) q h k (λ x. refl) (λ x. refl)
-feed-concat q (takes-level {v = v} small) h k =
-    waiting-concat (emit-level v) (level-come v) level-awaited (λ s. takes-level small) (λ s p. refl) (λ s p. refl) q h k (λ x. refl) (λ x. refl)
+feed-concat q takes-cue h k = waiting-concat waiting-cue q h k
+feed-concat q (takes-level small) h k = waiting-concat (waiting-level small) q h k
 feed-concat q (takes-both d e) h k =
     let a = feed-concat q d h k in
     let b = feed-concat q e h k in
