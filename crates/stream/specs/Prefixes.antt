@@ -1,7 +1,8 @@
 -- Prefixes: what has come so far of a stream. Document 01 calls one a slice (Files, "Slices" to "Join"), and document 02 adds those
--- of either (M-100) and what nodes 2 and 3 wait for (M-103). The source's names for them (its Figure 4) stand behind the kind bytes.
+-- of either (M-100), what nodes 2 and 3 wait for (M-103) and what is counted (M-104). The source's names for them (its Figure 4) stand
+-- behind the kind bytes.
 use mathlib.Core.Path.{_≡_}
-use Prim.Native.Nat.{ℕ, _<_}
+use Prim.Native.Nat.{ℕ, _+_, _<_}
 use Rattle.stream.specs.Levels.{level-limit}
 use Rattle.stream.specs.Types.{Ty, empty, cue, level, seq, par, either, first-part, second-part}
 pub mod Functions
@@ -62,6 +63,20 @@ empty-prefix (either s t) = none-chosen
 pub data Opens (s : Ty) (p : Prefix) : Type 0 where
   opens-differing : (p ≡ empty-prefix s → ⊥) → Opens s p
   opens-complete : Complete p → Opens s p
+
+-- "Reading a slice now also counts the cues and levels come in it" (M-104): its arrivals. A crossing and a choice are neither.
+unfoldable pub arrivals : Prefix → ℕ
+arrivals nothing = 0
+arrivals cue-awaited = 0
+arrivals cue-come = 1
+arrivals level-awaited = 0
+arrivals (level-come v) = 1
+arrivals (in-first p) = arrivals p
+arrivals (crossed b q) = arrivals b + arrivals q
+arrivals (beside p q) = arrivals p + arrivals q
+arrivals none-chosen = 0
+arrivals (first-chosen p) = arrivals p
+arrivals (second-chosen p) = arrivals p
 
 -- What a prefix leaves of its type (the source's derivative): "0 leaves empty; 1 and 3 leave the type; 2 and 4 leave
 -- empty; 5 leaves a sequence of what is left of the first part and the whole second; 6 leaves what is left of the

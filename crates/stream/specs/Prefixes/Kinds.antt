@@ -6,7 +6,7 @@ use Prim.Native.Nat.{ℕ, suc, _+_}
 use native.Mathlib.Omega.{arith}
 use lib.ListN.{length, getD}
 use Rattle.stream.specs.Levels.{value-width}
-use Rattle.stream.specs.Prefixes.{Prefix, nothing, cue-awaited, cue-come, level-awaited, level-come, in-first, crossed, beside, none-chosen, first-chosen, second-chosen}
+use Rattle.stream.specs.Prefixes.{Prefix, nothing, cue-awaited, cue-come, level-awaited, level-come, in-first, crossed, beside, none-chosen, first-chosen, second-chosen, arrivals}
 
 abbrev pub prefix-kind : Prefix → ℕ
 prefix-kind nothing = 0
@@ -88,6 +88,27 @@ totals weight (k ∷ ks) = weight k + totals weight ks
 pub tallies-append : (weight : ℕ → ℕ) (ps qs : List Prefix) → tallies weight (ps ++ qs) ≡ tallies weight ps + tallies weight qs
 tallies-append weight [] qs = omega arith
 tallies-append weight (p ∷ ps) qs = omega (arith, tallies-append weight ps qs)
+
+-- A cue or a level that has come is an arrival, by its kind.
+abbrev pub arrivals-by-kind : List ℕ
+arrivals-by-kind = 0 ∷ 0 ∷ 1 ∷ 0 ∷ 1 ∷ 0 ∷ 0 ∷ 0 ∷ 0 ∷ 0 ∷ 0 ∷ []
+
+abbrev pub root-arrivals : ℕ → ℕ
+root-arrivals k = getD arrivals-by-kind k 0
+
+pub arrivals-tally : (p : Prefix) → arrivals p ≡ tally root-arrivals p
+unfolding arrivals tally
+arrivals-tally nothing = refl
+arrivals-tally cue-awaited = refl
+arrivals-tally cue-come = refl
+arrivals-tally level-awaited = refl
+arrivals-tally (level-come v) = refl
+arrivals-tally (in-first p) = omega (arith, arrivals-tally p)
+arrivals-tally (crossed b q) = omega (arith, arrivals-tally b, arrivals-tally q)
+arrivals-tally (beside p q) = omega (arith, arrivals-tally p, arrivals-tally q)
+arrivals-tally none-chosen = refl
+arrivals-tally (first-chosen p) = omega (arith, arrivals-tally p)
+arrivals-tally (second-chosen p) = omega (arith, arrivals-tally p)
 
 -- A node counts for its kind, and its parts for themselves.
 pub tally-by-parts : (weight : ℕ → ℕ) (p : Prefix) → tally weight p ≡ weight (prefix-kind p) + tallies weight (prefix-parts p)

@@ -1,12 +1,12 @@
--- The laws of derivative and concatenation, and of what opens a node that waits.
+-- The laws of derivative and concatenation, of what opens a node that waits, and of arrivals.
 use mathlib.Core.Path.{_≡_, refl, sym, ap, ap₂, _∙_}
 use mathlib.Core.Bool.{Bool, true, false, _||_, not, true≢false, false≢true}
 use mathlib.Core.Logic.{_↔_}
-use Prim.Native.Nat.{_≤_}
+use Prim.Native.Nat.{_+_, _*_, _≤_}
 use native.Mathlib.Omega.{arith}
 use Rattle.stream.specs.Types.{Ty, empty, cue, level, seq, par, either, Nullable, null-empty, null-par, size}
 use Rattle.stream.specs.Types.Laws.{and-left, and-right, and-both}
-use Rattle.stream.specs.Prefixes.{Prefix, nothing, cue-awaited, cue-come, level-awaited, level-come, in-first, crossed, beside, none-chosen, first-chosen, second-chosen, Complete, whole-nothing, whole-cue, whole-level, whole-crossed, whole-beside, whole-first-chosen, whole-second-chosen, IsPrefix, of-empty, of-cue-awaited, of-cue-come, of-level-awaited, of-level-come, of-first, of-crossed, of-beside, of-none-chosen, of-first-chosen, of-second-chosen, empty-prefix, Opens, opens-differing, opens-complete, derivative, Concat, after-nothing, after-cue, after-level, cue-awaited-yet, level-awaited-yet, still-in-first, now-crossed, behind-crossing, each-side, none-chosen-yet, inside-first, inside-second}
+use Rattle.stream.specs.Prefixes.{Prefix, nothing, cue-awaited, cue-come, level-awaited, level-come, in-first, crossed, beside, none-chosen, first-chosen, second-chosen, Complete, whole-nothing, whole-cue, whole-level, whole-crossed, whole-beside, whole-first-chosen, whole-second-chosen, IsPrefix, of-empty, of-cue-awaited, of-cue-come, of-level-awaited, of-level-come, of-first, of-crossed, of-beside, of-none-chosen, of-first-chosen, of-second-chosen, empty-prefix, Opens, opens-differing, opens-complete, arrivals, derivative, Concat, after-nothing, after-cue, after-level, cue-awaited-yet, level-awaited-yet, still-in-first, now-crossed, behind-crossing, each-side, none-chosen-yet, inside-first, inside-second}
 use Rattle.stream.specs.Prefixes.Functions.{complete, brings-nothing, opens, concat}
 
 -- Complete: the test is the rule
@@ -358,6 +358,48 @@ pub closed-concat : {t : Ty} {p : Prefix} (q : Prefix) → IsPrefix t p → IsPr
 closed-concat {t} {p} q h k e =
     let nothing-yet = closed-empty h e in
     rw nothing-yet (concat-empty-left (rw (nothing-yet, derivative-empty t) at k))
+
+-- Arrivals: "Joining two slices adds their counts."
+pub arrivals-concat : {t : Ty} {p : Prefix} (q : Prefix) → IsPrefix t p → IsPrefix (derivative t p) q
+    → arrivals (concat p q) ≡ arrivals p + arrivals q
+unfolding arrivals concat derivative
+arrivals-concat q of-empty of-empty = refl
+arrivals-concat q of-cue-awaited k = omega arith
+arrivals-concat q of-cue-come of-empty = refl
+arrivals-concat q of-level-awaited k = omega arith
+arrivals-concat q (of-level-come h) of-empty = refl
+arrivals-concat q (of-first h) (of-first k) = arrivals-concat _ h k
+arrivals-concat q (of-first h) (of-crossed i d k) = omega (arith, arrivals-concat _ h i)
+arrivals-concat q (of-crossed h d i) k = omega (arith, arrivals-concat q i k)
+arrivals-concat q (of-beside h i) (of-beside k l) = omega (arith, arrivals-concat _ h k, arrivals-concat _ i l)
+arrivals-concat q of-none-chosen k = omega arith
+arrivals-concat q (of-first-chosen h) k = arrivals-concat q h k
+arrivals-concat q (of-second-chosen h) k = arrivals-concat q h k
+
+-- Nothing has come in the empty prefix.
+pub arrivals-empty : (t : Ty) → arrivals (empty-prefix t) ≡ 0
+unfolding arrivals empty-prefix
+arrivals-empty empty = refl
+arrivals-empty cue = refl
+arrivals-empty level = refl
+arrivals-empty (seq s t) = arrivals-empty s
+arrivals-empty (par s t) = omega (arith, arrivals-empty s, arrivals-empty t)
+arrivals-empty (either s t) = refl
+
+-- No more come than the type has leaves: of n nodes, (n + 1) / 2.
+pub arrivals-few : {t : Ty} {p : Prefix} → IsPrefix t p → 2 * arrivals p ≤ size t + 1
+unfolding arrivals size
+arrivals-few of-empty = omega arith
+arrivals-few of-cue-awaited = omega arith
+arrivals-few of-cue-come = omega arith
+arrivals-few of-level-awaited = omega arith
+arrivals-few (of-level-come h) = omega arith
+arrivals-few (of-first h) = omega (arith, arrivals-few h)
+arrivals-few (of-crossed h c k) = omega (arith, arrivals-few h, arrivals-few k)
+arrivals-few (of-beside h k) = omega (arith, arrivals-few h, arrivals-few k)
+arrivals-few of-none-chosen = omega arith
+arrivals-few (of-first-chosen h) = omega (arith, arrivals-few h)
+arrivals-few (of-second-chosen h) = omega (arith, arrivals-few h)
 
 -- Two lanes side by side: which of them comes first does not matter (the source's Theorem 3.4).
 

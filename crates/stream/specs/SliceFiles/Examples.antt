@@ -4,7 +4,7 @@ use mathlib.Core.Bool.{true, false}
 use mathlib.Core.List.{List, [], _∷_, map}
 use Prim.Native.Nat.{ℕ}
 use Rattle.stream.specs.Types.{Ty, empty, cue, level, seq, par, either}
-use Rattle.stream.specs.Prefixes.{nothing, cue-awaited, cue-come, level-awaited, level-come, in-first, crossed, beside, none-chosen, first-chosen, second-chosen, derivative}
+use Rattle.stream.specs.Prefixes.{nothing, cue-awaited, cue-come, level-awaited, level-come, in-first, crossed, beside, none-chosen, first-chosen, second-chosen, arrivals, derivative}
 use Rattle.stream.specs.Prefixes.Functions.{complete, concat}
 use Rattle.stream.specs.Reading.Examples.{verdict, section-of, numbers, verdicts}
 use Rattle.stream.specs.SliceFiles.{slice-file}
@@ -84,6 +84,15 @@ pub complete-examples :
     ≡ true ∷ false ∷ false ∷ false ∷ true ∷ false ∷ false ∷ true ∷ []
 unfolding stream-definitions
 complete-examples = refl
+
+-- A level that has come counts once, whatever bytes its value has; a crossing and a choice count nothing.
+pub arrivals-examples :
+    map arrivals
+    (level-come 516 ∷ level-awaited ∷ beside cue-come (level-come 0) ∷ in-first cue-awaited ∷ crossed nothing cue-awaited
+    ∷ crossed cue-come (in-first cue-come) ∷ none-chosen ∷ first-chosen cue-awaited ∷ second-chosen (level-come 514) ∷ [])
+    ≡ 1 ∷ 0 ∷ 2 ∷ 0 ∷ 0 ∷ 2 ∷ 0 ∷ 0 ∷ 1 ∷ []
+unfolding stream-definitions
+arrivals-examples = refl
 
 pub derivative-examples :
     (derivative (seq cue level) (in-first cue-come) ≡ seq empty level)
