@@ -1,10 +1,12 @@
--- Feeding a list of prefixes one after the other is feeding their concatenation.
+-- Feeding a list of prefixes one after the other is feeding their concatenation, and the arrivals of both are the same.
 use mathlib.Core.Path.{_≡_, refl, ap, _∙_}
 use mathlib.Core.List.{List, [], _∷_}
+use Prim.Native.Nat.{ℕ, _+_}
+use native.Mathlib.Omega.{arith}
 use Rattle.stream.specs.Types.{Ty}
-use Rattle.stream.specs.Prefixes.{Prefix, IsPrefix, derivative}
+use Rattle.stream.specs.Prefixes.{Prefix, IsPrefix, arrivals, derivative}
 use Rattle.stream.specs.Prefixes.Functions.{concat}
-use Rattle.stream.specs.Prefixes.Laws.{concat-is-prefix, derivative-concat}
+use Rattle.stream.specs.Prefixes.Laws.{concat-is-prefix, derivative-concat, arrivals-concat}
 use Rattle.node.specs.Nodes.{Node, Takes, Allowed}
 use Rattle.node.specs.Feeding.Functions.{sends, leaves}
 use Rattle.node.specs.Feeding.Laws.{preserved, feed-concat, leaves-allowed}
@@ -75,3 +77,16 @@ pub leaves-all-allowed : {s t : Ty} {n : Node} (ps : List Prefix) → Allowed s 
 unfolding derivative-all leaves-all sends-all
 leaves-all-allowed [] a r = a
 leaves-all-allowed (p ∷ ps) a (piece h r) = leaves-all-allowed ps (leaves-allowed a h) r
+
+-- The arrivals of a list are added up, and are those of its concatenation.
+
+unfoldable pub arrivals-all : List Prefix → ℕ
+arrivals-all [] = 0
+arrivals-all (p ∷ ps) = arrivals p + arrivals-all ps
+
+pub arrivals-concat-all : {s : Ty} {p : Prefix} (ps : List Prefix) → IsPrefix s p → Pieces (derivative s p) ps
+    → arrivals (concat-all p ps) ≡ arrivals-all (p ∷ ps)
+unfolding concat-all arrivals-all
+arrivals-concat-all [] h r = omega arith
+arrivals-concat-all (q ∷ ps) h (piece k r) =
+    omega (arith, arrivals-concat q h k, arrivals-concat-all ps (concat-is-prefix q h k) (rw (derivative-concat q h k) r))
