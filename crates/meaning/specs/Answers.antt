@@ -1,4 +1,4 @@
--- What each operation answers, from the bytes handed in (document 01, Operations; document 02, M-101).
+-- What each operation answers, from the bytes handed in (document 01, Operations; document 02, M-101 and M-104).
 use mathlib.Core.Bool.{Bool, true, false, _&&_}
 use mathlib.Core.List.{List, [], _∷_, _++_}
 use Prim.Native.Nat.{ℕ, _+_, _*_}
@@ -8,7 +8,7 @@ use Rattle.stream.specs.declared.Fault.the-variants.{NoRoom}
 use Rattle.stream.specs.Faults.{number, type-numbers, slice-numbers, patch-numbers}
 use Rattle.stream.specs.Types.{Ty}
 use Rattle.stream.specs.Buffers.{at-front}
-use Rattle.stream.specs.Prefixes.{derivative, Prefix}
+use Rattle.stream.specs.Prefixes.{Prefix, arrivals, derivative}
 use Rattle.stream.specs.Prefixes.Functions.{complete, concat}
 use Rattle.stream.specs.Reading.{Result, accepted, refused, go-on, require}
 use Rattle.stream.specs.TypeFiles.{type-file, type-file-bytes}
@@ -39,9 +39,9 @@ on-patch patch slice f = go-on (patch-file patch) (λ c. go-on (slice-file (c .p
 unfoldable pub check : List ℕ → Result (List ℕ)
 check patch = go-on (patch-file patch) (λ c. accepted (type-file-bytes (c .output)))
 
--- "Admit a type file and a slice; answers whether the slice is complete."
-unfoldable pub admit : List ℕ → List ℕ → Result Bool
-admit type slice = on-slice type slice (λ t p. accepted (complete p))
+-- "Admit a type file and a slice"; what it answers of the slice that was read is in `admitted`.
+unfoldable pub admit : List ℕ → List ℕ → Result Prefix
+admit type slice = on-slice type slice (λ t p. accepted p)
 
 -- "Left of a type and slice; writes a type file."
 unfoldable pub left : List ℕ → List ℕ → Result (List ℕ)
@@ -51,13 +51,20 @@ left type slice = on-slice type slice (λ t p. accepted (type-file-bytes (deriva
 unfoldable pub join : List ℕ → List ℕ → List ℕ → Result (List ℕ)
 join type first second = on-slices type first second (λ p q. accepted (slice-file-bytes (concat p q)))
 
--- "Feed a patch and a slice; writes the output slice file and the patch file left."
+-- "Feed a patch and a slice; writes the output slice file and the patch file left." It gives how many cues and levels came in the slice,
+-- "and .. the number sent" (M-104): those in its output.
 pub record FedFiles : Type 0 where
   pub output : List ℕ
   pub patch : List ℕ
+  pub arrived : ℕ
+  pub sent : ℕ
+
+abbrev pub files-of : (taken sent : Prefix) (next : Patch) → FedFiles
+files-of taken sent next =
+    record { output = slice-file-bytes sent; patch = patch-file-bytes next; arrived = arrivals taken; sent = arrivals sent }
 
 abbrev pub fed-files : Patch → Prefix → FedFiles
-fed-files a p = record { output = slice-file-bytes (sends (a .input) (a .node) p); patch = patch-file-bytes (patch-left a p) }
+fed-files a p = files-of p (sends (a .input) (a .node) p) (patch-left a p)
 
 unfoldable pub feed : List ℕ → List ℕ → Result FedFiles
 feed patch slice = on-patch patch slice (λ a p. accepted (fed-files a p))
@@ -84,7 +91,7 @@ abbrev pub into-both : (output-lent patch-lent : List ℕ) → Result FedFiles �
 into-both output-lent patch-lent r = with-room (fits-both (length output-lent) (length patch-lent)) r
 
 -- "Accepted is 0, with the number of bytes written, for Feed one number for each buffer .. Refused: the number alone." The
--- lengths, and Admit's `complete`, are free on a refusal; they are 0.
+-- lengths, Admit's `complete` and the counts are free on a refusal; they are 0.
 abbrev pub number-of : {A : Type 0} → Result A → ℕ
 number-of (accepted a) = 0
 number-of (refused e) = number e
@@ -100,12 +107,19 @@ as-number false = 0
 unfoldable pub written : Result (List ℕ) → Written
 written r = record { number = number-of r; written = value-of length r }
 
-unfoldable pub admitted : Result Bool → Admitted
-admitted r = record { number = number-of r; complete = value-of as-number r }
+-- Admit "answers whether the slice is complete", and how many cues and levels came in it.
+unfoldable pub admitted : Result Prefix → Admitted
+admitted r = record { number = number-of r; complete = value-of (λ p. as-number (complete p)) r; arrived = value-of arrivals r }
 
 unfoldable pub fed : Result FedFiles → Fed
 fed r =
-    record { number = number-of r; output = value-of (λ w. length (w .output)) r; patch = value-of (λ w. length (w .patch)) r }
+    record {
+      number = number-of r;
+      output = value-of (λ w. length (w .output)) r;
+      patch = value-of (λ w. length (w .patch)) r;
+      arrived = value-of (λ w. w .arrived) r;
+      sent = value-of (λ w. w .sent) r;
+    }
 
 -- "These stand at the front of the lent buffer, and the bytes behind them stay. Refused: .. every lent buffer unaltered."
 unfoldable pub after : {A : Type 0} → (A → List ℕ) → Result A → List ℕ → List ℕ

@@ -1,8 +1,8 @@
 -- The promises of the six operations: each is the text of an `ensures`, and what the demands take of a call (crates/demands).
 use mathlib.Core.Path.{_≡_}
-use mathlib.Core.Bool.{Bool}
 use mathlib.Core.List.{List}
 use Prim.Native.Nat.{ℕ}
+use Rattle.stream.specs.Prefixes.{Prefix}
 use Rattle.stream.specs.Reading.{Result}
 use Rattle.meaning.specs.declared.Written.{Written}
 use Rattle.meaning.specs.declared.Admitted.{Admitted}
@@ -15,7 +15,7 @@ pub record Writes (outcome : Result (List ℕ)) (lent : List ℕ) (answer : Writ
   pub buffer : lent-after ≡ after (λ file. file) (into-one lent outcome) lent
 
 -- What an operation that writes nothing promises.
-pub record Admits (outcome : Result Bool) (answer : Admitted) : Type 0 where
+pub record Admits (outcome : Result Prefix) (answer : Admitted) : Type 0 where
   pub answers : answer ≡ admitted outcome
 
 abbrev pub CheckPromise : (patch lent : List ℕ) → Written → List ℕ → Type 0

@@ -24,11 +24,12 @@ impl Written {
     }
 }
 
-// Admit: the number, and 1 if the slice is complete, else 0.
+// Admit: the number, 1 if the slice is complete, else 0, and how many cues and levels came in it.
 #[repr(C)]
 pub struct Admitted {
     pub number: u32,
     pub complete: u32,
+    pub arrived: u32,
 }
 
 impl Admitted {
@@ -38,16 +39,20 @@ impl Admitted {
         Admitted {
             number: number_of(fault),
             complete: 0,
+            arrived: 0,
         }
     }
 }
 
-// Feed: the number, and how many bytes stand at the front of each lent buffer.
+// Feed: the number, how many bytes stand at the front of each lent buffer, and how many cues and levels came in the slice and were
+// sent.
 #[repr(C)]
 pub struct Fed {
     pub number: u32,
     pub output: usize,
     pub patch: usize,
+    pub arrived: u32,
+    pub sent: u32,
 }
 
 impl Fed {
@@ -58,6 +63,8 @@ impl Fed {
             number: number_of(fault),
             output: 0,
             patch: 0,
+            arrived: 0,
+            sent: 0,
         }
     }
 }

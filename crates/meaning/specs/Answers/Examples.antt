@@ -57,31 +57,33 @@ written-examples = refl
 
 pub fed-examples :
     fed (fed-in 3 6) ∷ fed (fed-in 3 5) ∷ []
-    ≡ record { number = 0; output = 3; patch = 6 } ∷ record { number = 20; output = 0; patch = 0 } ∷ []
+    ≡ record { number = 0; output = 3; patch = 6; arrived = 1; sent = 1 } ∷ record { number = 20; output = 0; patch = 0; arrived = 0; sent = 0 } ∷ []
 unfolding node-definitions feed with-room fed
 fed-examples = refl
 
 -- What is sent is by the slice and by the patch, and the patch left is fed: the sides swapped, a first part that
--- has come, and two that leave more bytes than they had.
+-- has come, and two that leave more bytes than they had and send each arrival twice.
 pub feed-examples :
     feed (sections (4 ∷ 1 ∷ 2 ∷ []) (4 ∷ 6 ∷ 5 ∷ [])) (section-of (7 ∷ 2 ∷ 3 ∷ []))
     ∷ feed (sections (3 ∷ 1 ∷ 1 ∷ []) (7 ∷ [])) (section-of (6 ∷ 2 ∷ 1 ∷ []))
     ∷ feed (sections (3 ∷ 4 ∷ 1 ∷ 1 ∷ 1 ∷ []) (4 ∷ 7 ∷ 7 ∷ [])) (section-of (6 ∷ 7 ∷ 2 ∷ 2 ∷ 1 ∷ [])) ∷ []
-    ≡ accepted (record { output = section-of (7 ∷ 3 ∷ 2 ∷ []); patch = sections (4 ∷ 0 ∷ 2 ∷ []) (4 ∷ 6 ∷ 5 ∷ []) })
-    ∷ accepted (record { output = section-of (2 ∷ []); patch = sections (1 ∷ []) (1 ∷ 0 ∷ []) })
+    ≡ accepted (record { output = section-of (7 ∷ 3 ∷ 2 ∷ []); patch = sections (4 ∷ 0 ∷ 2 ∷ []) (4 ∷ 6 ∷ 5 ∷ []); arrived = 1; sent = 1 })
+    ∷ accepted (record { output = section-of (2 ∷ []); patch = sections (1 ∷ []) (1 ∷ 0 ∷ []); arrived = 1; sent = 1 })
     ∷ accepted (record {
       output = section-of (7 ∷ 7 ∷ 2 ∷ 2 ∷ 7 ∷ 2 ∷ 2 ∷ []);
       patch = sections (1 ∷ []) (4 ∷ 1 ∷ 4 ∷ 0 ∷ 0 ∷ 1 ∷ 4 ∷ 0 ∷ 0 ∷ []);
+      arrived = 2;
+      sent = 4;
     }) ∷ []
 unfolding node-definitions feed
 feed-examples = refl
 
--- 1 for complete, 0 for not, and 0 on a refusal.
+-- 1 for complete, 0 for not, and 0 on a refusal; cues and levels that came are counted.
 pub admit-examples :
     map (λ slice. admitted (admit (section-of (3 ∷ 1 ∷ 2 ∷ [])) (section-of slice)))
     ((6 ∷ 2 ∷ 4 ∷ 0 ∷ 0 ∷ []) ∷ (6 ∷ 2 ∷ 3 ∷ []) ∷ (5 ∷ 2 ∷ []) ∷ (6 ∷ 1 ∷ 3 ∷ []) ∷ [])
-    ≡ record { number = 0; complete = 1 } ∷ record { number = 0; complete = 0 } ∷ record { number = 0; complete = 0 }
-    ∷ record { number = 14; complete = 0 } ∷ []
+    ≡ record { number = 0; complete = 1; arrived = 2 } ∷ record { number = 0; complete = 0; arrived = 1 }
+    ∷ record { number = 0; complete = 0; arrived = 1 } ∷ record { number = 14; complete = 0; arrived = 0 } ∷ []
 unfolding node-definitions admit admitted
 admit-examples = refl
 

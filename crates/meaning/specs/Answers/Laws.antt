@@ -16,7 +16,7 @@ use Rattle.stream.specs.Faults.{number, type-numbers, slice-numbers, patch-numb
 use Rattle.stream.specs.Types.{Ty, par, Small}
 use Rattle.stream.specs.Types.Laws.{and-both}
 use Rattle.stream.specs.Prefixes.{Prefix, beside, IsPrefix, of-beside, empty-prefix, derivative, Concat}
-use Rattle.stream.specs.Prefixes.Functions.{complete, concat}
+use Rattle.stream.specs.Prefixes.Functions.{concat}
 use Rattle.stream.specs.Prefixes.Laws.{derivative-size, concat-is-prefix, empty-prefix-is-prefix, left-lane-first, right-lane-first, right-lane-after, left-lane-after, concat-only, concats}
 use Rattle.stream.specs.Reading.{Bytes, Result, accepted, refused, IsAccepted, go-on, require, section-bytes}
 use Rattle.stream.specs.Reading.Laws.{bytes-nil, go-on-accepted, require-accepted}
@@ -59,7 +59,7 @@ pub check-answers : {s t : Ty} {n : Node} → Allowed s n t → check (patch-fil
 unfolding check
 check-answers a = rw (patch-file-complete a)
 
-pub admit-answers : {t : Ty} {p : Prefix} → Small t → IsPrefix t p → admit (type-file-bytes t) (slice-file-bytes p) ≡ accepted (complete p)
+pub admit-answers : {t : Ty} {p : Prefix} → Small t → IsPrefix t p → admit (type-file-bytes t) (slice-file-bytes p) ≡ accepted p
 unfolding admit
 admit-answers {t} w h = rw (type-file-complete t w) (rw (slice-file-complete h (prefix-short h w)))
 
@@ -137,9 +137,9 @@ pub admit-accepted : (type slice : List ℕ) → Bytes type → Bytes slice
     → IsAccepted (admit type slice) ↔ ((t : TypeFile type) × SliceFile (t .type) slice)
 unfolding admit
 admit-accepted type slice b c = (
-  (λ a. let x = type-and-slice type slice (λ t p. accepted (complete p)) (a .0) b c (a .1) in (x .typed, x .sliced)),
+  (λ a. let x = type-and-slice type slice (λ t p. accepted p) (a .0) b c (a .1) in (x .typed, x .sliced)),
   (λ x. let t = x .0 in let p = x .1 in
-      (complete (p .prefix), rw (t .bytes, p .bytes) at (admit-answers (t .small) (p .is-prefix)))),
+      (p .prefix, rw (t .bytes, p .bytes) at (admit-answers (t .small) (p .is-prefix)))),
 )
 
 pub feed-accepted : {patch : List ℕ} (slice : List ℕ) (f : PatchFile patch) → Bytes slice → IsAccepted (feed patch slice) ↔ SliceFile (f .trees .input) slice

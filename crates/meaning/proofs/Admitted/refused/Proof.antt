@@ -9,7 +9,7 @@ number-of-requires c κs = search needs
 
 returns : tie.Need-returns
 unfolding admitted
-returns c = λ i. record { number = c .number-of .ensures i; complete = 0 }
+returns c = λ i. record { number = c .number-of .ensures i; complete = 0; arrived = 0 }
 
 pub refused-spec : {M : Type 1} → statement M
 refused-spec = tie.close (tie.spec number-of-requires returns)

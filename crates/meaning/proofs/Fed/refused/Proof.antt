@@ -9,7 +9,7 @@ number-of-requires c κs = search needs
 
 returns : tie.Need-returns
 unfolding fed
-returns c = λ i. record { number = c .number-of .ensures i; output = 0; patch = 0 }
+returns c = λ i. record { number = c .number-of .ensures i; output = 0; patch = 0; arrived = 0; sent = 0 }
 
 pub refused-spec : {M : Type 1} → statement M
 refused-spec = tie.close (tie.spec number-of-requires returns)
