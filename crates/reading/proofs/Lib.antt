@@ -3,6 +3,7 @@ pub mod TypeSkip
 pub mod PrefixWalk
 pub mod CompleteWidth
 pub mod OpeningScan
+pub mod ArrivalsScan
 pub mod NestedTypes
 pub mod NestedSlices
 pub mod InputParts

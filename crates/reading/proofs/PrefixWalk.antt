@@ -66,9 +66,11 @@ starts p s =
     }
 
 module _ {slice : List ℕ} {place : ℕ} {p : Prefix} {passed : List ℕ} {owed end : ℕ} (run : Run slice place p passed owed end) where
+  pub within : end + owed ≤ place + prefix-width p
+  within = omega (arith, run .come, run .sums root-width, run .many, widths-many (run .ahead), width-tally p)
+
   pub room : PrefixAt slice place p → end + owed ≤ length slice
-  room stands =
-      omega (arith, run .come, run .sums root-width, run .many, widths-many (run .ahead), width-tally p, prefix-inside stands)
+  room stands = omega (arith, within, prefix-inside stands)
 
   -- At the end whatever was summed is the tally of the whole.
   pub summed : owed ≡ 0 → (weight : ℕ → ℕ) → totals weight passed ≡ tally weight p

@@ -17,9 +17,9 @@ use Rattle.reading.specs.declared.prefixes.SliceRead.{SliceRead}
 use Rattle.reading.specs.declared.prefixes.SliceRead.the-variants.{Whole, Refused}
 use Rattle.stream.specs.Types.{Ty, size, type-limit}
 use Rattle.stream.specs.Levels.{value-width}
-use Rattle.stream.specs.Prefixes.{Prefix, nothing, cue-awaited, cue-come, level-awaited, level-come, in-first, crossed, beside, none-chosen, first-chosen, second-chosen, Complete, IsPrefix, derivative}
+use Rattle.stream.specs.Prefixes.{Prefix, nothing, cue-awaited, cue-come, level-awaited, level-come, in-first, crossed, beside, none-chosen, first-chosen, second-chosen, Complete, IsPrefix, arrivals, derivative}
 use Rattle.stream.specs.Prefixes.Functions.{complete, opens}
-use Rattle.stream.specs.Prefixes.Kinds.{root-width}
+use Rattle.stream.specs.Prefixes.Kinds.{root-width, root-arrivals}
 use Rattle.stream.specs.Reading.{Reading, read, fault, Result, accepted, refused, tree}
 use Rattle.reading.specs.TypeReads.{TypeAt, TypeIn}
 use Rattle.stream.specs.SliceFiles.{Owed, owed, prefix-root, prefix-bytes, slice-over, slice-file}
@@ -57,7 +57,7 @@ overlap (second-chosen p) = overlap p
 
 -- What is known of a prefix of t.
 unfoldable pub known : Ty → Prefix → Known
-known t p = record { complete = complete p; remains = size (derivative t p); overlap = overlap p }
+known t p = record { complete = complete p; remains = size (derivative t p); arrived = arrivals p; overlap = overlap p }
 
 unfoldable pub slice-read : Ty → Result Prefix → SliceRead
 slice-read t (accepted p) = Whole (known t p)
@@ -88,6 +88,10 @@ pub record SomePrefixIn (bytes : List ℕ) (place : PrefixPlace) : Type 0 where
 -- Whether the prefix in `place` opens a node that waits, whichever it is.
 pub record OpensIn (bytes : List ℕ) (place : PrefixPlace) (answer : Bool) : Type 0 where
   pub each : (p : Prefix) → PrefixIn bytes place p → answer ≡ opens p
+
+-- How many cues and levels came in the prefix in `place`, whichever it is.
+pub record ArrivalsIn (bytes : List ℕ) (place : PrefixPlace) (answer : ℕ) : Type 0 where
+  pub each : (p : Prefix) → PrefixIn bytes place p → answer ≡ arrivals p
 
 -- `end` is where the prefix at `place` ends, whichever it is.
 pub record PrefixEnds (bytes : List ℕ) (place end : ℕ) : Type 0 where
@@ -147,7 +151,8 @@ stood-on k t = cond (is-unfinished k) (size t) 1
 unfoldable pub leaf-walked : (at nodes n place k : ℕ) → Walk
 leaf-walked at nodes n place k =
     cond (leb (root-width k) (n - place))
-    (Past (at + nodes) (place + root-width k) (record { complete = not (is-unfinished k); remains = nodes; overlap = 1 }))
+    (Past (at + nodes) (place + root-width k)
+    (record { complete = not (is-unfinished k); remains = nodes; arrived = root-arrivals k; overlap = 1 }))
     (Failed SliceCutShort)
 
 pub record WalksLeaf (types : List ℕ) (at : ℕ) (slice : List ℕ) (place : ℕ) (answer : Walk) : Type 0 where
@@ -157,16 +162,18 @@ pub record WalksLeaf (types : List ℕ) (at : ℕ) (slice : List ℕ) (place : �
 -- What is known of a prefix by its parts: of a sequence, whose first part is still coming or was crossed, and of two side by side.
 abbrev pub first-known : Known → (second-size : ℕ) → Known
 first-known first second-size =
-    record { complete = false; remains = 1 + first .remains + second-size; overlap = 1 + first .overlap }
+    record { complete = false; remains = 1 + first .remains + second-size; arrived = first .arrived; overlap = 1 + first .overlap }
 
 abbrev pub crossed-known : Known → Known → Known
-crossed-known first second = second
+crossed-known first second =
+    record { complete = second .complete; remains = second .remains; arrived = first .arrived + second .arrived; overlap = second .overlap }
 
 abbrev pub both-known : Known → Known → Known
 both-known first second =
     record {
       complete = first .complete && second .complete;
       remains = 1 + first .remains + second .remains;
+      arrived = first .arrived + second .arrived;
       overlap = 1 + first .overlap + second .overlap;
     }
 
@@ -181,7 +188,8 @@ behind-both type-end (Past part-end prefix-end part) = Past type-end prefix-end 
 behind-both type-end (Failed e) = Failed e
 
 abbrev pub SumsFit : Known → Walk → Type 0
-SumsFit first (Past type-end prefix-end second) = (first .remains + second .remains < type-limit) × (first .overlap + second .overlap < type-limit)
+SumsFit first (Past type-end prefix-end second) =
+    (first .remains + second .remains < type-limit) × (first .overlap + second .overlap < type-limit) × (first .arrived + second .arrived < type-limit)
 SumsFit first (Failed e) = Unit
 
 -- A prefix of what is owed, of at most `budget` nodes, at the front of some bytes.
@@ -205,6 +213,7 @@ pub record AcceptedSlice (t : Ty) (file : List ℕ) (about : Known) : Type 0 whe
   pub is-prefix : IsPrefix t prefix
   pub completeness : about .complete ≡ complete prefix
   pub remains : about .remains ≡ size (derivative t prefix)
+  pub arrived : about .arrived ≡ arrivals prefix
   pub overlap : about .overlap ≡ overlap prefix
   pub stands : PrefixAt file 2 prefix
   pub fills : length file ≡ 2 + prefix-width prefix

@@ -1,12 +1,13 @@
-// Slices as bytes: whether a file is a slice of a type, and what Left and Join have to know of one.
+// Slices as bytes: whether a file is a slice of a type, and what the operations have to know of one.
 use crate::types::TypePlace;
 use stream::Fault;
 ghost use mathlib.Core.Path.{_≡_};
-ghost use Prim.Native.Nat.{_+_, _<_};
+ghost use Prim.Native.Nat.{_+_, _≤_, _<_};
 ghost use Rattle.stream.specs.Types.{type-limit};
-ghost use Rattle.stream.specs.Prefixes.Kinds.{prefix-arity, root-width};
+ghost use Rattle.stream.specs.Bounds.{slice-file-limit};
+ghost use Rattle.stream.specs.Prefixes.Kinds.{prefix-arity, root-width, root-arrivals};
 ghost use Rattle.reading.specs.TypeReads.{SomeTypeIn};
-ghost use Rattle.reading.specs.SliceReads.{type-kind-of, is-unfinished, kind-brings-nothing, belongs-at, first-complete, SomePrefixAt, PrefixEnds, SomePrefixIn, OpensIn, CompleteWide, CompleteAt, CompleteEnds, first-known, crossed-known, both-known, combined, SumsFit};
+ghost use Rattle.reading.specs.SliceReads.{type-kind-of, is-unfinished, kind-brings-nothing, belongs-at, first-complete, SomePrefixAt, PrefixEnds, SomePrefixIn, OpensIn, ArrivalsIn, CompleteWide, CompleteAt, CompleteEnds, first-known, crossed-known, both-known, combined, SumsFit};
 
 // No slice file is longer: the count, a byte for each of 255 nodes, and two for each of at most 128 levels.
 pub const MAX_SLICE_FILE: usize = 513;
@@ -30,11 +31,13 @@ impl PrefixPlace {
 }
 
 // What is known of a prefix that was read against its type: whether it is complete, how many nodes the type has that it
-// leaves, and by how many bytes its join with a later prefix is shorter than the two. The lengths stand apart: side by side
-// they would be loaded as one just after they were stored one by one, which costs a tenth of a small call.
+// leaves, how many cues and levels came in it, and by how many bytes its join with a later prefix is shorter than the two. The
+// lengths stand apart: side by side they would be loaded as one just after they were stored one by one, which costs a tenth of a
+// small call.
 pub struct Known {
     pub remains: usize,
     pub complete: bool,
+    pub arrived: u32,
     pub overlap: usize,
 }
 
@@ -137,6 +140,21 @@ pub fn root_width(kind: u8) -> usize
     }
 }
 
+// How many arrivals a node of a slice is without its parts: a cue or a level that has come is one.
+pub fn arrivals_of(kind: u8) -> u32
+    ensures { λ r. ⌜ r ≡ root-arrivals kind ⌝ }
+{
+    match kind {
+        0..=1 => 0,
+        2 => 1,
+        3 => 0,
+        4 => 1,
+        5..=10 => 0,
+        // No slice's kind.
+        11..=255 => 0,
+    }
+}
+
 // Whether a slice's kind may stand where a prefix of a type of kind `ty` is owed, `complete` if it has to be.
 pub fn belongs(ty: u8, kind: u8, complete: bool) -> bool
     ensures { λ r. ⌜ r ≡ belongs-at ty kind complete ⌝ }
@@ -198,6 +216,26 @@ pub fn opens(slice: &[u8], place: PrefixPlace) -> bool
     !unfinished
 }
 
+// How many cues and levels came in the prefix in `place`. A level's value is passed as in `skip_prefix`.
+pub fn count_arrivals(slice: &[u8], place: PrefixPlace) -> u32
+    requires { ⌜ SomePrefixIn (now slice) place ⌝ }
+    requires { ⌜ place .end ≤ slice-file-limit ⌝ }
+    ensures { λ r. ⌜ ArrivalsIn (now (slice .entry)) place r ⌝ }
+{
+    let mut count: u32 = 0;
+    let mut next = place.start;
+    let end = place.end;
+    while next < end {
+        let kind = slice[next];
+        next += 1;
+        count += arrivals_of(kind);
+        if kind == 4 {
+            next += VALUE_WIDTH;
+        }
+    }
+    count
+}
+
 // What a type says of how long its complete prefixes are: all have so many bytes, or a choice decides.
 pub enum Width {
     Fixed(usize),
@@ -247,13 +285,15 @@ pub fn in_first(first: Known, second: usize) -> Known
     Known {
         complete: false,
         remains: 1 + first.remains + second,
+        arrived: first.arrived,
         overlap: 1 + first.overlap,
     }
 }
 
 // Of a sequence whose first part was crossed, from that part and from how the walk through the second ended: a join leaves the
-// first part as it is, so what is known of the second is known of both.
+// first part as it is, so what is known of the second is known of both; only what came in the first has come as well.
 pub fn crossed(first: Known, second: Walk) -> Walk
+    requires { ⌜ SumsFit first second ⌝ }
     ensures { λ r. ⌜ r ≡ combined crossed-known first second ⌝ }
 {
     match second {
@@ -264,6 +304,7 @@ pub fn crossed(first: Known, second: Walk) -> Walk
             Known {
                 complete: prefix.complete,
                 remains: prefix.remains,
+                arrived: first.arrived + prefix.arrived,
                 overlap: prefix.overlap,
             },
         ),
@@ -283,6 +324,7 @@ pub fn beside(first: Known, second: Walk) -> Walk
             Known {
                 complete: first.complete && prefix.complete,
                 remains: 1 + first.remains + prefix.remains,
+                arrived: first.arrived + prefix.arrived,
                 overlap: 1 + first.overlap + prefix.overlap,
             },
         ),

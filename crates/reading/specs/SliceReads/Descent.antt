@@ -10,7 +10,7 @@ use Rattle.stream.specs.declared.Fault.{Fault}
 use Rattle.stream.specs.declared.Fault.the-variants.{SliceCutShort, SliceUnlisted}
 use Rattle.stream.specs.Types.{Ty, size, kind, first-part, second-part, has-kind}
 use Rattle.stream.specs.Levels.{read-value}
-use Rattle.stream.specs.Prefixes.{Prefix, nothing, cue-awaited, cue-come, level-awaited, level-come, in-first, crossed, beside, none-chosen, first-chosen, second-chosen, IsPrefix, of-empty, of-cue-awaited, of-cue-come, of-level-awaited, of-level-come, of-first, of-crossed, of-beside, of-none-chosen, of-first-chosen, of-second-chosen, derivative}
+use Rattle.stream.specs.Prefixes.{Prefix, nothing, cue-awaited, cue-come, level-awaited, level-come, in-first, crossed, beside, none-chosen, first-chosen, second-chosen, IsPrefix, of-empty, of-cue-awaited, of-cue-come, of-level-awaited, of-level-come, of-first, of-crossed, of-beside, of-none-chosen, of-first-chosen, of-second-chosen, arrivals, derivative}
 use Rattle.stream.specs.Prefixes.Functions.{complete}
 use Rattle.stream.specs.Reading.{Bytes, Reading, read, fault, read-on, Root, leaf, one-part, two-parts}
 use Rattle.stream.specs.Reading.Laws.{FoundTree, tree-sound, _&_, past, every}
@@ -102,13 +102,13 @@ module _ (t : Ty) (c : Bool) (budget : ℕ) (s : List ℕ) where
 module _ (t : Ty) (type-end part-end n : ℕ) where
   pub first-chosen-walked : (g : Reading Prefix)
       → behind-both type-end (walked (first-part t) part-end n g) ≡ walked t type-end n (read-on g (λ p r. read (first-chosen p) r))
-  unfolding walked known complete derivative overlap
+  unfolding walked known complete derivative arrivals overlap
   first-chosen-walked (read p r) = refl
   first-chosen-walked (fault e) = refl
 
   pub second-chosen-walked : (g : Reading Prefix)
       → behind-both type-end (walked (second-part t) part-end n g) ≡ walked t type-end n (read-on g (λ p r. read (second-chosen p) r))
-  unfolding walked known complete derivative overlap
+  unfolding walked known complete derivative arrivals overlap
   second-chosen-walked (read p r) = refl
   second-chosen-walked (fault e) = refl
 

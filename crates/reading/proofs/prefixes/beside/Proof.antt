@@ -30,11 +30,14 @@ add-t14 c = omega (arith, limit-is, sums c)
 add-t16 : tie.Need-add-t16
 add-t16 c = omega (arith, limit-is, sums c)
 
-add-t18 : tie.Need-add-t18
-add-t18 c = omega (arith, limit-is, sums c)
+add-t19 : tie.Need-add-t19
+add-t19 c = omega (arith, limit-is, sums c)
 
-add-t20 : tie.Need-add-t20
-add-t20 c = omega (arith, limit-is, sums c)
+add-t21 : tie.Need-add-t21
+add-t21 c = omega (arith, limit-is, sums c)
+
+add-t23 : tie.Need-add-t23
+add-t23 c = omega (arith, limit-is, sums c)
 
 returns : tie.Need-returns
 returns c = rw (c .before .second .given .1)
@@ -52,7 +55,8 @@ beside-spec =
     enum-known-second-2
     add-t14
     add-t16
-    add-t18
-    add-t20
+    add-t19
+    add-t21
+    add-t23
     returns
     returns-2)

@@ -1,0 +1,89 @@
+-- `count_arrivals` meets its contract: whichever prefix stands in `place`, what was counted are the arrivals in the nodes before `next`
+-- (`Counting`), and behind a level that has come its value is passed.
+use borrow.Author.Needs.{needs}
+use Prim.Native.Nat.{ℕ, _+_, _-_, _≤_}
+use native.Mathlib.Omega.{arith}
+use lib.ListN.{getD}
+use Rattle.stream.specs.Bounds.{slice-file-limit}
+use Rattle.stream.specs.Prefixes.{Prefix}
+use Rattle.reading.specs.SliceReads.{PrefixIn}
+use Rattle.reading.proofs.OpeningScan.{ends-inside}
+use Rattle.reading.proofs.PrefixWalk.{level-wide, other-wide}
+use Rattle.reading.proofs.ArrivalsScan.{Counting, none-counted, few, one-at-most, counted-on, counted-all}
+use Rattle.reading.proofs.prefixes.count_arrivals.Statement.{statement}
+use Rattle.reading.proofs.prefixes.count_arrivals.Tie as tie
+
+abbrev Inv-loop : tie.InvT-loop
+Inv-loop slice count₀ next₀ end count next = (p : Prefix) → PrefixIn slice (record { start = next₀; end = end }) p → Counting slice next₀ p count next
+
+abbrev μ-loop : tie.MeasureT-loop
+μ-loop slice count₀ next₀ end count next = end - next
+
+-- The map of places: what stands before what.
+abbrev entry : tie.At-loop Inv-loop μ-loop → tie.Start Inv-loop μ-loop
+entry c = c .before .before
+
+abbrev turn : tie.After-arrivals-of Inv-loop μ-loop → tie.At-loop Inv-loop μ-loop
+turn c = c .before .before .before
+
+abbrev kind : tie.At-loop Inv-loop μ-loop → ℕ
+kind c = getD (entry c .args .slice .now) (c .loop .next) 0
+
+-- What was counted before the turn, of the prefix that stands there.
+so-far : (c : tie.At-loop Inv-loop μ-loop) → (c .loop .count + entry c .args .place .start ≤ c .loop .next) × (entry c .args .place .end ≤ slice-file-limit)
+so-far c = let some = entry c .pre .0 in (few (some .here) (c .loop .inv (some .prefix) (some .here)), entry c .pre .1)
+
+loop-holds : tie.Need-loop-holds Inv-loop μ-loop
+loop-holds c = λ p here. none-counted here
+
+shared-slice-read-kind : tie.Need-shared-slice-read-kind Inv-loop μ-loop
+shared-slice-read-kind c = omega (arith, ends-inside (entry (c .before .before) .pre .0))
+
+add-next : tie.Need-add-next Inv-loop μ-loop
+add-next c = omega (arith, so-far (c .before .before))
+
+arrivals-of-requires : tie.Need-arrivals-of-requires Inv-loop μ-loop
+arrivals-of-requires c κs = search needs
+
+add-count : tie.Need-add-count Inv-loop μ-loop
+add-count c = omega (arith, so-far (turn c), c .arrivals-of .ensures, one-at-most (kind (turn c)))
+
+loop-again : tie.Need-loop-again Inv-loop μ-loop
+loop-again c = λ p here.
+    counted-on here (turn (c .before) .loop .inv p here) (omega arith) (omega (arith, c .before .arrivals-of .ensures))
+    (omega (arith, level-wide (kind (turn (c .before))) (c .if1 .taken)))
+
+add-next-2 : tie.Need-add-next-2 Inv-loop μ-loop
+add-next-2 c = omega (arith, so-far (turn (c .before)))
+
+loop-less : tie.Need-loop-less Inv-loop μ-loop
+loop-less c = omega arith
+
+loop-less-2 : tie.Need-loop-less-2 Inv-loop μ-loop
+loop-less-2 c = omega arith
+
+loop-again-2 : tie.Need-loop-again-2 Inv-loop μ-loop
+loop-again-2 c = λ p here.
+    counted-on here (turn (c .before) .loop .inv p here) (omega arith) (omega (arith, c .before .arrivals-of .ensures))
+    (omega (arith, other-wide (kind (turn (c .before))) (c .if1 .left)))
+
+returns : tie.Need-returns Inv-loop μ-loop
+returns c = record { each = λ p here. counted-all here (c .before .loop .inv p here) (omega arith) }
+
+pub count-arrivals-spec : {M : Type 1} → statement M
+count-arrivals-spec =
+    tie.close
+    (tie.spec
+    Inv-loop
+    μ-loop
+    loop-holds
+    shared-slice-read-kind
+    add-next
+    arrivals-of-requires
+    add-count
+    add-next-2
+    loop-less
+    loop-again
+    loop-less-2
+    loop-again-2
+    returns)
