@@ -21,10 +21,10 @@ use Rattle.stream.specs.Types.Laws.{and-left, size-positive}
 use Rattle.stream.specs.Types.Kinds.{type-arity, leaf-alone, Fork, fork-size}
 use Rattle.stream.specs.Levels.{value-width}
 use Rattle.stream.specs.Levels.Laws.{value-there, value-missing}
-use Rattle.stream.specs.Prefixes.{Prefix, nothing, cue-awaited, cue-come, level-awaited, level-come, in-first, crossed, beside, none-chosen, derivative}
+use Rattle.stream.specs.Prefixes.{Prefix, nothing, cue-awaited, cue-come, level-awaited, level-come, in-first, crossed, beside, none-chosen, arrivals, derivative}
 use Rattle.stream.specs.Prefixes.Functions.{complete}
-use Rattle.stream.specs.Prefixes.Laws.{derivative-size}
-use Rattle.stream.specs.Prefixes.Kinds.{prefix-arities, prefix-arity, root-width}
+use Rattle.stream.specs.Prefixes.Laws.{derivative-size, arrivals-few}
+use Rattle.stream.specs.Prefixes.Kinds.{prefix-arities, prefix-arity, root-width, root-arrivals}
 use Rattle.stream.specs.Reading.{Bytes, Reading, read, fault, read-on, Root, leaf}
 use Rattle.stream.specs.Reading.Laws.{bytes-drop, _&_, past, every}
 use Rattle.stream.specs.Reading.Numbers.{long-or-short}
@@ -40,12 +40,12 @@ use Rattle.reading.specs.SliceReads.Descent.{kind-roots, kind-root, root-tested
 
 module _ (t : Ty) (at nodes n place k : ℕ) where
   come : (p : Prefix) (r : List ℕ) → n ≡ place + root-width k + length r → size t ≡ nodes
-      → complete p ≡ not (is-unfinished k) → size (derivative t p) ≡ nodes → overlap p ≡ 1
+      → complete p ≡ not (is-unfinished k) → size (derivative t p) ≡ nodes → arrivals p ≡ root-arrivals k → overlap p ≡ 1
       → leaf-walked at nodes n place k ≡ walked t (at + size t) n (read p r)
   unfolding leaf-walked walked known
-  come p r l stands e s o =
+  come p r l stands e s a o =
       let m : n - length r ≡ place + root-width k = omega arith in
-      rw (le-leb (root-width k) (n - place) (omega arith), e, s, o, m, stands)
+      rw (le-leb (root-width k) (n - place) (omega arith), e, s, a, o, m, stands)
 
   missing : n - place < root-width k → leaf-walked at nodes n place k ≡ Failed SliceCutShort
   unfolding leaf-walked
@@ -75,7 +75,7 @@ level-root g = read-on g (λ v r. leaf (level-come v) r)
 module _ (t : Ty) (c : Bool) (budget at n place : ℕ) (s r : List ℕ) (long : n ≡ place + 1 + length r) where
   level-read : size t ≡ 1 → prefix-root (owed t c) s ≡ kind-root 4 t c r
       → leaf-walked at 1 n place 4 ≡ walked t (at + size t) n (read-owed (suc budget) (owed t c) s)
-  unfolding complete derivative overlap size walked
+  unfolding complete derivative arrivals overlap size walked
   level-read alone e = ⊎-elim there short (long-or-short value-width r)
     where
       there : value-width ≤ length r → leaf-walked at 1 n place 4 ≡ walked t (at + size t) n (read-owed (suc budget) (owed t c) s)
@@ -83,7 +83,7 @@ module _ (t : Ty) (c : Bool) (budget at n place : ℕ) (s r : List ℕ) (long : 
           let value = value-there SliceCutShort r h in
           let rest = drop value-width r in
           rw (reads-leaf t c budget s (level-come (value .0)) rest (e ∙ ap level-root (value .1)))
-          (come t at 1 n place 4 (level-come (value .0)) rest (omega (arith, length-drop value-width r)) alone refl refl refl)
+          (come t at 1 n place 4 (level-come (value .0)) rest (omega (arith, length-drop value-width r)) alone refl refl refl refl)
 
       short : length r < value-width → leaf-walked at 1 n place 4 ≡ walked t (at + size t) n (read-owed (suc budget) (owed t c) s)
       short h =
@@ -92,46 +92,46 @@ module _ (t : Ty) (c : Bool) (budget at n place : ℕ) (s r : List ℕ) (long : 
 
   leaf-read : (k : ℕ) → prefix-arity k ≡ 0 → (is-unfinished k ≡ false → size t ≡ 1) → prefix-root (owed t c) s ≡ kind-root k t c r
       → leaf-walked at (stood-on k t) n place k ≡ walked t (at + size t) n (read-owed (suc budget) (owed t c) s)
-  unfolding complete derivative overlap size
+  unfolding complete derivative arrivals overlap size
   leaf-read =
       every
       (λ k root. prefix-arity k ≡ 0 → (is-unfinished k ≡ false → size t ≡ 1) → prefix-root (owed t c) s ≡ root r
       → leaf-walked at (stood-on k t) n place k ≡ walked t (at + size t) n (read-owed (suc budget) (owed t c) s))
       (λ x. fault SliceUnlisted) (kind-roots t c)
-      ((λ none alone e. plain 0 nothing e (alone refl) refl refl refl refl)
-      & (λ none alone e. awaited 1 cue-awaited e refl refl refl refl)
-      & (λ none alone e. plain 2 cue-come e (alone refl) refl refl refl refl)
-      & (λ none alone e. awaited 3 level-awaited e refl refl refl refl)
+      ((λ none alone e. plain 0 nothing e (alone refl) refl refl refl refl refl)
+      & (λ none alone e. awaited 1 cue-awaited e refl refl refl refl refl)
+      & (λ none alone e. plain 2 cue-come e (alone refl) refl refl refl refl refl)
+      & (λ none alone e. awaited 3 level-awaited e refl refl refl refl refl)
       & (λ none alone e. level-read (alone refl) e)
       & (λ none alone e. absurd (omega arith))
       & (λ none alone e. absurd (omega arith))
       & (λ none alone e. absurd (omega arith))
-      & (λ none alone e. awaited 8 none-chosen e refl refl refl refl)
+      & (λ none alone e. awaited 8 none-chosen e refl refl refl refl refl)
       & (λ none alone e. absurd (omega arith))
       & (λ none alone e. absurd (omega arith))
       & past (λ k l none alone e. absurd (omega (arith, beyond prefix-arities 2 k l))))
     where
       plain : (k : ℕ) (p : Prefix) → prefix-root (owed t c) s ≡ leaf p r → size t ≡ 1 → root-width k ≡ 1 → complete p ≡ not (is-unfinished k)
-          → size (derivative t p) ≡ 1 → overlap p ≡ 1
+          → size (derivative t p) ≡ 1 → arrivals p ≡ root-arrivals k → overlap p ≡ 1
           → leaf-walked at 1 n place k ≡ walked t (at + size t) n (read-owed (suc budget) (owed t c) s)
-      plain k p e alone wide d l o = rw (reads-leaf t c budget s p r e) (come t at 1 n place k p r (omega arith) alone d l o)
+      plain k p e alone wide d l a o = rw (reads-leaf t c budget s p r e) (come t at 1 n place k p r (omega arith) alone d l a o)
 
       awaited : (k : ℕ) (p : Prefix) → prefix-root (owed t c) s ≡ leaf p r → root-width k ≡ 1 → complete p ≡ not (is-unfinished k)
-          → size (derivative t p) ≡ size t → overlap p ≡ 1
+          → size (derivative t p) ≡ size t → arrivals p ≡ root-arrivals k → overlap p ≡ 1
           → leaf-walked at (size t) n place k ≡ walked t (at + size t) n (read-owed (suc budget) (owed t c) s)
-      awaited k p e wide d l o = rw (reads-leaf t c budget s p r e) (come t at (size t) n place k p r (omega arith) refl d l o)
+      awaited k p e wide d l a o = rw (reads-leaf t c budget s p r e) (come t at (size t) n place k p r (omega arith) refl d l a o)
 
 -- What is known of a prefix by its parts
 
 first-is : (t : Ty) (p : Prefix) → first-known (known (first-part t) p) (size (second-part t)) ≡ known t (in-first p)
-unfolding known complete derivative overlap size
+unfolding known complete derivative arrivals overlap size
 first-is t p =
     let l : 1 + size (derivative (first-part t) p) + size (second-part t) ≡ suc (size (derivative (first-part t) p) + size (second-part t)) = omega arith in
     let o : 1 + overlap p ≡ suc (overlap p) = omega arith in
     rw (l, o)
 
 both-is : (t : Ty) (p q : Prefix) → both-known (known (first-part t) p) (known (second-part t) q) ≡ known t (beside p q)
-unfolding known complete derivative overlap size
+unfolding known complete derivative arrivals overlap size
 both-is t p q =
     let l : 1 + size (derivative (first-part t) p) + size (derivative (second-part t) q)
     ≡ suc (size (derivative (first-part t) p) + size (derivative (second-part t) q)) = omega arith in
@@ -139,7 +139,7 @@ both-is t p q =
     rw (l, o)
 
 crossed-is : (t : Ty) (p q : Prefix) → crossed-known (known (first-part t) p) (known (second-part t) q) ≡ known t (crossed p q)
-unfolding known complete derivative overlap
+unfolding known complete derivative arrivals overlap
 crossed-is t p q = refl
 
 past-is : {a b x y : ℕ} {k l : Known} → a ≡ b → x ≡ y → k ≡ l → Past a x k ≡ Past b y l
@@ -178,6 +178,7 @@ pub record Came (budget : ℕ) (t : Ty) (at : ℕ) (slice : List ℕ) (place : �
   pub knows : knowledge ≡ known t prefix
   pub few : nodes prefix ≤ size t
   pub remains-within : knowledge .remains ≤ size t
+  pub arrived-within : knowledge .arrived ≤ size t
   pub overlap-within : knowledge .overlap ≤ size t
 
 module _ {types : List ℕ} {at : ℕ} {t : Ty} (stands : TypeAt types at t) (slice : List ℕ) (place : ℕ) (c : Bool) where
@@ -231,6 +232,7 @@ module _ {types : List ℕ} {at : ℕ} {t : Ty} (stands : TypeAt types at t) (sl
               knows = k;
               few = nodes-within (f .is .is);
               remains-within = rw k (derivative-size (f .is .is));
+              arrived-within = rw k (omega (arith, arrivals-few (f .is .is), size-positive t));
               overlap-within = rw k (overlap-size (f .is .is));
             }
 
@@ -411,7 +413,17 @@ module _ {types : List ℕ} {at : ℕ} {t : Ty} {slice : List ℕ} {place : ℕ}
   pub both-sums : (answer : Walk) → Walks types type-end slice prefix-end c answer → SumsFit first answer
   both-sums (Past second-end after second) w =
       let s = came second-stands slice prefix-end c (size (second-part t)) (omega arith) (halfway .forks .begins .bytes) (first-came .inside) w in
-      omega (arith, first-came .remains-within, first-came .overlap-within, s .remains-within, s .overlap-within, split, stands .small)
+      omega (
+        arith,
+        first-came .remains-within,
+        first-came .overlap-within,
+        first-came .arrived-within,
+        s .remains-within,
+        s .overlap-within,
+        s .arrived-within,
+        split,
+        stands .small,
+      )
   both-sums (Failed e) w = tt
 
   pub still-first : getD slice place 0 ≡ 5 → (end : ℕ) → TypeEnds types type-end end

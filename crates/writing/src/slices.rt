@@ -7,6 +7,7 @@ use crate::appending::within;
 use reading::prefixes::Known;
 use reading::prefixes::SliceRead;
 use reading::prefixes::Walk;
+use reading::prefixes::arrivals_of;
 use reading::prefixes::belongs;
 use reading::prefixes::beside;
 use reading::prefixes::crossed;
@@ -70,6 +71,7 @@ fn walk_leaf(types: &[u8], at: usize, slice: &[u8], place: usize, left: &mut [u8
         Known {
             complete: !awaited,
             remains: end - at,
+            arrived: arrivals_of(kind),
             overlap: 1,
         },
     )

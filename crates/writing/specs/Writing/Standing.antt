@@ -86,6 +86,7 @@ slice-stands t file about p bytes e k =
       is-prefix = f .1;
       completeness = ap (λ a. a .complete) k;
       remains = ap (λ a. a .remains) k;
+      arrived = ap (λ a. a .arrived) k;
       overlap = ap (λ a. a .overlap) k;
       stands = record { rest = []; here = rw (← f .0) (behind-count (prefix-bytes p [])) };
       fills = ap length (sym (f .0)) ∙ slice-file-size p;

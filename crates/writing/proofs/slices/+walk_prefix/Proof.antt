@@ -330,7 +330,10 @@ module _ (t : ℕ) where
   walk-prefix-requires-2 c κs = second-asked (c .before .before .before) (crossing (c .before))
 
   crossed-requires : lts.Need-crossed-requires calls here walk-prefix.Post
-  crossed-requires c κs = search needs
+  crossed-requires c κs =
+      let second = c .before .before in
+      let branch = second .before .before in
+      both-sums (half (branch .before .before) (crossing branch) .halfway) _ (second .walk-prefix2 .ensures .walks)
 
   returns-7 : lts.Need-returns-7 calls here walk-prefix.Post
   returns-7 c =

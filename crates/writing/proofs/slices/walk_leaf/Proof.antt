@@ -8,7 +8,7 @@ use Prim.Native.Nat.{ℕ, _+_, _-_, _<_, _≤_}
 use lib.ListN.{getD}
 use Rattle.stream.specs.declared.Fault.the-variants.{SliceCutShort}
 use Rattle.stream.specs.Types.{Ty, size}
-use Rattle.stream.specs.Prefixes.Kinds.{root-width}
+use Rattle.stream.specs.Prefixes.Kinds.{root-width, root-arrivals}
 use Rattle.reading.specs.declared.prefixes.Walk.the-variants.{Past, Failed}
 use Rattle.reading.specs.SliceReads.{is-unfinished, stood-on, leaf-walked}
 use Rattle.writing.proofs.SliceLeft.{leaf-size}
@@ -35,12 +35,12 @@ module _ (at nodes n place k width : ℕ) (wide : width ≡ root-width k) where
   unfolding leaf-walked
   cut h = rw (lt-leb (root-width k) (n - place) (omega arith))
 
-  come : (end : ℕ) (u : Bool) → u ≡ is-unfinished k → end ≡ at + nodes → width ≤ n - place
-      → Past end (place + width) (record { complete = not u; remains = end - at; overlap = 1 }) ≡ leaf-walked at nodes n place k
+  come : (end arrived : ℕ) (u : Bool) → u ≡ is-unfinished k → arrived ≡ root-arrivals k → end ≡ at + nodes → width ≤ n - place
+      → Past end (place + width) (record { complete = not u; remains = end - at; arrived = arrived; overlap = 1 }) ≡ leaf-walked at nodes n place k
   unfolding leaf-walked
-  come end u f e h =
+  come end arrived u f a e h =
       let passed : end - at ≡ nodes = omega arith in
-      rw (le-leb (root-width k) (n - place) (omega arith), passed, wide, f, e)
+      rw (le-leb (root-width k) (n - place) (omega arith), passed, wide, f, a, e)
 
 shared-slice-read-kind : tie.Need-shared-slice-read-kind
 shared-slice-read-kind c = search needs
@@ -71,13 +71,16 @@ add-t12 c = search needs
 sub-t13 : tie.Need-sub-t13
 sub-t13 c = omega (arith, let some = entry-before-root-width (root-width-before-slice-known2 c) .pre .0 in c .before .before .write-leaf-left .ensures .each (some .type) (some .stands) .0)
 
+arrivals-of-requires : tie.Need-arrivals-of-requires
+arrivals-of-requires c κs = search needs
+
 same-length : tie.Need-same-length
 same-length c = search needs
 
 returns-2 : tie.Need-returns-2
 returns-2 c =
-    let leaf = c .before .before .write-leaf-left .ensures in
-    let asked = is-unfinished-before-slice-known2 c in
+    let leaf = c .before .before .before .write-leaf-left .ensures in
+    let asked = is-unfinished-before-slice-known2 (c .before) in
     let kind = asked .before .before in
     let some = entry-before-root-width kind .pre .0 in
     let stood : (t : Ty) → size (leaf-leaves (asked .is-unfinished .result) t) ≡ stood-on (kind-of kind) t =
@@ -86,7 +89,7 @@ returns-2 c =
       walks =
           record {
             each = λ t stands.
-                come _ _ _ _ _ _ (kind .root-width .ensures) _ _ (asked .is-unfinished .ensures)
+                come _ _ _ _ _ _ (kind .root-width .ensures) _ _ _ (asked .is-unfinished .ensures) (c .arrivals-of .ensures)
                 (leaf .each t stands .0 ∙ ap (λ n. entry-before-root-width kind .args .at + n) (stood t)) (omega arith);
           };
       long = leaf .each (some .type) (some .stands) .1 .long;
@@ -105,5 +108,6 @@ walk-leaf-spec =
     write-leaf-left-requires
     add-t12
     sub-t13
+    arrivals-of-requires
     same-length
     returns-2)
