@@ -1,5 +1,5 @@
 //! A plain interpreter of patches, slices and feeds, written from document 01 and
-//! requests M-100 to M-103 of document 02 alone, to be compared with another
+//! requests M-100 to M-104 of document 02 alone, to be compared with another
 //! implementation. M-102 changes no answer, so nothing here is its own.
 //!
 //! Trees live on the heap. Files are read into trees ([`Type`], [`Slice`],
@@ -29,7 +29,7 @@ pub use files::{patch_file, slice_file, type_file};
 pub use measuring::longest_slice;
 pub use nodes::Node;
 pub use numbers::Number;
-pub use operations::{admit, check, feed, join, left, longest};
+pub use operations::{admit, check, feed, join, left, longest, Admitted, FedFiles};
 pub use program::run_program;
 pub use slices::{empty_slice, join_slices, what_slice_leaves, Slice};
 pub use types::Type;

@@ -1,5 +1,5 @@
-//! The numbers with which document 01 and request M-100 refuse; M-101 and M-103
-//! have none of their own.
+//! The numbers with which document 01 and request M-100 refuse; M-101, M-103 and
+//! M-104 have none of their own.
 
 /// Refusal number as the documents give it.
 pub type Number = u32;

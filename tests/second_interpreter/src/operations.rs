@@ -5,6 +5,9 @@
 //! stand at the front of the lent buffer, and the bytes behind them stay.
 //! Refused: the number alone, every lent buffer unaltered." So every answer is
 //! made whole before the first byte is written.
+//!
+//! M-104: "Reading a slice now also counts the cues and levels come in it; Admit and
+//! Feed give this, and Feed the number sent." A refused call gives no count.
 
 use crate::feeding::{feed_node, Fed};
 use crate::files::{
@@ -22,6 +25,29 @@ const SLICE_WAS_READ: &str = "a slice read against a type is a slice of it";
 /// A patch that passed both passes and a slice of its input can be fed.
 const PATCH_WAS_CHECKED: &str = "a checked patch takes every slice of its input type";
 
+/// What an accepted Admit answers.
+#[derive(Clone, Copy, Debug, PartialEq, Eq)]
+pub struct Admitted {
+    /// "whether the slice is complete".
+    pub complete: bool,
+    /// M-104: the number of "the cues and levels come in it".
+    pub arrived: u32,
+}
+
+/// What an accepted Feed answers: "the number of bytes written, for Feed one number
+/// for each buffer", and the two counts of M-104.
+#[derive(Clone, Copy, Debug, PartialEq, Eq)]
+pub struct FedFiles {
+    /// The bytes written of "the output slice file".
+    pub output: usize,
+    /// The bytes written of "the patch file left".
+    pub patch: usize,
+    /// The number of cues and levels come in the slice that was fed.
+    pub arrived: u32,
+    /// "the number sent": of cues and levels come in the output slice.
+    pub sent: u32,
+}
+
 /// "**Check** a patch; writes its output type file."
 pub fn check(patch: &[u8], buffer: &mut [u8]) -> Result<usize, Number> {
     let accepted = accept_patch(patch)?;
@@ -29,10 +55,13 @@ pub fn check(patch: &[u8], buffer: &mut [u8]) -> Result<usize, Number> {
 }
 
 /// "**Admit** a type file and a slice; answers whether the slice is complete,
-/// writing nothing."
-pub fn admit(type_file: &[u8], slice_file: &[u8]) -> Result<bool, Number> {
+/// writing nothing", and since M-104 also how many cues and levels have come in it.
+pub fn admit(type_file: &[u8], slice_file: &[u8]) -> Result<Admitted, Number> {
     let (_, slice) = read_type_and_slice(type_file, slice_file)?;
-    Ok(slice.is_complete())
+    Ok(Admitted {
+        complete: slice.is_complete(),
+        arrived: slice.arrivals(),
+    })
 }
 
 /// "**Left** of a type and slice; writes a type file. As Admit, then 20."
@@ -59,27 +88,30 @@ pub fn join(
 
 /// "**Feed** a patch and a slice; writes the output slice file and the patch
 /// file left. As Check without 20; 11 to 14 against the input type; 20 if
-/// either buffer is too short."
+/// either buffer is too short." Since M-104 it also gives the count of the slice
+/// read "and ... the number sent".
 pub fn feed(
     patch: &[u8],
     slice: &[u8],
     output: &mut [u8],
     patch_left: &mut [u8],
-) -> Result<(usize, usize), Number> {
+) -> Result<FedFiles, Number> {
     let Accepted { input, node, .. } = accept_patch(patch)?;
     let slice = read_slice_file(slice, &input)?;
     let Fed { sent, left } = feed_node(&node, &input, &slice).expect(PATCH_WAS_CHECKED);
     // "The patch left has as its input type what the slice leaves."
     let input_left = what_slice_leaves(&input, &slice).expect(SLICE_WAS_READ);
-    let sent = slice_file(&sent);
-    let left = patch_file(&input_left, &left);
-    if sent.len() > output.len() || left.len() > patch_left.len() {
+    let sent_file = slice_file(&sent);
+    let left_file = patch_file(&input_left, &left);
+    if sent_file.len() > output.len() || left_file.len() > patch_left.len() {
         return Err(BUFFER_TOO_SHORT);
     }
-    Ok((
-        write_answer(&sent, output)?,
-        write_answer(&left, patch_left)?,
-    ))
+    Ok(FedFiles {
+        output: write_answer(&sent_file, output)?,
+        patch: write_answer(&left_file, patch_left)?,
+        arrived: slice.arrivals(),
+        sent: sent.arrivals(),
+    })
 }
 
 /// M-101: "From a type file, write a slice file such that no slice accepted for

@@ -43,13 +43,14 @@ pub fn run_program(input: &mut dyn Read, output: &mut dyn Write) -> io::Result<(
 
 /// One feed: its line and the patch left. "A line per slice: the number, and if
 /// 0 the output and the left input type, each the section's bytes in two-digit
-/// lower-case hexadecimal, one space between fields."
+/// lower-case hexadecimal, one space between fields." The counts of M-104 are no
+/// fields of it.
 fn feed_once(patch: &[u8], slice: &[u8]) -> Result<(String, Vec<u8>), Number> {
     let mut output = vec![0; LONGEST_SLICE_FILE];
     let mut patch_left = vec![0; LONGEST_PATCH_FILE];
-    let (output_length, patch_length) = feed(patch, slice, &mut output, &mut patch_left)?;
-    output.truncate(output_length);
-    patch_left.truncate(patch_length);
+    let written = feed(patch, slice, &mut output, &mut patch_left)?;
+    output.truncate(written.output);
+    patch_left.truncate(written.patch);
     let sent = hexadecimal(first_section(&output));
     let input_left = hexadecimal(first_section(&patch_left));
     Ok((format!("0 {sent} {input_left}"), patch_left))

@@ -1,5 +1,5 @@
-//! Slices: what has come of a stream, what that leaves of its type, and how two
-//! slices that follow each other join.
+//! Slices: what has come of a stream, how much that is, what it leaves of its type,
+//! and how two slices that follow each other join.
 
 use crate::types::Type;
 
@@ -67,6 +67,21 @@ impl Slice {
             Slice::Crossed(_, second) => second.is_complete(),
             Slice::Beside(left, right) => left.is_complete() && right.is_complete(),
             Slice::FirstChosen(chosen) | Slice::SecondChosen(chosen) => chosen.is_complete(),
+        }
+    }
+
+    /// M-104: "the cues and levels come in it". A level counts one, whatever its
+    /// value; a crossing or a choice counts only what is in it.
+    pub fn arrivals(&self) -> u32 {
+        match self {
+            Slice::CueCome | Slice::LevelCome(_) => 1,
+            Slice::Empty | Slice::CueNotYet | Slice::LevelNotYet | Slice::NoneChosen => 0,
+            Slice::Uncrossed(inside) | Slice::FirstChosen(inside) | Slice::SecondChosen(inside) => {
+                inside.arrivals()
+            }
+            Slice::Crossed(one, other) | Slice::Beside(one, other) => {
+                one.arrivals() + other.arrivals()
+            }
         }
     }
 

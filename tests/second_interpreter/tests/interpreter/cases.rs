@@ -1,7 +1,7 @@
 //! The ten cases of document 01, the eighth as M-103 has it, as bytes through the
 //! operations.
 
-use crate::common::{answered, fed, patch, section};
+use crate::common::{answered, fed, is_complete, patch, section};
 use second_interpreter::{admit, check, join, left, run_program};
 
 /// Feeds sections; expects the sections sent and left.
@@ -143,8 +143,8 @@ fn case_6_regroup_right() {
 fn case_7_crossing() {
     let stream = section(&[3, 1, 1]);
     assert_eq!(admit(&stream, &section(&[6, 1, 1])), Err(14));
-    assert_eq!(admit(&stream, &section(&[6, 2, 1])), Ok(false));
-    assert_eq!(admit(&stream, &section(&[6, 2, 2])), Ok(true));
+    assert_eq!(is_complete(&stream, &section(&[6, 2, 1])), Ok(false));
+    assert_eq!(is_complete(&stream, &section(&[6, 2, 2])), Ok(true));
     assert_eq!(
         answered(|buffer| left(&stream, &section(&[5, 2]), buffer)),
         Ok(section(&[3, 0, 1]))

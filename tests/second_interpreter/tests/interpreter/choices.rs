@@ -1,8 +1,8 @@
 //! Request M-100: either, choices, choose and the two marks, as bytes.
 
-use second_interpreter::{admit, check, join, Number};
+use second_interpreter::{check, join, Number};
 
-use crate::common::{answered, fed, patch, section};
+use crate::common::{answered, fed, is_complete, patch, section};
 use crate::kinds::{expect_feeds, expect_joins, Join};
 use crate::refusals::{nodes_number, patch_number, slice_number, type_number, with};
 
@@ -262,7 +262,7 @@ fn a_choice_is_not_made_again() {
 
 #[test]
 fn complete_choices() {
-    let complete = |stream: &[u8], slice: &[u8]| admit(&section(stream), &section(slice));
+    let complete = |stream: &[u8], slice: &[u8]| is_complete(&section(stream), &section(slice));
     assert_eq!(complete(&[5, 1, 2], &[8]), Ok(false));
     assert_eq!(complete(&[5, 1, 2], &[9, 1]), Ok(false));
     assert_eq!(complete(&[5, 1, 2], &[9, 2]), Ok(true));
@@ -313,7 +313,8 @@ fn choices_in_a_crossed_first_part() {
     assert_eq!(slice_number(&stream, &section(&[6, 9, 1])), 14);
     assert_eq!(slice_number(&stream, &section(&[6, 10, 3])), 14);
     assert_eq!(slice_number(&stream, &section(&[6, 9, 2])), 11);
-    assert_eq!(admit(&section(&stream), &section(&[6, 9, 2, 1])), Ok(false));
+    let whole = section(&[6, 9, 2, 1]);
+    assert_eq!(is_complete(&section(&stream), &whole), Ok(false));
     assert_eq!(slice_number(&[3, 5, 0, 0, 1], &section(&[6, 8, 1])), 14);
     // The demand goes through 6, 7, 9 and 10.
     let lamps = [3, 4, 5, 1, 1, 1, 0];
@@ -325,10 +326,11 @@ fn choices_in_a_crossed_first_part() {
     assert_eq!(slice_number(&rows, &section(&[6, 6, 2, 9, 10, 1])), 14);
     assert_eq!(slice_number(&rows, &section(&[6, 6, 2, 10, 1])), 14);
     let whole = section(&[6, 6, 2, 9, 10, 2, 0]);
-    assert_eq!(admit(&section(&rows), &whole), Ok(true));
+    assert_eq!(is_complete(&section(&rows), &whole), Ok(true));
     // Inside a choice that owes nothing, neither does its sequence's second.
     let whole = section(&[9, 6, 2, 8]);
-    assert_eq!(admit(&section(&[5, 3, 1, 5, 1, 1, 0]), &whole), Ok(false));
+    let stream = section(&[5, 3, 1, 5, 1, 1, 0]);
+    assert_eq!(is_complete(&stream, &whole), Ok(false));
 }
 
 #[test]

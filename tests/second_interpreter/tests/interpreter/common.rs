@@ -1,6 +1,7 @@
-//! Files by hand: sections with their counts, and calls with long buffers.
+//! Files by hand: sections with their counts, and calls with long buffers. What a call
+//! counts is held against the bytes of the files, in every test that calls it so.
 
-use second_interpreter::{feed, Number};
+use second_interpreter::{admit, feed, Number};
 
 /// A section: a two-byte count and these bytes.
 pub fn section(contents: &[u8]) -> Vec<u8> {
@@ -17,16 +18,63 @@ pub fn patch(stream: &[u8], nodes: &[u8]) -> Vec<u8> {
     file
 }
 
-/// Feeds with long buffers: the files written.
-pub fn fed(patch: &[u8], slice: &[u8]) -> Result<(Vec<u8>, Vec<u8>), Number> {
+/// The cues and levels come in a slice file, from its bytes alone: the kinds 2 and 4,
+/// the two bytes behind a 4 being its value and no kinds.
+pub fn come_in(slice: &[u8]) -> u32 {
+    let mut bytes = slice[2..].iter();
+    let mut come = 0;
+    while let Some(kind) = bytes.next() {
+        if *kind == 4 {
+            bytes.nth(1).expect("a value of two bytes");
+        }
+        come += u32::from([2, 4].contains(kind));
+    }
+    come
+}
+
+/// Admits a slice: whether it is complete.
+pub fn is_complete(stream: &[u8], slice: &[u8]) -> Result<bool, Number> {
+    let admitted = admit(stream, slice)?;
+    assert_eq!(admitted.arrived, come_in(slice), "{slice:?}");
+    Ok(admitted.complete)
+}
+
+/// What a feed with long buffers gives: the files written, and the two counts.
+#[derive(Debug, PartialEq, Eq)]
+pub struct Given {
+    /// The output slice file.
+    pub output: Vec<u8>,
+    /// The patch file left.
+    pub left: Vec<u8>,
+    /// The cues and levels come in the slice.
+    pub arrived: u32,
+    /// The cues and levels come in the output.
+    pub sent: u32,
+}
+
+/// Feeds with long buffers: the files written, and the two counts.
+pub fn fed_and_counted(patch: &[u8], slice: &[u8]) -> Result<Given, Number> {
     let mut output = vec![0xEE; 1_000];
     let mut left = vec![0xEE; 10_000];
-    let (output_length, left_length) = feed(patch, slice, &mut output, &mut left)?;
-    assert!(output[output_length..].iter().all(|byte| *byte == 0xEE));
-    assert!(left[left_length..].iter().all(|byte| *byte == 0xEE));
-    output.truncate(output_length);
-    left.truncate(left_length);
-    Ok((output, left))
+    let answer = feed(patch, slice, &mut output, &mut left)?;
+    assert!(output[answer.output..].iter().all(|byte| *byte == 0xEE));
+    assert!(left[answer.patch..].iter().all(|byte| *byte == 0xEE));
+    output.truncate(answer.output);
+    left.truncate(answer.patch);
+    assert_eq!(answer.arrived, come_in(slice), "{patch:?} {slice:?}");
+    assert_eq!(answer.sent, come_in(&output), "{patch:?} {slice:?}");
+    Ok(Given {
+        output,
+        left,
+        arrived: answer.arrived,
+        sent: answer.sent,
+    })
+}
+
+/// Feeds with long buffers: the files written.
+pub fn fed(patch: &[u8], slice: &[u8]) -> Result<(Vec<u8>, Vec<u8>), Number> {
+    let given = fed_and_counted(patch, slice)?;
+    Ok((given.output, given.left))
 }
 
 /// Calls an operation with a long buffer: the file written.

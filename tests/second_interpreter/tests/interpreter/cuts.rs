@@ -17,10 +17,10 @@ use crate::properties::Run;
 use crate::waiting::Met;
 
 /// Two slices that join to a third.
-type Cut = (Slice, Slice);
+pub type Cut = (Slice, Slice);
 
 /// All pairs that join to the slice, the second a slice of what the first leaves.
-fn cuts(whole: &Slice) -> Vec<Cut> {
+pub fn cuts(whole: &Slice) -> Vec<Cut> {
     let not_come = |none: Slice| vec![(none, whole.clone()), (whole.clone(), Slice::Empty)];
     match whole {
         Slice::Empty | Slice::CueNotYet | Slice::LevelNotYet | Slice::NoneChosen => {

@@ -3,11 +3,11 @@
 //! faults of its type file are in `refusals`, with those of the other operations.
 
 use second_interpreter::{
-    admit, every_slice, every_type, longest, longest_by_trying, longest_slice, slice_file,
-    type_file, Slice, Type,
+    every_slice, every_type, longest, longest_by_trying, longest_slice, slice_file, type_file,
+    Slice, Type,
 };
 
-use crate::common::{answered, section};
+use crate::common::{answered, is_complete, section};
 use crate::generator::{full_type, random_slice, random_type, Random};
 use crate::properties::keeps_its_word;
 use crate::refusals::with;
@@ -22,7 +22,7 @@ fn expect_longest(table: &[(&[u8], &[u8])]) {
     for (stream, slice) in table {
         let answer = answered(|buffer| longest(&section(stream), buffer));
         assert_eq!(answer, Ok(section(slice)), "type {stream:?}");
-        assert_eq!(admit(&section(stream), &section(slice)), Ok(true));
+        assert_eq!(is_complete(&section(stream), &section(slice)), Ok(true));
     }
 }
 
@@ -124,7 +124,8 @@ fn every_slice_of_every_small_type() {
         let answer = longest_file(&stream);
         assert_eq!(answer.len(), longest_by_trying(&stream), "{stream:?}");
         // What is written is a slice of the type, and complete.
-        assert_eq!(admit(&type_file(&stream), &answer), Ok(true), "{stream:?}");
+        let complete = is_complete(&type_file(&stream), &answer);
+        assert_eq!(complete, Ok(true), "{stream:?}");
         // Of all slices one alone is as worded, and that is the one written.
         let mut worded = every_slice(&stream);
         worded.retain(|slice| is_as_worded(&stream, slice, &longest_by_trying));
@@ -169,7 +170,7 @@ fn expect_of_any(random: &mut Random, stream: &Type) -> Vec<u8> {
     let answer = longest_file(stream);
     assert!(answer.len() <= 513);
     assert_eq!(answer.len(), length_from_the_back(stream), "{stream:?}");
-    assert_eq!(admit(&stream_file, &answer), Ok(true), "{stream:?}");
+    assert_eq!(is_complete(&stream_file, &answer), Ok(true), "{stream:?}");
     let slice = longest_slice(stream);
     assert_eq!(answer, slice_file(&slice), "{stream:?}");
     assert!(is_as_worded(stream, &slice, &length_from_the_back));

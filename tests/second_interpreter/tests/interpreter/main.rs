@@ -1,5 +1,6 @@
 //! Tests of the second interpreter through its public functions.
 
+mod arrivals;
 mod cases;
 mod choices;
 mod common;

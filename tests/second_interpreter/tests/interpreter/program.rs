@@ -48,6 +48,17 @@ fn lamps_wait_while_the_house_fills() {
 }
 
 #[test]
+fn counts_are_on_no_line() {
+    // Two arrive and three are sent; M-104 gives the program nothing to print.
+    let input = stream(&[
+        patch(&[3, 1, 4, 1, 1], &[13]),
+        section(&[6, 2, 7, 2, 1]),
+        section(&[7, 0, 2]),
+    ]);
+    assert_eq!(lines(&input), "0 07060202060201 040001\n0 070002 040000\n");
+}
+
+#[test]
 fn refused_patch_stops() {
     let bad = [
         (vec![], "1\n"),

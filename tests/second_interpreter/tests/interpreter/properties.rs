@@ -7,7 +7,7 @@ use second_interpreter::{
     patch_file, slice_file, type_file, what_slice_leaves, Fed, Node, Number, Slice, Type,
 };
 
-use crate::common::{answered, fed};
+use crate::common::{answered, fed, fed_and_counted, is_complete, Given};
 use crate::generator::{damaged, random_node, random_slice, random_type, Random};
 use crate::waiting::Met;
 
@@ -95,7 +95,7 @@ fn operations_on_slices_agree_with_the_trees() {
         let q = some_slice(&mut random, &after_p);
         let (stream_file, p_file, q_file) = (type_file(&stream), slice_file(&p), slice_file(&q));
         assert!(stream_file.len() <= 257 && p_file.len() <= 513);
-        assert_eq!(admit(&stream_file, &p_file), Ok(p.is_complete()));
+        assert_eq!(is_complete(&stream_file, &p_file), Ok(p.is_complete()));
         assert_eq!(
             answered(|buffer| left(&stream_file, &p_file, buffer)),
             Ok(type_file(&after_p))
@@ -239,14 +239,18 @@ fn choose_asks_for_one_output_type() {
     assert!(same > 500 && different > 500, "{same} {different}");
 }
 
-/// A run of demand 3: the files so far and the accepted slices and outputs,
-/// joined through the operation.
+/// A run of demand 3: the files so far, the accepted slices and outputs, joined
+/// through the operation, and the sums of what the accepted feeds counted.
 pub struct Run {
     start: Vec<u8>,
     input: Vec<u8>,
     output: Vec<u8>,
     patch: Vec<u8>,
     taken: Option<(Vec<u8>, Vec<u8>)>,
+    /// The cues and levels that came in the accepted slices.
+    pub arrived: u32,
+    /// Those that were sent for them.
+    pub sent: u32,
 }
 
 impl Run {
@@ -264,6 +268,8 @@ impl Run {
             input,
             output,
             taken: None,
+            arrived: 0,
+            sent: 0,
         }
     }
 
@@ -272,9 +278,11 @@ impl Run {
         let mut sent = vec![0x55; output_length];
         let mut left = vec![0xAA; left_length];
         match feed(&self.patch, slice, &mut sent, &mut left) {
-            Ok((sent_length, patch_length)) => {
-                self.patch = left[..patch_length].to_vec();
-                self.take(slice, &sent[..sent_length]);
+            Ok(answer) => {
+                self.patch = left[..answer.patch].to_vec();
+                self.take(slice, &sent[..answer.output]);
+                self.arrived += answer.arrived;
+                self.sent += answer.sent;
                 0
             }
             Err(number) => {
@@ -297,15 +305,22 @@ impl Run {
         self.taken = Some(both);
     }
 
-    /// What demand 3 says of the run so far.
+    /// What demand 3 says of the run so far, and M-104 with it: "Joining two slices
+    /// adds their counts."
     pub fn holds(&self) {
         let output_left = answered(|buffer| check(&self.patch, buffer)).expect("accepted");
         let Some((slices, outputs)) = &self.taken else {
             assert_eq!(self.patch, self.start);
+            assert_eq!((self.arrived, self.sent), (0, 0));
             return;
         };
-        let at_once = fed(&self.start, slices);
-        assert_eq!(at_once, Ok((outputs.clone(), self.patch.clone())));
+        let in_pieces = Given {
+            output: outputs.clone(),
+            left: self.patch.clone(),
+            arrived: self.arrived,
+            sent: self.sent,
+        };
+        assert_eq!(fed_and_counted(&self.start, slices), Ok(in_pieces));
         let input_left = answered(|buffer| left(&self.input, slices, buffer)).expect("left");
         assert!(self.patch.starts_with(&input_left));
         let expected = answered(|buffer| left(&self.output, outputs, buffer));

@@ -1,6 +1,6 @@
 //! Which refusal comes first.
 
-use crate::common::{answered, fed, patch, section};
+use crate::common::{answered, fed, is_complete, patch, section};
 use second_interpreter::{admit, check, feed, join, left, longest, Number};
 
 /// The number with which Check and Feed refuse a patch file.
@@ -289,9 +289,12 @@ fn level_values_of_a_slice() {
     assert_eq!(slice_number(&[2], &section(&[4, 99, 99, 99])), 13);
     assert_eq!(slice_number(&[2], &with(section(&[4, 99]), &[99])), 11);
     assert_eq!(slice_number(&[1], &section(&[4])), 14);
-    assert_eq!(admit(&section(&[2]), &section(&[4, 0, 0])), Ok(true));
-    assert_eq!(admit(&section(&[2]), &section(&[4, 255, 255])), Ok(true));
-    assert_eq!(admit(&section(&[2]), &section(&[3])), Ok(false));
+    assert_eq!(is_complete(&section(&[2]), &section(&[4, 0, 0])), Ok(true));
+    assert_eq!(
+        is_complete(&section(&[2]), &section(&[4, 255, 255])),
+        Ok(true)
+    );
+    assert_eq!(is_complete(&section(&[2]), &section(&[3])), Ok(false));
 }
 
 #[test]
@@ -311,24 +314,24 @@ fn crossed_first_parts() {
     assert_eq!(slice_number(&nested, &section(&[6, 6, 2, 1])), 14);
     assert_eq!(slice_number(&nested, &section(&[6, 6, 2, 2])), 11);
     let whole = section(&[6, 6, 2, 2, 1]);
-    assert_eq!(admit(&section(&nested), &whole), Ok(false));
+    assert_eq!(is_complete(&section(&nested), &whole), Ok(false));
     // Sides of a first part are each owed.
     let beside = [3, 4, 1, 2, 1];
     assert_eq!(slice_number(&beside, &section(&[6, 7, 1])), 14);
     assert_eq!(slice_number(&beside, &section(&[6, 7, 2, 3])), 14);
     assert_eq!(slice_number(&beside, &section(&[6, 7, 2, 4, 0])), 11);
     let whole = section(&[6, 7, 2, 4, 0, 0, 2]);
-    assert_eq!(admit(&section(&beside), &whole), Ok(true));
+    assert_eq!(is_complete(&section(&beside), &whole), Ok(true));
     // The second part of an outer crossing owes nothing.
     let whole = section(&[6, 2, 5, 1]);
-    assert_eq!(admit(&section(&[3, 1, 3, 1, 1]), &whole), Ok(false));
+    assert_eq!(is_complete(&section(&[3, 1, 3, 1, 1]), &whole), Ok(false));
 }
 
 #[test]
 fn empty_in_sequence() {
     let stream = section(&[3, 0, 0]);
-    assert_eq!(admit(&stream, &section(&[5, 0])), Ok(false));
-    assert_eq!(admit(&stream, &section(&[6, 0, 0])), Ok(true));
+    assert_eq!(is_complete(&stream, &section(&[5, 0])), Ok(false));
+    assert_eq!(is_complete(&stream, &section(&[6, 0, 0])), Ok(true));
     assert_eq!(
         answered(|buffer| left(&stream, &section(&[5, 0]), buffer)),
         Ok(stream.clone())
@@ -337,7 +340,7 @@ fn empty_in_sequence() {
     let outer = [3, 3, 0, 0, 1];
     assert_eq!(slice_number(&outer, &section(&[6, 5, 0, 1])), 14);
     let whole = section(&[6, 6, 0, 0, 1]);
-    assert_eq!(admit(&section(&outer), &whole), Ok(false));
+    assert_eq!(is_complete(&section(&outer), &whole), Ok(false));
 }
 
 #[test]
@@ -396,6 +399,7 @@ fn too_short_buffers_of_feed() {
                 assert_eq!(output, vec![7; output_length]);
                 assert_eq!(left, vec![9; left_length]);
             } else {
+                let answer = answer.map(|written| (written.output, written.patch));
                 assert_eq!(answer, Ok((5, 8)));
                 assert_eq!(output[..5], [0, 3, 6, 2, 1]);
                 assert_eq!(left[..8], [0, 1, 1, 0, 3, 10, 0, 0]);
