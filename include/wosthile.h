@@ -7,10 +7,11 @@
  * three:
  *
  *   wosthile_check     is this a patch, and which type has the stream that it sends?
- *   wosthile_admit     is this a slice of that type, and has everything come?
+ *   wosthile_admit     is this a slice of that type, has everything come, and how much came in it?
  *   wosthile_left      what the slice leaves of the type: what is still to come
  *   wosthile_join      two slices, the second of what the first leaves, as one slice
- *   wosthile_feed      what the patch sends for a slice, and the patch that is left for the next slice
+ *   wosthile_feed      what the patch sends for a slice, the patch that is left for the next slice, and how much came
+ *                      and was sent
  *   wosthile_longest   the longest slice of a type, by which the packets of a link are sized
  *
  * Files. A section is a count of two bytes, the high byte first, and then that many bytes. They hold one tree in
@@ -30,6 +31,13 @@
  * chosen. The slice that chooses is 9 and a slice of s, or 10 and a slice of t; that slice may bring something at once,
  * or be empty. The part that was not chosen is then gone, and so is the mark: of type 5 1 2 the slice 9 1 leaves type
  * 1, so the next slice is 1 or 2, and 8, 9 and 10 are refused with 14.
+ *
+ * Arrivals are the cues and levels that have come in a slice: its kinds 2 and 4, each once. The two bytes of a level's
+ * value are no kinds, a crossing and a choice are no arrivals, and what came in earlier slices is not in this one. So
+ * the slice 6 2 5 4 2 4 has two. wosthile_admit counts those of its slice, wosthile_feed those of the slice that it is
+ * fed and those of the slice that it sends. A slice of a type of n nodes has at most (n + 1) / 2, and so no slice more
+ * than WOSTHILE_ARRIVALS_MAX. Joining two slices adds their arrivals. So however a stream is cut, the sums over its
+ * accepted feeds are the same, of what arrived and of what was sent.
  *
  * In a frame loop. Keep the type file that wosthile_check writes, and two patch buffers. The first slice is one of the
  * patch's input type, and every later one is a slice of what the slices before it leave of that type. This is always
@@ -77,13 +85,14 @@
 #include <stdint.h>
 
 /*
- * The release, for people. Since 1.3.0 a cue or level node sends only when its own slice is not empty or is complete,
- * where before it sent at its first feed, whatever that brought.
+ * The release, for people. Since 1.4.0 wosthile_admit and wosthile_feed count arrivals, in fields behind those that
+ * their answers had. Since 1.3.0 a cue or level node sends only when its own slice is not empty or is complete, where
+ * before it sent at its first feed, whatever that brought.
  */
-#define WOSTHILE_RELEASE "1.3.0"
+#define WOSTHILE_RELEASE "1.4.0"
 
 /* The binary interface: changes whenever a struct or a function below asks for compiling again. See wosthile_abi. */
-#define WOSTHILE_ABI 1
+#define WOSTHILE_ABI 2
 
 /* The greatest sizes of accepted files, in bytes. A lent buffer of that size is long enough for every answer. */
 #define WOSTHILE_TYPE_FILE_MAX 257
@@ -93,6 +102,9 @@
 /* The most nodes of a type, and of a patch. */
 #define WOSTHILE_TYPE_NODES_MAX 255
 #define WOSTHILE_PATCH_NODES_MAX 63
+
+/* The most cues and levels that can come in one slice, or be sent in one: the leaves of a type of 255 nodes. */
+#define WOSTHILE_ARRIVALS_MAX 128
 
 /* A thread that makes these calls needs so many bytes of stack beside its own; the deepest patches take most. */
 #define WOSTHILE_STACK_MAX 61440
@@ -219,13 +231,16 @@ typedef struct {
 typedef struct {
     uint32_t number;   /* 0, or the number of the first fault */
     uint32_t complete; /* 1 if the slice is complete, 0 if it is not; 0 on a refusal */
+    uint32_t arrived;  /* how many cues and levels came in the slice; 0 on a refusal */
 } wosthile_admitted;
 
 /* The answer of wosthile_feed. */
 typedef struct {
-    uint32_t number; /* 0, or the number of the first fault */
-    size_t output;   /* how many bytes are at the front of the output buffer; 0 on a refusal */
-    size_t patch;    /* how many bytes are at the front of the buffer for the patch left; 0 on a refusal */
+    uint32_t number;  /* 0, or the number of the first fault */
+    size_t output;    /* how many bytes are at the front of the output buffer; 0 on a refusal */
+    size_t patch;     /* how many bytes are at the front of the buffer for the patch left; 0 on a refusal */
+    uint32_t arrived; /* how many cues and levels came in the slice; 0 on a refusal */
+    uint32_t sent;    /* how many cues and levels are in the slice sent; 0 on a refusal */
 } wosthile_fed;
 
 /*
@@ -239,8 +254,8 @@ typedef struct {
 wosthile_written wosthile_check(const uint8_t *patch, size_t patch_len, uint8_t *type, size_t type_len);
 
 /*
- * Is the file at slice a slice of the type whose file is at type, and is it complete?
- * Refuses the type with 1 to 4, then the slice with 11 to 14.
+ * Is the file at slice a slice of the type whose file is at type, is it complete, and how many cues and levels came in
+ * it? Refuses the type with 1 to 4, then the slice with 11 to 14.
  */
 wosthile_admitted wosthile_admit(const uint8_t *type, size_t type_len, const uint8_t *slice, size_t slice_len);
 
@@ -287,6 +302,11 @@ wosthile_written wosthile_join(const uint8_t *type, size_t type_len, const uint8
  * Refuses the patch as wosthile_check does, with 1 to 7 or 30; then the slice with 11 to 14, against the input type of
  * the patch; then with 20 if either buffer is too short. A refusal alters neither buffer, so the next feed is handed
  * the patch that this one was handed.
+ *
+ * The arrivals of the slice fed are in arrived, whatever the patch does with them, and those of the slice sent in sent:
+ * both and spread can send an arrival twice, left may send none of them, and a cue or level node sends one of its own.
+ * What goes from one node to another inside the patch is not sent. A slice that brings nothing has 0 arrived and may
+ * still have some sent.
  *
  * What a node sends and leaves; b and c are complete, and p, q and r are any slices.
  *
@@ -398,13 +418,16 @@ WOSTHILE_HOLDS(sizeof(size_t) == 8, "a length has eight bytes");
 WOSTHILE_HOLDS(sizeof(wosthile_written) == 16, "wosthile_written has sixteen bytes");
 WOSTHILE_HOLDS(offsetof(wosthile_written, number) == 0, "the number comes first");
 WOSTHILE_HOLDS(offsetof(wosthile_written, written) == 8, "the length follows at eight");
-WOSTHILE_HOLDS(sizeof(wosthile_admitted) == 8, "wosthile_admitted has eight bytes");
+WOSTHILE_HOLDS(sizeof(wosthile_admitted) == 12, "wosthile_admitted has twelve bytes");
 WOSTHILE_HOLDS(offsetof(wosthile_admitted, number) == 0, "the number comes first");
 WOSTHILE_HOLDS(offsetof(wosthile_admitted, complete) == 4, "complete follows at four");
-WOSTHILE_HOLDS(sizeof(wosthile_fed) == 24, "wosthile_fed has twenty-four bytes");
+WOSTHILE_HOLDS(offsetof(wosthile_admitted, arrived) == 8, "what arrived follows at eight");
+WOSTHILE_HOLDS(sizeof(wosthile_fed) == 32, "wosthile_fed has thirty-two bytes");
 WOSTHILE_HOLDS(offsetof(wosthile_fed, number) == 0, "the number comes first");
 WOSTHILE_HOLDS(offsetof(wosthile_fed, output) == 8, "the length of the output follows at eight");
 WOSTHILE_HOLDS(offsetof(wosthile_fed, patch) == 16, "the length of the patch left follows at sixteen");
+WOSTHILE_HOLDS(offsetof(wosthile_fed, arrived) == 24, "what arrived follows at twenty-four");
+WOSTHILE_HOLDS(offsetof(wosthile_fed, sent) == 28, "what was sent follows at twenty-eight");
 
 #undef WOSTHILE_HOLDS
 

@@ -20,7 +20,7 @@ use Rattle.reading.specs.declared.prefixes.PrefixPlace.{PrefixPlace}
 use Rattle.reading.specs.declared.inputs.Input.{Input}
 use Rattle.reading.specs.Inputs.{InputAt}
 use Rattle.reading.specs.TypeReads.Laws.{type-width}
-use Rattle.reading.specs.SliceReads.{prefix-width}
+use Rattle.reading.specs.SliceReads.{PrefixIn}
 use Rattle.reading.specs.SliceReads.Laws.{prefix-bytes-length}
 use Rattle.writing.specs.Writing.Standing.{slice-file-size}
 use Rattle.node.specs.Nodes.{Node, count, node-limit}
@@ -36,7 +36,7 @@ use Rattle.leaf_feeding.specs.declared.Step.{Step}
 use Rattle.leaf_feeding.specs.declared.Stepped.{Stepped as StepAnswer}
 use Rattle.leaf_feeding.specs.declared.Stepped.the-variants.{Fed as Stepped, Failed}
 use Rattle.leaf_feeding.specs.Steps.{NodeAnswers, Rooms}
-use Rattle.leaf_feeding.specs.Steps.Laws.{leads-inside, leads-taken, left-width, was-fed, has-failed}
+use Rattle.leaf_feeding.specs.Steps.Laws.{leads-inside, leads-taken, prefix-stands, left-width, was-fed, has-failed}
 use Rattle.feeding.specs.Feeds.{FeedDue}
 use Rattle.meaning.specs.declared.Fed.{Fed}
 use Rattle.meaning.specs.Answers.{FedFiles, feed, with-room, fed as told, after, fed-files}
@@ -70,13 +70,13 @@ module _ (output patch-lent : List ℕ) {patch slice : List ℕ} where
         }
 
     pub files-keep : length (files .output) ≤ length output → length (files .patch) ≤ length patch-lent
-        → {sent kept : ℕ} → sent ≡ length (files .output) → kept ≡ length (files .patch)
+        → {sent kept came went : ℕ} → sent ≡ length (files .output) → kept ≡ length (files .patch) → came ≡ files .arrived → went ≡ files .sent
         → {output-after patch-after : List ℕ} → output-after ≡ at-front (files .output) output → patch-after ≡ at-front (files .patch) patch-lent
-        → FeedPromise patch slice output patch-lent (record { number = 0; output = sent; patch = kept }) output-after patch-after
+        → FeedPromise patch slice output patch-lent (record { number = 0; output = sent; patch = kept; arrived = came; sent = went }) output-after patch-after
     unfolding with-room told after
-    files-keep r s n m o l =
+    files-keep r s n m a b o l =
         record {
-          answers = rw (h, le-leb _ _ r, le-leb _ _ s, n, m);
+          answers = rw (h, le-leb _ _ r, le-leb _ _ s, n, m, a, b);
           output-buffer = rw (h, le-leb _ _ r, le-leb _ _ s, o);
           patch-buffer = rw (h, le-leb _ _ r, le-leb _ _ s, l);
         }
@@ -109,7 +109,7 @@ module _ {patch : List ℕ} {place : PatchPlace} (read : AcceptedPatch patch pla
       go (accepted t) h = refused-keeps output patch-lent fault (typed t h)
       go (refused first) h = refused-keeps output patch-lent first (patch-untyped h)
 
-module _ {patch : List ℕ} {place : PatchPlace} {slice left : List ℕ} (due : FeedRead patch place slice left) where
+module _ {patch : List ℕ} {place : PatchPlace} {slice left : List ℕ} {arrived : ℕ} (due : FeedRead patch place slice arrived left) where
   abbrev input : Ty
   input = due .read .patch .input
 
@@ -185,6 +185,7 @@ module _ {patch : List ℕ} {place : PatchPlace} {slice left : List ℕ} (due : 
     pub nodes-small : step .kept ≤ node-bytes-limit
     pub sent-inside : step .sent ≤ length sent
     pub nodes-inside : step .kept ≤ length nodes
+    pub sent-stands : PrefixIn sent (record { start = 0; end = step .sent }) (sends input node prefix)
     pub sent-taken : take (step .sent) sent ≡ prefix-bytes (sends input node prefix) []
     pub nodes-taken : take (step .kept) nodes ≡ node-bytes (leaves input node prefix) []
     pub output-long : length (files .output) ≡ 2 + step .sent
@@ -209,6 +210,7 @@ module _ {patch : List ℕ} {place : PatchPlace} {slice left : List ℕ} (due : 
         nodes-small = omega (arith, steps .kept, left-width (gave .gives) (due .taken .is-prefix), few);
         sent-inside = omega (arith, sent-long, leads-inside (steps .output), steps .output .long);
         nodes-inside = omega (arith, steps .kept, leads-inside (steps .node-left), steps .node-left .long);
+        sent-stands = rw (steps .sent) (prefix-stands (steps .output));
         sent-taken = leads-taken (steps .output) sent-long;
         nodes-taken = leads-taken (steps .node-left) (steps .kept);
         output-long = omega (arith, slice-file-size (sends input node prefix), steps .sent);
@@ -223,6 +225,14 @@ module _ {patch : List ℕ} {place : PatchPlace} {slice left : List ℕ} (due : 
       }
 
   module _ {sent nodes : List ℕ} {step : Step} (is-done : Done sent nodes step) where
+    -- What is sent stands in front of the work bytes, and ends where a slice can.
+    module _ {span : PrefixPlace} (span-is : span ≡ record { start = 0; end = step .sent }) where
+      pub sent-in : PrefixIn sent span (sends input node prefix)
+      sent-in = rw span-is (is-done .sent-stands)
+
+      pub sent-ends : span .end ≤ slice-file-limit
+      sent-ends = rw span-is (is-done .sent-small)
+
     -- The section of what is sent is the output's file.
     pub section-due : (out : List ℕ) → 2 + step .sent ≤ length out
         → (length (take (step .sent) sent) ≤ 65535) × (2 + length (take (step .sent) sent) ≤ length out)

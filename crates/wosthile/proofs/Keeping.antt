@@ -9,6 +9,8 @@ use borrow.Author.Tests.{le-leb, lt-leb}
 use mir.Val.{boolByte}
 use Rattle.stream.specs.declared.Fault.{Fault}
 use Rattle.stream.specs.declared.Fault.the-variants.{NoRoom}
+use Rattle.stream.specs.Prefixes.{Prefix, arrivals}
+use Rattle.stream.specs.Prefixes.Functions.{complete}
 use Rattle.stream.specs.Reading.{Result, accepted, refused}
 use Rattle.stream.specs.Buffers.{at-front}
 use Rattle.meaning.specs.Answers.{with-room, after, written, admitted, as-number}
@@ -31,7 +33,7 @@ module _ (lent : List ℕ) where
   unfolding with-room written after
   file-keeps file h room n s = record { answers = rw (h, le-leb _ _ room, n); buffer = rw (h, le-leb _ _ room, s) }
 
-pub turned-down : {outcome : Result Bool} (e : Fault) → outcome ≡ refused e → Admits outcome (admitted (refused e))
+pub turned-down : {outcome : Result Prefix} (e : Fault) → outcome ≡ refused e → Admits outcome (admitted (refused e))
 unfolding admitted
 turned-down e h = record { answers = rw h }
 
@@ -40,7 +42,7 @@ bool-number : (b : Bool) → boolByte b ≡ as-number b
 bool-number true = refl
 bool-number false = refl
 
-pub taken-in : {outcome : Result Bool} (c : Bool) → outcome ≡ accepted c → {b : Bool} → b ≡ c
-    → Admits outcome (record { number = 0; complete = boolByte b })
+pub taken-in : {outcome : Result Prefix} (p : Prefix) → outcome ≡ accepted p → {b : Bool} {arrived : ℕ} → b ≡ complete p → arrived ≡ arrivals p
+    → Admits outcome (record { number = 0; complete = boolByte b; arrived = arrived })
 unfolding admitted
-taken-in c h e = record { answers = rw (h, e, bool-number c) }
+taken-in p h e a = record { answers = rw (h, e, bool-number (complete p), a) }

@@ -5,7 +5,7 @@ use Prim.Native.Nat.{ℕ, _*_, _-_, _≤_, _<_}
 use lib.ListN.{length}
 use Rattle.stream.specs.Types.{Ty}
 use Rattle.stream.specs.declared.Fault.{Fault}
-use Rattle.stream.specs.Prefixes.{derivative}
+use Rattle.stream.specs.Prefixes.{arrivals, derivative}
 use Rattle.stream.specs.TypeFiles.{type-bytes}
 use Rattle.stream.specs.Reading.{Result, accepted, refused}
 use Rattle.reading.specs.declared.prefixes.Known.{Known}
@@ -26,20 +26,21 @@ first-fault (refused first) fault = first
 pub record Refuses (patch : List ℕ) (place : PatchPlace) (fault : Fault) (answer : Fed) : Type 0 where
   pub each : (read : AcceptedPatch patch place) → answer ≡ fed (refused (first-fault (typing (read .patch .input) (read .patch .node)) fault))
 
--- The patch is read, the slice is a prefix of its input type, and `left` is what it leaves of that. Whether the patch is typed is for the
--- step to find.
-pub record FeedRead (patch : List ℕ) (place : PatchPlace) (slice left : List ℕ) : Type 0 where
+-- The patch is read, the slice is a prefix of its input type with `arrived` arrivals, and `left` is what it leaves of that type. Whether the
+-- patch is typed is for the step to find.
+pub record FeedRead (patch : List ℕ) (place : PatchPlace) (slice : List ℕ) (arrived : ℕ) (left : List ℕ) : Type 0 where
   pub read : AcceptedPatch patch place
   pub about : Known
   pub taken : AcceptedSlice (read .patch .input) slice about
+  pub arrived-is : arrived ≡ arrivals (taken .prefix)
   pub left-is : left ≡ type-bytes (derivative (read .patch .input) (taken .prefix)) []
 
 -- And the nodes of the patch have fewer than 16 bytes.
-pub record FewRead (patch : List ℕ) (place : PatchPlace) (slice left : List ℕ) : Type 0 where
-  pub reads : FeedRead patch place slice left
+pub record FewRead (patch : List ℕ) (place : PatchPlace) (slice : List ℕ) (arrived : ℕ) (left : List ℕ) : Type 0 where
+  pub reads : FeedRead patch place slice arrived left
   pub short : length patch - place .nodes < 16
 
 -- And the work bytes for the nodes left have room for every patch of as many nodes.
-pub record SendDue (patch : List ℕ) (place : PatchPlace) (slice left nodes : List ℕ) : Type 0 where
-  pub reads : FeedRead patch place slice left
+pub record SendDue (patch : List ℕ) (place : PatchPlace) (slice : List ℕ) (arrived : ℕ) (left nodes : List ℕ) : Type 0 where
+  pub reads : FeedRead patch place slice arrived left
   pub room : twice-node-bytes (count (reads .read .patch .node)) ≤ 2 * length nodes

@@ -14,6 +14,7 @@ use reading::inputs::Input;
 use reading::prefixes::MAX_SLICE_FILE;
 use reading::prefixes::PrefixPlace;
 use reading::prefixes::SliceRead;
+use reading::prefixes::count_arrivals;
 use reading::types::TypePlace;
 use reading::types::TypeRead;
 use reading::types::read_type_file;
@@ -59,7 +60,7 @@ pub fn check(patch: &[u8], out: &mut [u8]) -> Written
     }
 }
 
-// Whether the slice is complete.
+// Whether the slice is complete, and how many cues and levels came in it.
 pub fn admit(ty: &[u8], slice: &[u8]) -> Admitted
     ensures { λ r. ⌜ AdmitPromise (now (ty .entry)) (now (slice .entry)) r ⌝ }
 {
@@ -73,6 +74,7 @@ pub fn admit(ty: &[u8], slice: &[u8]) -> Admitted
                 SliceRead::Whole(prefix) => Admitted {
                     number: ACCEPTED,
                     complete: prefix.complete as u32,
+                    arrived: prefix.arrived,
                 },
             }
         }
@@ -161,19 +163,20 @@ fn refuse(patch: &[u8], place: PatchPlace, fault: Fault) -> Fed
     }
 }
 
-// Feeds a slice that was read to a patch that was read; `left` is what the slice leaves of its input type. The answers are made on work
-// bytes, `nodes` for the nodes left, since both have to be known before a byte of either buffer is written. The step fails exactly if
-// Check refuses the patch.
+// Feeds a slice that was read to a patch that was read; `arrived` is how many cues and levels came in the slice, and `left` what it
+// leaves of its input type. The answers are made on work bytes, `nodes` for the nodes left, since both have to be known before a byte of
+// either buffer is written. The step fails exactly if Check refuses the patch.
 fn send(
     patch: &[u8],
     place: PatchPlace,
     slice: &[u8],
+    arrived: u32,
     left: &[u8],
     nodes: &mut [u8],
     out: &mut [u8],
     next: &mut [u8],
 ) -> Fed
-    requires { ⌜ SendDue (now patch) place (now slice) (now left) (now nodes) ⌝ }
+    requires { ⌜ SendDue (now patch) place (now slice) arrived (now left) (now nodes) ⌝ }
     ensures { λ r. ⌜ FeedPromise (now (patch .entry)) (now (slice .entry)) (now (out .entry)) (now (next .entry)) r (now (out .exit)) (now (next .exit)) ⌝ }
 {
     let mut sent = [0u8; MAX_SLICE_FILE];
@@ -204,10 +207,13 @@ fn send(
             }
             write_section(&sent[..many], out);
             write_patch_file(left, &nodes[..kept], next);
+            let written = PrefixPlace::new(0, many);
             Fed {
                 number: ACCEPTED,
                 output,
                 patch: needed,
+                arrived,
+                sent: count_arrivals(&sent, written),
             }
         }
     }
@@ -219,15 +225,16 @@ fn send_few(
     patch: &[u8],
     place: PatchPlace,
     slice: &[u8],
+    arrived: u32,
     left: &[u8],
     out: &mut [u8],
     next: &mut [u8],
 ) -> Fed
-    requires { ⌜ FewRead (now patch) place (now slice) (now left) ⌝ }
+    requires { ⌜ FewRead (now patch) place (now slice) arrived (now left) ⌝ }
     ensures { λ r. ⌜ FeedPromise (now (patch .entry)) (now (slice .entry)) (now (out .entry)) (now (next .entry)) r (now (out .exit)) (now (next .exit)) ⌝ }
 {
     let mut nodes = [0u8; 2055];
-    send(patch, place, slice, left, &mut nodes, out, next)
+    send(patch, place, slice, arrived, left, &mut nodes, out, next)
 }
 
 // The same with a work array for every patch. The two arrays have functions of their own, so that they take the same place on the stack.
@@ -235,15 +242,16 @@ fn send_many(
     patch: &[u8],
     place: PatchPlace,
     slice: &[u8],
+    arrived: u32,
     left: &[u8],
     out: &mut [u8],
     next: &mut [u8],
 ) -> Fed
-    requires { ⌜ FeedRead (now patch) place (now slice) (now left) ⌝ }
+    requires { ⌜ FeedRead (now patch) place (now slice) arrived (now left) ⌝ }
     ensures { λ r. ⌜ FeedPromise (now (patch .entry)) (now (slice .entry)) (now (out .entry)) (now (next .entry)) r (now (out .exit)) (now (next .exit)) ⌝ }
 {
     let mut nodes = [0u8; PatchPlace::MAX_NODE_BYTES];
-    send(patch, place, slice, left, &mut nodes, out, next)
+    send(patch, place, slice, arrived, left, &mut nodes, out, next)
 }
 
 // Each node has a byte at least, so fewer than 16 bytes are at most 15 nodes.
@@ -251,17 +259,18 @@ fn send_on(
     patch: &[u8],
     place: PatchPlace,
     slice: &[u8],
+    arrived: u32,
     left: &[u8],
     out: &mut [u8],
     next: &mut [u8],
 ) -> Fed
-    requires { ⌜ FeedRead (now patch) place (now slice) (now left) ⌝ }
+    requires { ⌜ FeedRead (now patch) place (now slice) arrived (now left) ⌝ }
     ensures { λ r. ⌜ FeedPromise (now (patch .entry)) (now (slice .entry)) (now (out .entry)) (now (next .entry)) r (now (out .exit)) (now (next .exit)) ⌝ }
 {
     if patch.len() - place.nodes < 16 {
-        return send_few(patch, place, slice, left, out, next);
+        return send_few(patch, place, slice, arrived, left, out, next);
     }
-    send_many(patch, place, slice, left, out, next)
+    send_many(patch, place, slice, arrived, left, out, next)
 }
 
 // The file of what the patch sends on the slice, and that of the patch left. The slice is read before the patch is typed, since the step
@@ -277,7 +286,15 @@ pub fn feed(patch: &[u8], slice: &[u8], out: &mut [u8], next: &mut [u8]) -> Fed
                 SliceRead::Refused(fault) => refuse(patch, place, fault),
                 SliceRead::Whole(prefix) => {
                     let remains = prefix.remains;
-                    send_on(patch, place, slice, &left[..remains], out, next)
+                    send_on(
+                        patch,
+                        place,
+                        slice,
+                        prefix.arrived,
+                        &left[..remains],
+                        out,
+                        next,
+                    )
                 }
             }
         }

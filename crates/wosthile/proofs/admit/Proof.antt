@@ -86,7 +86,7 @@ returns-3 c =
     let p =
     slice-accepted (slice .read-slice-file .ensures .reads) (t .stands) (λ i. omega (arith, type-told (slice .before .before) .before .shared-slice-known2 .given i)) _
     (c .before .before .prefix .given .1) in
-    taken-in _ (goes-on _ _ _ t p) (p .completeness)
+    taken-in _ (goes-on _ _ _ t p) (p .completeness) (p .arrived)
 
 pub admit-spec : {M : Type 1} → statement M
 admit-spec =

@@ -114,6 +114,7 @@ send-on-requires c κs =
       read = patch-of (known-told2-before-known-told4 told);
       about = told .before .prefix .given .0 .0;
       taken = slice-of told;
+      arrived-is = slice-of told .arrived;
       left-is = left-of told .bytes;
     }
 

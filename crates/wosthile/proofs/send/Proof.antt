@@ -4,7 +4,7 @@ use borrow.Author.Needs.{needs}
 use mathlib.Core.Path.{sym}
 use native.Mathlib.Omega.{arith}
 use lib.Seq.{length-take-le}
-use Rattle.wosthile.proofs.FeedOutcome.{output-short, patch-short, files-keep, refuses-keep, files, feed-due, small-left, step-failed, Done, done, section-due, output-written, patch-due}
+use Rattle.wosthile.proofs.FeedOutcome.{output-short, patch-short, files-keep, refuses-keep, files, feed-due, small-left, step-failed, Done, done, sent-in, sent-ends, section-due, output-written, patch-due}
 use Rattle.wosthile.proofs.send.Statement.{statement}
 use Rattle.wosthile.proofs.send.Tie as tie
 
@@ -57,11 +57,8 @@ known-told-before-sent3 c = known-told-before-else2 (c .before)
 abbrev known-told-before-write-section-arg : tie.After-write-section-arg → tie.After-known-told
 known-told-before-write-section-arg c = known-told-before-sent3 (c .before)
 
-abbrev known-told-before-write-section : tie.After-write-section → tie.After-known-told
-known-told-before-write-section c = known-told-before-write-section-arg (c .before)
-
 abbrev known-told-before-slice-known5 : tie.After-slice-known5 → tie.After-known-told
-known-told-before-slice-known5 c = known-told-before-write-section (c .before .before)
+known-told-before-slice-known5 c = known-told-before-write-section-arg (c .before .before .before)
 
 abbrev known-told-before-write-patch-file-arg : tie.After-write-patch-file-arg → tie.After-known-told
 known-told-before-write-patch-file-arg c = known-told-before-slice-known5 (c .before)
@@ -69,8 +66,14 @@ known-told-before-write-patch-file-arg c = known-told-before-slice-known5 (c .be
 abbrev known-told-before-write-patch-file-arg2 : tie.After-write-patch-file-arg2 → tie.After-known-told
 known-told-before-write-patch-file-arg2 c = known-told-before-write-patch-file-arg (c .before)
 
-abbrev write-section-before-slice-known6 : tie.After-slice-known6 → tie.After-write-section
-write-section-before-slice-known6 c = c .before .before .before .before .before .before .before
+abbrev write-patch-file-before-sent4 : tie.After-sent4 → tie.After-write-patch-file
+write-patch-file-before-sent4 c = c .before .before .before .before
+
+abbrev write-section-before-sent4 : tie.After-sent4 → tie.After-write-section
+write-section-before-sent4 c = write-patch-file-before-sent4 c .before .before .before .before .before
+
+abbrev known-told-before-sent4 : tie.After-sent4 → tie.After-known-told
+known-told-before-sent4 c = known-told-before-write-patch-file-arg2 (write-patch-file-before-sent4 c .before)
 
 new-requires : tie.Need-new-requires
 new-requires c κs = search needs
@@ -175,6 +178,18 @@ write-patch-file-requires c κs =
     let told = known-told-before-write-patch-file-arg2 c in
     patch-due (entry-before-known-told told .pre .reads) (is-done told) (entry-before-known-told told .args .next .now) (omega arith)
 
+new-requires-3 : tie.Need-new-requires-3
+new-requires-3 c κs = search needs
+
+slice-aggregate-count-arrivals : tie.Need-slice-aggregate-count-arrivals
+slice-aggregate-count-arrivals c = search needs
+
+count-arrivals-requires : tie.Need-count-arrivals-requires
+count-arrivals-requires c κs =
+    let told = known-told-before-sent4 c in
+    let due = entry-before-known-told told .pre .reads in
+    (record { prefix = _; here = sent-in due (is-done told) (c .before .new3 .ensures) }, sent-ends due (is-done told) (c .before .new3 .ensures))
+
 same-length-3 : tie.Need-same-length-3
 same-length-3 c = search needs
 
@@ -197,13 +212,13 @@ same-length-6 c = search needs
 
 returns-4 : tie.Need-returns-4
 returns-4 c =
-    let section = write-section-before-slice-known6 c in
-    let told = known-told-before-write-section section in
+    let section = write-section-before-sent4 (c .before) in
+    let told = known-told-before-sent4 (c .before) in
     let due = entry-before-known-told told .pre .reads in
     files-keep _ _ (files due) (is-done told .feed-is) (omega (arith, is-done told .output-long)) (omega (arith, is-done told .patch-long))
-    (sym (is-done told .output-long)) (sym (is-done told .patch-long))
+    (sym (is-done told .output-long)) (sym (is-done told .patch-long)) (due .arrived-is) (c .count-arrivals .ensures .each _ (sent-in due (is-done told) (c .before .before .new3 .ensures)))
     (output-written due (is-done told) _ (section .write-section .ensures))
-    (c .before .before .write-patch-file .ensures .each (patch-due due (is-done told) (entry-before-known-told told .args .next .now) (omega arith)))
+    (write-patch-file-before-sent4 (c .before) .write-patch-file .ensures .each (patch-due due (is-done told) (entry-before-known-told told .args .next .now) (omega arith)))
 
 pub send-spec : {M : Type 1} → statement M
 send-spec =
@@ -233,6 +248,9 @@ send-spec =
     slice-reshare-prefix-write-patch-file
     slice-aggregate-write-patch-file
     write-patch-file-requires
+    new-requires-3
+    slice-aggregate-count-arrivals
+    count-arrivals-requires
     same-length-3
     returns-3
     same-length-4
