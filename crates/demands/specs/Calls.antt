@@ -18,7 +18,7 @@ use Rattle.node.specs.Feeding.{FeedsPatch}
 use Rattle.node.specs.PatchFiles.{Checked, patch-file-bytes}
 use Rattle.meaning.specs.declared.Written.{Written}
 use Rattle.meaning.specs.declared.Fed.{Fed}
-use Rattle.meaning.specs.Answers.{on-slice, on-slices, on-patch}
+use Rattle.meaning.specs.Answers.{on-slice, on-slices, on-patch, FedFiles}
 pub mod Laws
 
 -- What the files of a call are read as, or the first fault in them: a type and a slice, two slices, a patch and a slice. (Check
@@ -77,14 +77,21 @@ pub data Decided {A : Type 0} (read : Result A) (Due : A → List (List ℕ) →
   is-short : (a : A) → read ≡ accepted a → answered ≡ 20 → ((files : List (List ℕ)) → Due a files → RoomFor files lent → ⊥)
       → lent-after ≡ lent → Decided read Due answered told lent lent-after
 
--- Accepted calls: one that wrote a file, and a feed that wrote the file sent and that of the patch for the next feed.
+-- Accepted calls: one that wrote a file, and a feed that wrote the file sent and that of the patch for the next feed, and told what
+-- arrived and what was sent.
 abbrev pub Wrote : (file lent : List ℕ) → Written → List ℕ → Type 0
 Wrote file lent answer lent-after = (answer ≡ record { number = 0; written = length file }) × (lent-after ≡ at-front file lent)
 
-abbrev pub WroteBoth : (sent next output-lent patch-lent : List ℕ) → Fed → List ℕ → List ℕ → Type 0
-WroteBoth sent next output-lent patch-lent answer output-after patch-after =
-    (answer ≡ record { number = 0; output = length sent; patch = length next })
-    × (output-after ≡ at-front sent output-lent) × (patch-after ≡ at-front next patch-lent)
+abbrev pub WroteBoth : (files : FedFiles) (output-lent patch-lent : List ℕ) → Fed → List ℕ → List ℕ → Type 0
+WroteBoth files output-lent patch-lent answer output-after patch-after =
+    (answer ≡ record {
+      number = 0;
+      output = length (files .output);
+      patch = length (files .patch);
+      arrived = files .arrived;
+      sent = files .sent;
+    })
+    × (output-after ≡ at-front (files .output) output-lent) × (patch-after ≡ at-front (files .patch) patch-lent)
 
 -- When 20 is due by the answers' own definitions: the call would be accepted but for a buffer that is too short.
 pub record TooShortFor {A : Type 0} (fits : A → Bool) (outcome : Result A) : Type 0 where

@@ -11,7 +11,7 @@ use lib.ListN.{length}
 use Rattle.stream.specs.Bounds.{type-file-limit, slice-file-limit, patch-file-limit}
 use Rattle.stream.specs.Faults.{type-numbers, patch-numbers, contains}
 use Rattle.stream.specs.Types.{Ty, par, Small}
-use Rattle.stream.specs.Prefixes.{Prefix, cue-awaited, level-awaited, beside, IsPrefix, Complete, empty-prefix, Opens, derivative, Concat}
+use Rattle.stream.specs.Prefixes.{Prefix, cue-awaited, level-awaited, beside, IsPrefix, Complete, empty-prefix, Opens, arrivals, derivative, Concat}
 use Rattle.stream.specs.Prefixes.Laws.{concats, concat-only}
 use Rattle.stream.specs.Reading.{Bytes, accepted}
 use Rattle.stream.specs.TypeFiles.{type-file-bytes, TypeFile}
@@ -24,7 +24,7 @@ use Rattle.node.specs.PatchFiles.{patch-file-bytes, PatchFile}
 use Rattle.meaning.specs.declared.Written.{Written}
 use Rattle.meaning.specs.declared.Admitted.{Admitted}
 use Rattle.meaning.specs.declared.Fed.{Fed}
-use Rattle.meaning.specs.Answers.{check, left, join, feed, longest, fits-one, fits-both, admit-numbers, feed-numbers}
+use Rattle.meaning.specs.Answers.{check, left, join, feed, longest, files-of, fits-one, fits-both, admit-numbers, feed-numbers}
 use Rattle.meaning.specs.Answers.Laws.{lanes-join, check-accepted, left-accepted, join-accepted, feed-accepted-of-bytes, longest-accepted, longest-of, check-answers, admit-answers, left-answers, joins, check-refuses, admit-refuses, left-refuses, join-refuses, feed-refuses, longest-refuses, check-sized, left-sized, join-sized, feed-sized-of-bytes, longest-sized}
 use Rattle.meaning.specs.Promises.{CheckPromise, AdmitPromise, LeftPromise, JoinPromise, FeedPromise, LongestPromise}
 use Rattle.demands.specs.Calls.{Wrote, WroteBoth, TooShortFor}
@@ -220,22 +220,26 @@ module _ {start : List ℕ} {calls : List Call} {r : RunEnd} (ran : Ran start ca
   pub run-sends : {sent : Prefix} {next : Patch} (taken : SliceFile (run-accepted ran patch b .trees .input) slice)
       → FeedsPatch (run-accepted ran patch b .trees) (taken .prefix) sent next
       → length (slice-file-bytes sent) ≤ length output-lent → length (patch-file-bytes next) ≤ length patch-lent
-      → WroteBoth (slice-file-bytes sent) (patch-file-bytes next) output-lent patch-lent answer output-after patch-after
+      → WroteBoth (files-of (taken .prefix) sent next) output-lent patch-lent answer output-after patch-after
   run-sends taken rule h k = demand-2-sends call (run-accepted ran patch b) taken rule h k
 
 -- Document 02, M-103, of a patch that is a node 2 or 3: until the slice "differs from its type's empty slice or is complete" the node sends
--- "the empty slice of [its] own type" and stays, so that the patch file is written back, byte for byte.
+-- "the empty slice of [its] own type" and stays, so that the patch file is written back, byte for byte; nothing is counted.
 
 module _ {file slice output-lent patch-lent output-after patch-after : List ℕ} {answer : Fed}
     (call : FeedPromise file slice output-lent patch-lent answer output-after patch-after)
     (patch : PatchFile file) (taken : SliceFile (patch .trees .input) slice) (closed : Opens (patch .trees .input) (taken .prefix) → ⊥)
     (room : length file ≤ length patch-lent) where
   pub cue-stays : patch .trees .node ≡ emit-cue → length (slice-file-bytes cue-awaited) ≤ length output-lent
-      → WroteBoth (slice-file-bytes cue-awaited) file output-lent patch-lent answer output-after patch-after
+      → WroteBoth (record { output = slice-file-bytes cue-awaited; patch = file; arrived = 0; sent = 0 })
+      output-lent patch-lent answer output-after patch-after
+  unfolding arrivals
   cue-stays is-cue h = stays-on-file call patch taken closed (rw is-cue (feeds-cue-waiting closed)) h room
 
   pub level-stays : {v : ℕ} → patch .trees .node ≡ emit-level v → length (slice-file-bytes level-awaited) ≤ length output-lent
-      → WroteBoth (slice-file-bytes level-awaited) file output-lent patch-lent answer output-after patch-after
+      → WroteBoth (record { output = slice-file-bytes level-awaited; patch = file; arrived = 0; sent = 0 })
+      output-lent patch-lent answer output-after patch-after
+  unfolding arrivals
   level-stays is-level h = stays-on-file call patch taken closed (rw is-level (feeds-level-waiting closed)) h room
 
 -- What a link has to carry: no slice that a run takes is longer than the longest slice of the input type at the start, and no output
@@ -276,11 +280,12 @@ pub as-one-on-files : {start : List ℕ} {r : RunEnd} {patch : PatchFile start} 
 as-one-on-files {patch = patch} {next = next} one = on-files patch next one
 
 -- The cut of the stream does not change the show: two runs from one start whose accepted slices join to the same slice leave the
--- same patch, byte for byte, and their outputs join to the same output.
+-- same patch, byte for byte, their outputs join to the same output, and they count the same.
 pub same-however-cut : {start : List ℕ} {calls others : List Call} {r q : RunEnd} {p : Prefix} → Ran start calls r → Ran start others q
     → (patch : PatchFile start) → ByteSlices calls → ByteSlices others
     → Joined (patch .trees .input) (r .slices) p → Joined (patch .trees .input) (q .slices) p
     → (r .file ≡ q .file) × ((o : Prefix) × Joined (patch .output) (r .outputs) o × Joined (patch .output) (q .outputs) o)
+    × (r .arrived ≡ q .arrived) × (r .sent ≡ q .sent)
 same-however-cut ran also patch b c j k = runs-agree ran also patch b c j k
 
 -- Files join to one slice; and a file is read in one way, so that "its input type" is one.

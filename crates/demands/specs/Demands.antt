@@ -11,16 +11,18 @@ use mathlib.Core.List.{List, [], _∷_, _++_}
 use Prim.Native.Nat.{ℕ, _≤_}
 use lib.ListN.{length, take}
 use Rattle.stream.specs.Bounds.{type-file-limit, slice-file-limit, patch-file-limit}
-use Rattle.stream.specs.Prefixes.{Prefix, derivative}
+use Rattle.stream.specs.Prefixes.{Prefix, arrivals, derivative}
 use Rattle.stream.specs.Reading.{Bytes}
 use Rattle.stream.specs.TypeFiles.{type-file, TypeFile}
 use Rattle.stream.specs.SliceFiles.{slice-file-bytes, SliceFile}
+use Rattle.stream.specs.Longest.{longest-prefix}
 use Rattle.node.specs.Nodes.{Patch}
 use Rattle.node.specs.Feeding.{FeedsPatch}
 use Rattle.node.specs.PatchFiles.{patch-file, patch-file-bytes, PatchFile}
 use Rattle.meaning.specs.declared.Written.{Written}
 use Rattle.meaning.specs.declared.Admitted.{Admitted}
 use Rattle.meaning.specs.declared.Fed.{Fed}
+use Rattle.meaning.specs.Answers.{files-of}
 use Rattle.meaning.specs.Answers.Laws.{check-accepted, admit-accepted, left-accepted, join-accepted, feed-accepted, feed-accepted-of-bytes, longest-accepted, check-sized, left-sized, join-sized, longest-sized, feed-sized, feed-sized-of-bytes}
 use Rattle.meaning.specs.Promises.{CheckPromise, AdmitPromise, LeftPromise, JoinPromise, FeedPromise, LongestPromise}
 use Rattle.demands.specs.Calls.{type-and-slice, two-slices, patch-and-slice, DueFromCheck, DueFromAdmit, DueFromLeft, DueFromJoin, DueFromFeed, DueFromLongest, Decided, WroteBoth}
@@ -84,7 +86,7 @@ demand-2-patch file call b h = Iff·trans (writes-zero call (check-sized file b)
 
 pub demand-2-patch-fed : {file slice lent lent-after output-lent patch-lent output-after patch-after : List ℕ} {checked : Written} {answer : Fed}
     → CheckPromise file lent checked lent-after → FeedPromise file slice output-lent patch-lent answer output-after patch-after
-    → (checked .number ≡ 0 → ⊥) → (checked .number ≡ 20 → ⊥) → answer ≡ record { number = checked .number; output = 0; patch = 0 }
+    → (checked .number ≡ 0 → ⊥) → (checked .number ≡ 20 → ⊥) → answer ≡ record { number = checked .number; output = 0; patch = 0; arrived = 0; sent = 0 }
 demand-2-patch-fed check-call feed-call not-0 not-20 = feeds-as-check check-call feed-call not-0 not-20
 
 -- a slice, exactly when it is a prefix of the type in force. (`SliceFile`: by Feed, of the patch's input type; by Admit and Left, of
@@ -127,7 +129,7 @@ pub demand-2-sends : {file slice output-lent patch-lent output-after patch-after
     → FeedPromise file slice output-lent patch-lent answer output-after patch-after
     → (patch : PatchFile file) (taken : SliceFile (patch .trees .input) slice) → FeedsPatch (patch .trees) (taken .prefix) sent next
     → length (slice-file-bytes sent) ≤ length output-lent → length (patch-file-bytes next) ≤ length patch-lent
-    → WroteBoth (slice-file-bytes sent) (patch-file-bytes next) output-lent patch-lent answer output-after patch-after
+    → WroteBoth (files-of (taken .prefix) sent next) output-lent patch-lent answer output-after patch-after
 demand-2-sends call patch taken rule h k = feed-by-rules call patch taken rule h k
 
 pub demand-2-defined : {file slice : List ℕ} (patch : PatchFile file) (taken : SliceFile (patch .trees .input) slice)
@@ -167,5 +169,6 @@ none-longer type slice call zero admits admitted b c = none-admitted-longer type
 
 pub longest-admitted : (type : List ℕ) {lent lent-after : List ℕ} {answer : Written} {seen : Admitted}
     → LongestPromise type lent answer lent-after → answer .number ≡ 0 → Bytes type
-    → AdmitPromise type (take (answer .written) lent-after) seen → seen ≡ record { number = 0; complete = 1 }
+    → AdmitPromise type (take (answer .written) lent-after) seen
+    → (t : TypeFile type) × (seen ≡ record { number = 0; complete = 1; arrived = arrivals (longest-prefix (t .type)) })
 longest-admitted type call zero b admits = longest-admits type call zero b admits

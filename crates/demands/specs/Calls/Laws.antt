@@ -14,7 +14,7 @@ use borrow.Author.Tests.{le-leb, leb-false, leb-true}
 use Rattle.stream.specs.declared.Fault.{Fault}
 use Rattle.stream.specs.declared.Fault.the-variants.{NoRoom}
 use Rattle.stream.specs.Faults.{number, contains, Listed}
-use Rattle.stream.specs.Prefixes.{Prefix, Complete, IsPrefix, derivative}
+use Rattle.stream.specs.Prefixes.{Prefix, Complete, IsPrefix, arrivals, derivative}
 use Rattle.stream.specs.Prefixes.Functions.{complete, concat}
 use Rattle.stream.specs.Prefixes.Laws.{complete-sound, complete-complete, concat-only}
 use Rattle.stream.specs.Reading.{Bytes, Result, accepted, refused, IsAccepted, require, go-on}
@@ -24,7 +24,7 @@ use Rattle.meaning.specs.declared.Written.{Written}
 use Rattle.meaning.specs.declared.Admitted.{Admitted}
 use Rattle.meaning.specs.declared.Fed.{Fed}
 use Rattle.stream.specs.Bounds.{slice-file-limit, patch-file-limit}
-use Rattle.meaning.specs.Answers.{with-room, number-of, value-of, as-number, after, fits-one, fits-both, written, admitted, fed, FedFiles, check, left, join, feed, admit, longest, fed-files, into-both}
+use Rattle.meaning.specs.Answers.{with-room, number-of, value-of, as-number, after, fits-one, fits-both, written, admitted, fed, FedFiles, check, left, join, feed, admit, longest, files-of, fed-files, into-both}
 use Rattle.meaning.specs.Answers.Laws.{number-positive, enough-room, room-accepted, room-refusals, both-fit, check-refused-feed, admit-answers, admit-accepted, longest-of, longest-accepted, Refuses, WritesSized, FeedsSized}
 use Rattle.meaning.specs.Promises.{Writes, Admits, CheckPromise, AdmitPromise, LeftPromise, JoinPromise, FeedPromise, LongestPromise}
 use Rattle.demands.specs.Calls.{type-and-slice, two-slices, patch-and-slice, DueFromCheck, DueFromAdmit, DueFromLeft, DueFromJoin, DueFromFeed, DueFromLongest, RoomFor, Wrote, WroteBoth, Decided, is-accepted, is-refused, is-short, TooShortFor, Ty}
@@ -234,7 +234,7 @@ module _ {patch slice output-lent patch-lent : List ℕ} {answer : Fed} {output-
 
   -- With room for its files, the call writes exactly these.
   pub feeds-exactly : {w : FedFiles} → feed patch slice ≡ accepted w → length (w .output) ≤ length output-lent → length (w .patch) ≤ length patch-lent
-      → WroteBoth (w .output) (w .patch) output-lent patch-lent answer output-after patch-after
+      → WroteBoth w output-lent patch-lent answer output-after patch-after
   unfolding fed after
   feeds-exactly {w} e h k =
       let o = enough-room fits (feed patch slice) e (both-fit w h k) in (
@@ -249,6 +249,8 @@ module _ {patch slice output-lent patch-lent : List ℕ} {answer : Fed} {output-
     pub due : feed patch slice ≡ accepted files
     pub output-file : take (answer .output) output-after ≡ files .output
     pub patch-file : take (answer .patch) patch-after ≡ files .patch
+    pub arrived : answer .arrived ≡ files .arrived
+    pub sent : answer .sent ≡ files .sent
 
   pub feeds-accepted : answer .number ≡ 0 → Accepted
   unfolding fed after
@@ -263,7 +265,18 @@ module _ {patch slice output-lent patch-lent : List ℕ} {answer : Fed} {output-
             ∙ take-append-seam (w .output) (drop (length (w .output)) output-lent);
         patch-file = ap₂ take (ap (λ (f : Fed). f .patch) told) (promise .patch-buffer ∙ ap (λ r. after (λ f. f .patch) r patch-lent) (a .1))
             ∙ take-append-seam (w .patch) (drop (length (w .patch)) patch-lent);
+        arrived = ap (λ (f : Fed). f .arrived) told;
+        sent = ap (λ (f : Fed). f .sent) told;
       }
+
+  -- A refused call counts nothing.
+  pub feeds-refused : (answer .number ≡ 0 → ⊥) → (answer .arrived ≡ 0) × (answer .sent ≡ 0)
+  unfolding fed
+  feeds-refused n = go (with-room fits (feed patch slice)) (promise .answers)
+    where
+      go : (o : Result FedFiles) → answer ≡ fed o → (answer .arrived ≡ 0) × (answer .sent ≡ 0)
+      go (accepted w) e = absurd (n (ap (λ (a : Fed). a .number) e))
+      go (refused f) e = (ap (λ (a : Fed). a .arrived) e, ap (λ (a : Fed). a .sent) e)
 
 -- Admit
 
@@ -275,7 +288,7 @@ else-zero : (b : Bool) → (b ≡ true → ⊥) → as-number b ≡ 0
 else-zero true not = absurd (not refl)
 else-zero false not = refl
 
-module _ {o : Result Bool} {answer : Admitted} (promise : Admits o answer) where
+module _ {o : Result Prefix} {answer : Admitted} (promise : Admits o answer) where
   admit-told : answer .number ≡ number-of o
   unfolding admitted
   admit-told = ap (λ (a : Admitted). a .number) (promise .answers)
@@ -286,7 +299,20 @@ module _ {o : Result Bool} {answer : Admitted} (promise : Admits o answer) where
   pub admits-zero : answer .number ≡ 0 ↔ IsAccepted o
   admits-zero = rw admit-told (zero-accepted o)
 
-  pub admits-complete : {p : Prefix} → o ≡ accepted (complete p)
+  pub admits-counts : {p : Prefix} → o ≡ accepted p → answer .arrived ≡ arrivals p
+  unfolding admitted
+  admits-counts d = ap (λ (a : Admitted). a .arrived) (promise .answers ∙ ap admitted d)
+
+  -- A refused call counts nothing.
+  pub admits-refused : (answer .number ≡ 0 → ⊥) → answer .arrived ≡ 0
+  unfolding admitted
+  admits-refused n = go o (promise .answers)
+    where
+      go : (r : Result Prefix) → answer ≡ admitted r → answer .arrived ≡ 0
+      go (accepted p) e = absurd (n (ap (λ (a : Admitted). a .number) e))
+      go (refused f) e = ap (λ (a : Admitted). a .arrived) e
+
+  pub admits-complete : {p : Prefix} → o ≡ accepted p
       → (answer .complete ≡ 1 ↔ Complete p) × ((Complete p → ⊥) → answer .complete ≡ 0)
   unfolding admitted
   admits-complete {p} d =
@@ -324,7 +350,7 @@ pub writes-alike : {outcome : Result (List ℕ)} {lent x y : List ℕ} {a b : Wr
     → (a ≡ b) × (x ≡ y)
 writes-alike h k = (h .answers ∙ sym (k .answers), h .buffer ∙ sym (k .buffer))
 
-pub admits-alike : {outcome : Result Bool} {a b : Admitted} → Admits outcome a → Admits outcome b → a ≡ b
+pub admits-alike : {outcome : Result Prefix} {a b : Admitted} → Admits outcome a → Admits outcome b → a ≡ b
 admits-alike h k = h .answers ∙ sym (k .answers)
 
 pub feeds-alike : {patch slice output-lent patch-lent x y u v : List ℕ} {a b : Fed} → FeedPromise patch slice output-lent patch-lent a x u
@@ -334,19 +360,19 @@ feeds-alike h k = (h .answers ∙ sym (k .answers), h .output-buffer ∙ sym (k 
 -- What Check refuses, 20 aside, Feed refuses with the same number.
 pub feeds-as-check : {patch slice lent lent-after output-lent patch-lent output-after patch-after : List ℕ} {c : Written} {f : Fed}
     → CheckPromise patch lent c lent-after → FeedPromise patch slice output-lent patch-lent f output-after patch-after
-    → (c .number ≡ 0 → ⊥) → (c .number ≡ 20 → ⊥) → f ≡ record { number = c .number; output = 0; patch = 0 }
+    → (c .number ≡ 0 → ⊥) → (c .number ≡ 20 → ⊥) → f ≡ record { number = c .number; output = 0; patch = 0; arrived = 0; sent = 0 }
 unfolding with-room fed written
 feeds-as-check {patch} {slice} {lent} {output-lent = output-lent} {patch-lent = patch-lent} {c = c} {f = f} check-call feed-call n m = go (check patch) refl
   where
-    short : (file : List ℕ) (b : Bool) → c .number ≡ number-of (require b NoRoom (accepted file)) → f ≡ record { number = c .number; output = 0; patch = 0 }
+    short : (file : List ℕ) (b : Bool) → c .number ≡ number-of (require b NoRoom (accepted file)) → f ≡ record { number = c .number; output = 0; patch = 0; arrived = 0; sent = 0 }
     short file true e = absurd (n e)
     short file false e = absurd (m e)
 
-    go : (r : Result (List ℕ)) → check patch ≡ r → f ≡ record { number = c .number; output = 0; patch = 0 }
+    go : (r : Result (List ℕ)) → check patch ≡ r → f ≡ record { number = c .number; output = 0; patch = 0; arrived = 0; sent = 0 }
     go (accepted file) e = short file (fits-one (length lent) file) (told check-call ∙ ap (λ r. number-of (with-room (fits-one (length lent)) r)) e)
     go (refused e) d =
         feed-call .answers ∙ ap (λ r. fed (with-room (fits-both (length output-lent) (length patch-lent)) r)) (check-refused-feed patch slice d)
-        ∙ (λ i. record { number = sym (told check-call ∙ ap (λ r. number-of (with-room (fits-one (length lent)) r)) d) i; output = 0; patch = 0 })
+        ∙ (λ i. record { number = sym (told check-call ∙ ap (λ r. number-of (with-room (fits-one (length lent)) r)) d) i; output = 0; patch = 0; arrived = 0; sent = 0 })
 
 -- A call is decided by what its files are read as.
 
@@ -374,12 +400,12 @@ module _ {A : Type 0} {Due : A → List (List ℕ) → Type 0} (file : A → Lis
   writes-decided (refused e) promise =
       is-refused e refl (ap (λ (w : Written). w .number) (promise .answers)) (ap (λ l. l ∷ []) (promise .buffer))
 
-admits-decided : (says : Ty × Prefix → Bool) {answer : Admitted} (read : Result (Ty × Prefix)) → Admits (go-on read (λ a. accepted (says a))) answer
+admits-decided : {answer : Admitted} (read : Result (Ty × Prefix)) → Admits (go-on read (λ a. accepted (a .1))) answer
     → Decided read DueFromAdmit (answer .number) [] [] []
 unfolding admitted
-admits-decided says (accepted a) promise =
+admits-decided (accepted a) promise =
     is-accepted a refl (ap (λ (w : Admitted). w .number) (promise .answers)) (λ files none. rw none (tt, refl, refl))
-admits-decided says (refused e) promise = is-refused e refl (ap (λ (w : Admitted). w .number) (promise .answers)) refl
+admits-decided (refused e) promise = is-refused e refl (ap (λ (w : Admitted). w .number) (promise .answers)) refl
 
 -- What files read one after the other come to is what comes of all of them together.
 
@@ -407,8 +433,8 @@ pub admit-decided : (type slice : List ℕ) {answer : Admitted} → AdmitPromise
     → Decided (type-and-slice type slice) DueFromAdmit (answer .number) [] [] []
 unfolding admit
 admit-decided type slice call =
-    admits-decided (λ (x : Ty × Prefix). complete (x .1)) (type-and-slice type slice)
-    (rw (both-read (type-file type) (λ t. slice-file t slice) (λ t. t) (λ t p. accepted (complete p))) at call)
+    admits-decided (type-and-slice type slice)
+    (rw (both-read (type-file type) (λ t. slice-file t slice) (λ t. t) (λ t p. accepted p)) at call)
 
 pub left-decided : (type slice : List ℕ) {lent lent-after : List ℕ} {answer : Written} → LeftPromise type slice lent answer lent-after
     → Decided (type-and-slice type slice) DueFromLeft (answer .number) (answer .written ∷ []) (lent ∷ []) (lent-after ∷ [])
@@ -456,25 +482,27 @@ module _ (type : List ℕ) {lent lent-after : List ℕ} {answer : Written} (call
       let same : longest-prefix (longest-type .type) ≡ longest-prefix (both .0 .type) = ap longest-prefix (one-type longest-type (both .0)) in
       rw (writes-accepted call zero .long, longest-due, same) (no-file-longer (both .1))
 
-  pub longest-admits : {seen : Admitted} → AdmitPromise type (take (answer .written) lent-after) seen → seen ≡ record { number = 0; complete = 1 }
+  pub longest-admits : {seen : Admitted} → AdmitPromise type (take (answer .written) lent-after) seen
+      → (t : TypeFile type) × (seen ≡ record { number = 0; complete = 1; arrived = arrivals (longest-prefix (t .type)) })
   unfolding admitted
   longest-admits {seen} admits =
       let t = longest-type .type in
       let is : take (answer .written) lent-after ≡ slice-file-bytes (longest-prefix t) = writes-accepted call zero .in-front ∙ longest-due in
-      let says : admit type (slice-file-bytes (longest-prefix t)) ≡ accepted true
-      = rw (longest-type .bytes) at (admit-answers (longest-type .small) (longest-prefix-is-prefix t)) ∙ ap accepted (complete-complete (longest-prefix-complete t)) in
-      admits .answers ∙ ap (λ file. admitted (admit type file)) is ∙ ap admitted says
+      let says : admit type (slice-file-bytes (longest-prefix t)) ≡ accepted (longest-prefix t)
+      = rw (longest-type .bytes) at (admit-answers (longest-type .small) (longest-prefix-is-prefix t)) in
+      let whole : complete (longest-prefix t) ≡ true = complete-complete (longest-prefix-complete t) in (
+        longest-type,
+        admits .answers ∙ ap (λ file. admitted (admit type file)) is ∙ ap admitted says
+            ∙ (λ i. record { number = 0; complete = as-number (whole i); arrived = arrivals (longest-prefix t) }),
+      )
 
 -- Feed, which has two buffers. The rules leave no other files than the functions do.
 
 pub left-only : {a b : Patch} {p o : Prefix} → IsPrefix (a .input) p → FeedsPatch a p o b
-    → fed-files a p ≡ record { output = slice-file-bytes o; patch = patch-file-bytes b }
+    → fed-files a p ≡ files-of p o b
 left-only {a} {b} {p} {o} is-prefix f =
     let e = feeds-only (f .by-node) is-prefix in
-    λ i. record {
-      output = slice-file-bytes (sym (e .sent) i);
-      patch = patch-file-bytes (record { input = sym (f .input-left) i; node = sym (e .node) i });
-    }
+    λ i. files-of p (sym (e .sent) i) (record { input = sym (f .input-left) i; node = sym (e .node) i })
 
 abbrev both-files : FedFiles → List (List ℕ)
 both-files w = w .output ∷ w .patch ∷ []

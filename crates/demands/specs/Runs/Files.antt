@@ -36,7 +36,8 @@ pub record OnFiles (start : List ℕ) (r : RunEnd) : Type 0 where
   pub fed-as-one : {output-lent patch-lent output-after patch-after : List ℕ} {answer : Fed}
       → FeedPromise start slice output-lent patch-lent answer output-after patch-after
       → length output ≤ length output-lent → length (r .file) ≤ length patch-lent
-      → WroteBoth output (r .file) output-lent patch-lent answer output-after patch-after
+      → WroteBoth (record { output = output; patch = r .file; arrived = r .arrived; sent = r .sent })
+      output-lent patch-lent answer output-after patch-after
   pub input-left : left (first-section start) slice ≡ accepted (first-section (r .file))
   pub output-left : left output-type output ≡ check (r .file)
 

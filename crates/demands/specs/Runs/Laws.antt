@@ -2,15 +2,15 @@
 use mathlib.Core.Path.{_≡_, refl, sym, ap, ap₂, _∙_}
 use mathlib.Core.Bool.{Bool, true, false}
 use mathlib.Core.List.{List, [], _∷_, _++_, map, append-nil, append-assoc}
-use Prim.Native.Nat.{ℕ, _≤_}
+use Prim.Native.Nat.{ℕ, _+_, _≤_}
 use native.Mathlib.Omega.{arith}
 use lib.Dec.{eqb}
 use lib.ListN.{length, take, drop, length-append}
 use lib.Seq.{take-append-seam}
 use borrow.Author.Tests.{eqb-true, eqb-false}
 use Rattle.stream.specs.Types.{Ty, Small}
-use Rattle.stream.specs.Prefixes.{Prefix, IsPrefix, Opens, derivative}
-use Rattle.stream.specs.Prefixes.Laws.{closed-derivative, concat-is-prefix, derivative-concat, concats, concat-only, derivative-size}
+use Rattle.stream.specs.Prefixes.{Prefix, IsPrefix, Opens, arrivals, derivative}
+use Rattle.stream.specs.Prefixes.Laws.{closed-derivative, closed-arrivals, concat-is-prefix, derivative-concat, concats, concat-only, derivative-size}
 use Rattle.stream.specs.Reading.{Bytes, accepted}
 use Rattle.stream.specs.Reading.Laws.{go-on-accepted}
 use Rattle.stream.specs.SliceFiles.{slice-file, slice-file-bytes, SliceFile}
@@ -19,12 +19,12 @@ use Rattle.node.specs.Nodes.{Node, Allowed, patch-of, Patch}
 use Rattle.node.specs.Feeding.{Feeds, FeedsPatch}
 use Rattle.node.specs.Feeding.Functions.{sends, leaves, patch-left}
 use Rattle.node.specs.Feeding.Laws.{Preserved, preserved, leaves-allowed, feeds}
-use Rattle.node.specs.Feeding.Lists.{Pieces, no-more, piece, concat-all, derivative-all, sends-all, leaves-all, sends-pieces, concat-all-is-prefix, derivative-concat-all, sends-concat-all, leaves-concat-all, leaves-all-allowed}
+use Rattle.node.specs.Feeding.Lists.{Pieces, no-more, piece, concat-all, derivative-all, sends-all, leaves-all, arrivals-all, arrivals-concat-all, sends-pieces, concat-all-is-prefix, derivative-concat-all, sends-concat-all, leaves-concat-all, leaves-all-allowed}
 use Rattle.node.specs.PatchFiles.{patch-file-bytes, PatchFile, patch-file, Checked}
 use Rattle.stream.specs.Buffers.{at-front}
 use Rattle.meaning.specs.declared.Written.{Written}
 use Rattle.meaning.specs.declared.Fed.{Fed}
-use Rattle.meaning.specs.Answers.{left, FedFiles, feed, fed-files}
+use Rattle.meaning.specs.Answers.{left, FedFiles, feed, files-of, fed-files}
 use Rattle.meaning.specs.Answers.Laws.{feed-of-patch, feed-answers, longest-answers}
 use Rattle.meaning.specs.Promises.{FeedPromise, LongestPromise}
 use Rattle.demands.specs.Calls.{WroteBoth}
@@ -45,18 +45,23 @@ record Traced (s : Ty) (n : Node) (r : RunEnd) : Type 0 where
   patch : r .file ≡ patch-file-bytes (patch-of (derivative-all s pieces) (leaves-all s n pieces))
   slices : r .slices ≡ map slice-file-bytes pieces
   outputs : r .outputs ≡ map slice-file-bytes (sends-all s n pieces)
+  arrived : r .arrived ≡ arrivals-all pieces
+  sent : r .sent ≡ arrivals-all (sends-all s n pieces)
 
-one-more : {s : Ty} {n : Node} {p : Prefix} (r : RunEnd) {slice output : List ℕ} → IsPrefix s p → slice-file-bytes p ≡ slice
-    → slice-file-bytes (sends s n p) ≡ output → Traced (derivative s p) (leaves s n p) r
-    → Traced s n (record { file = r .file; slices = slice ∷ r .slices; outputs = output ∷ r .outputs })
-unfolding derivative-all leaves-all sends-all
-one-more {p = p} r h d e t =
+-- An accepted call more, in front.
+one-more : {s : Ty} {n : Node} {p : Prefix} (r : RunEnd) {slice output : List ℕ} {came went : ℕ} → IsPrefix s p → slice-file-bytes p ≡ slice
+    → slice-file-bytes (sends s n p) ≡ output → came ≡ arrivals p → went ≡ arrivals (sends s n p) → Traced (derivative s p) (leaves s n p) r
+    → Traced s n (record { file = r .file; slices = slice ∷ r .slices; outputs = output ∷ r .outputs; arrived = came + r .arrived; sent = went + r .sent })
+unfolding derivative-all leaves-all sends-all arrivals-all
+one-more {p = p} r h d e a b t =
     record {
       pieces = p ∷ t .pieces;
       are-pieces = piece h (t .are-pieces);
       patch = t .patch;
       slices = ap₂ _∷_ (sym d) (t .slices);
       outputs = ap₂ _∷_ (sym e) (t .outputs);
+      arrived = ap₂ _+_ a (t .arrived);
+      sent = ap₂ _+_ b (t .sent);
     }
 
 -- A slice that an allowed patch is fed is a prefix, and its files are those of the rules.
@@ -75,13 +80,14 @@ a-piece {s} {t} {n} {slice} {w} a b e =
 
 traced : {s t : Ty} {n : Node} {start : List ℕ} {r : RunEnd} (calls : List Call) → patch-file-bytes (patch-of s n) ≡ start → Allowed s n t → ByteSlices calls
     → Ran start calls r → Traced s n r
-unfolding derivative-all leaves-all sends-all
-traced [] e a b no-call = record { pieces = []; are-pieces = no-more; patch = sym e; slices = refl; outputs = refl }
+unfolding derivative-all leaves-all sends-all arrivals-all
+traced [] e a b no-call = record { pieces = []; are-pieces = no-more; patch = sym e; slices = refl; outputs = refl; arrived = refl; sent = refl }
 traced (c ∷ calls) e a b (refused-call k z ran) = traced calls e a (b .1) ran
 traced {s} {t} {n} (c ∷ calls) e a b (accepted-call {r = r} k z ran) =
     let x = feeds-accepted k z in
     let p = a-piece a (b .0) (ap (λ f. feed f (c .slice)) e ∙ x .due) in
     one-more r (p .is-prefix) (p .bytes) (ap (λ (w : FedFiles). w .output) (p .files) ∙ sym (x .output-file))
+    (x .arrived ∙ sym (ap (λ (w : FedFiles). w .arrived) (p .files))) (x .sent ∙ sym (ap (λ (w : FedFiles). w .sent) (p .files)))
     (traced calls (ap (λ (w : FedFiles). w .patch) (p .files) ∙ sym (x .patch-file)) (leaves-allowed a (p .is-prefix)) (b .1) ran)
 
 -- The files of pieces join to their concatenation.
@@ -104,16 +110,18 @@ record OneFeed {s : Ty} {n : Node} {t : Ty} (a : Allowed s n t) (ps : List Prefi
   output : Prefix
   slices-joined : Joined s (r .slices) slice
   outputs-joined : Joined t (r .outputs) output
-  fed-joined : feed (patch-file-bytes (patch-of s n)) (slice-file-bytes slice) ≡ accepted (record { output = slice-file-bytes output; patch = r .file })
+  fed-joined : feed (patch-file-bytes (patch-of s n)) (slice-file-bytes slice)
+      ≡ accepted (record { output = slice-file-bytes output; patch = r .file; arrived = r .arrived; sent = r .sent })
   input-left : derivative-all s ps ≡ derivative s slice
   output-left : derivative-all t (sends-all s n ps) ≡ derivative t output
 
 one-feed : {s t : Ty} {n : Node} (r : RunEnd) (ps : List Prefix) (a : Allowed s n t) → Pieces s ps
     → r .file ≡ patch-file-bytes (patch-of (derivative-all s ps) (leaves-all s n ps)) → r .slices ≡ map slice-file-bytes ps
-    → r .outputs ≡ map slice-file-bytes (sends-all s n ps) → (r .slices ≡ [] → ⊥) → OneFeed a ps r
+    → r .outputs ≡ map slice-file-bytes (sends-all s n ps) → r .arrived ≡ arrivals-all ps → r .sent ≡ arrivals-all (sends-all s n ps)
+    → (r .slices ≡ [] → ⊥) → OneFeed a ps r
 unfolding derivative-all leaves-all sends-all
-one-feed r [] a no-more e d o l = absurd (l d)
-one-feed {s} {t} {n} r (p ∷ ps) a (piece h k) e d o l =
+one-feed r [] a no-more e d o c w l = absurd (l d)
+one-feed {s} {t} {n} r (p ∷ ps) a (piece h k) e d o c w l =
     record {
       slice = concat-all p ps;
       output = concat-all (sends s n p) sent;
@@ -121,7 +129,12 @@ one-feed {s} {t} {n} r (p ∷ ps) a (piece h k) e d o l =
       outputs-joined = rw o (joined-all sent (x .sent) outputs);
       fed-joined =
           feed-answers a (concat-all-is-prefix ps h k)
-          ∙ (λ i. accepted (record { output = slice-file-bytes (sends-concat-all ps (a .types) h k i); patch = patches i }));
+          ∙ (λ i. accepted (record {
+            output = slice-file-bytes (sends-concat-all ps (a .types) h k i);
+            patch = patches i;
+            arrived = (arrivals-concat-all ps h k ∙ sym c) i;
+            sent = counts i;
+          }));
       input-left = sym (derivative-concat-all ps h k);
       output-left = sym (derivative-concat-all sent (x .sent) outputs);
     }
@@ -135,6 +148,9 @@ one-feed {s} {t} {n} r (p ∷ ps) a (piece h k) e d o l =
     outputs : Pieces (derivative t (sends s n p)) (sends-all (derivative s p) (leaves s n p) ps)
     outputs = sends-pieces ps (x .types) k
 
+    counts : arrivals (sends s n (concat-all p ps)) ≡ r .sent
+    counts = ap arrivals (sends-concat-all ps (a .types) h k) ∙ arrivals-concat-all sent (x .sent) outputs ∙ sym w
+
     patches : patch-file-bytes (patch-left (patch-of s n) (concat-all p ps)) ≡ r .file
     patches = ap₂ (λ u m. patch-file-bytes (patch-of u m)) (derivative-concat-all ps h k) (leaves-concat-all ps (a .types) h k) ∙ sym e
 
@@ -143,22 +159,22 @@ pub feed-by-rules : {b : Patch} {o : Prefix} {file slice output-lent patch-lent 
     → FeedPromise file slice output-lent patch-lent answer output-after patch-after
     → (patch : PatchFile file) (taken : SliceFile (patch .trees .input) slice) → FeedsPatch (patch .trees) (taken .prefix) o b
     → length (slice-file-bytes o) ≤ length output-lent → length (patch-file-bytes b) ≤ length patch-lent
-    → WroteBoth (slice-file-bytes o) (patch-file-bytes b) output-lent patch-lent answer output-after patch-after
+    → WroteBoth (files-of (taken .prefix) o b) output-lent patch-lent answer output-after patch-after
 feed-by-rules call patch taken rule i j =
     feeds-exactly call
     (rw (patch .bytes, taken .bytes) at (feed-answers (patch .allowed) (taken .is-prefix)) ∙ ap accepted (left-only (taken .is-prefix) rule)) i j
 
--- Where the node stays, on a prefix that opens nothing, the patch file is written back, byte for byte.
+-- Where the node stays, on a prefix that opens nothing, the patch file is written back, byte for byte; nothing has arrived.
 pub stays-on-file : {o : Prefix} {file slice output-lent patch-lent output-after patch-after : List ℕ} {answer : Fed}
     → FeedPromise file slice output-lent patch-lent answer output-after patch-after
     → (patch : PatchFile file) (taken : SliceFile (patch .trees .input) slice) → (Opens (patch .trees .input) (taken .prefix) → ⊥)
     → Feeds (patch .trees .input) (patch .trees .node) (taken .prefix) o (patch .trees .node)
     → length (slice-file-bytes o) ≤ length output-lent → length file ≤ length patch-lent
-    → WroteBoth (slice-file-bytes o) file output-lent patch-lent answer output-after patch-after
+    → WroteBoth (record { output = slice-file-bytes o; patch = file; arrived = 0; sent = arrivals o }) output-lent patch-lent answer output-after patch-after
 stays-on-file call patch taken closed rule i j =
     let fed : FeedsPatch (patch .trees) (taken .prefix) _ (patch .trees) =
     record { by-node = rule; input-left = sym (closed-derivative (taken .is-prefix) closed) } in
-    rw (patch .bytes) at (feed-by-rules call patch taken fed i (rw (patch .bytes) j))
+    rw (patch .bytes, closed-arrivals (taken .is-prefix) closed) at (feed-by-rules call patch taken fed i (rw (patch .bytes) j))
 
 -- The rules define what is sent and left, of every prefix.
 pub feed-defined : {file slice : List ℕ} (patch : PatchFile file) (taken : SliceFile (patch .trees .input) slice)
@@ -192,7 +208,7 @@ module _ {start : List ℕ} {calls : List Call} {r : RunEnd} (ran : Ran start ca
   unfolding run-patch
   run-as-one h =
       let t = trace in
-      let one = one-feed r (t .pieces) (patch .allowed) (t .are-pieces) (t .patch) (t .slices) (t .outputs) h in
+      let one = one-feed r (t .pieces) (patch .allowed) (t .are-pieces) (t .patch) (t .slices) (t .outputs) (t .arrived) (t .sent) h in
       record {
         slice = one .slice;
         output = one .output;
@@ -203,15 +219,16 @@ module _ {start : List ℕ} {calls : List Call} {r : RunEnd} (ran : Ran start ca
         output-left = one .output-left;
       }
 
-  run-none : r .slices ≡ [] → (r .file ≡ start) × (run-patch .trees ≡ patch .trees) × (run-patch .output ≡ patch .output)
-  unfolding run-patch derivative-all leaves-all sends-all
-  run-none e = go (trace .pieces) (sym (trace .slices) ∙ e) (trace .patch)
+  run-none : r .slices ≡ [] → (r .file ≡ start) × (run-patch .trees ≡ patch .trees) × (run-patch .output ≡ patch .output) × (r .arrived ≡ 0) × (r .sent ≡ 0)
+  unfolding run-patch derivative-all leaves-all sends-all arrivals-all
+  run-none e = go (trace .pieces) (sym (trace .slices) ∙ e) (trace .patch) (trace .arrived) (trace .sent)
     where
       go : (ps : List Prefix) → map slice-file-bytes ps ≡ [] → r .file ≡ patch-file-bytes (patch-of (derivative-all input ps) (leaves-all input node ps))
+          → r .arrived ≡ arrivals-all ps → r .sent ≡ arrivals-all (sends-all input node ps)
           → (r .file ≡ start) × (patch-of (derivative-all input ps) (leaves-all input node ps) ≡ patch .trees)
-          × (derivative-all (patch .output) (sends-all input node ps) ≡ patch .output)
-      go [] d h = (h ∙ patch .bytes, refl, refl)
-      go (p ∷ ps) d h = let z : _≡_ {A = ℕ} 0 1 = cc in absurd (omega arith)
+          × (derivative-all (patch .output) (sends-all input node ps) ≡ patch .output) × (r .arrived ≡ 0) × (r .sent ≡ 0)
+      go [] d h c w = (h ∙ patch .bytes, refl, refl, c, w)
+      go (p ∷ ps) d h c w = let z : _≡_ {A = ℕ} 0 1 = cc in absurd (omega arith)
 
   pub run-faithful : Faithful patch r
   run-faithful = record { next = run-patch; as-one = run-as-one; unmoved = run-none }
@@ -219,19 +236,30 @@ module _ {start : List ℕ} {calls : List Call} {r : RunEnd} (ran : Ran start ca
 -- A run goes through the runs of the initial parts of its list.
 
 pub run-through : {start : List ℕ} {r : RunEnd} (calls more : List Call) → Ran start (calls ++ more) r → Through start calls more r
-run-through [] more ran = record { so-far = _; ran = no-call; rest = _; goes-on = ran; comes-to = refl }
+run-through {r = r} [] more ran =
+    let none : (n : ℕ) → n ≡ 0 + n = λ n. omega arith in
+    record {
+      so-far = _;
+      ran = no-call;
+      rest = _;
+      goes-on = ran;
+      comes-to = λ i. record { file = r .file; slices = r .slices; outputs = r .outputs; arrived = none (r .arrived) i; sent = none (r .sent) i };
+    }
 run-through (c ∷ calls) more (refused-call k z ran) =
     let t = run-through calls more ran in
     record { so-far = t .so-far; ran = refused-call k z (t .ran); rest = t .rest; goes-on = t .goes-on; comes-to = t .comes-to }
-run-through (c ∷ calls) more (accepted-call {answer = answer} {output-after = output} k z ran) =
+run-through (c ∷ calls) more (accepted-call {answer = answer} {output-after = output} {r = r} k z ran) =
     let t = run-through calls more ran in
+    let came : answer .arrived + r .arrived ≡ answer .arrived + t .so-far .arrived + t .rest .arrived
+    = omega (arith, ap (λ (e : RunEnd). e .arrived) (t .comes-to)) in
+    let went : answer .sent + r .sent ≡ answer .sent + t .so-far .sent + t .rest .sent = omega (arith, ap (λ (e : RunEnd). e .sent) (t .comes-to)) in
     record {
       so-far = _;
       ran = accepted-call k z (t .ran);
       rest = t .rest;
       goes-on = t .goes-on;
       comes-to = λ i. let e = t .comes-to i in
-          record { file = e .file; slices = c .slice ∷ e .slices; outputs = take (answer .output) output ∷ e .outputs };
+          record { file = e .file; slices = c .slice ∷ e .slices; outputs = take (answer .output) output ∷ e .outputs; arrived = came i; sent = went i };
     }
 
 first-slices : (calls more : List Call) → ByteSlices (calls ++ more) → ByteSlices calls
@@ -266,9 +294,15 @@ runs-alike (c ∷ calls) (accepted-call {answer = a} {output-after = o} {patch-a
     let e = feeds-alike h k in
     let next : take (b .patch) v ≡ take (a .patch) l = λ i. take (sym (e .0) i .patch) (sym (e .2) i) in
     let d = runs-alike calls ran (rw next at also) in
-    λ i. record { file = d i .file; slices = c .slice ∷ d i .slices; outputs = take (e .0 i .output) (e .1 i) ∷ d i .outputs }
+    λ i. record {
+      file = d i .file;
+      slices = c .slice ∷ d i .slices;
+      outputs = take (e .0 i .output) (e .1 i) ∷ d i .outputs;
+      arrived = e .0 i .arrived + d i .arrived;
+      sent = e .0 i .sent + d i .sent;
+    }
 
--- Two runs of the same stream, however it is cut, leave the same patch and send the same joined output.
+-- Two runs of the same stream, however it is cut, leave the same patch, send the same joined output and count the same.
 
 same-front : (x y lent : List ℕ) → length x ≡ length y → at-front x lent ≡ at-front y lent → x ≡ y
 same-front x y lent n e =
@@ -277,7 +311,7 @@ same-front x y lent n e =
 
 pub same-stream : {start : List ℕ} {patch : PatchFile start} {r q : RunEnd} {m : PatchFile (r .file)} {l : PatchFile (q .file)}
     (a : AsOne patch r m) (b : AsOne patch q l) → a .slice ≡ b .slice
-    → (r .file ≡ q .file) × (slice-file-bytes (a .output) ≡ slice-file-bytes (b .output))
+    → (r .file ≡ q .file) × (slice-file-bytes (a .output) ≡ slice-file-bytes (b .output)) × (r .arrived ≡ q .arrived) × (r .sent ≡ q .sent)
 same-stream {start} {r = r} {q = q} a b e =
     go (feed-kept start (slice-file-bytes (a .slice)) (one-output ++ other-output) (r .file ++ q .file))
   where
@@ -290,7 +324,7 @@ same-stream {start} {r = r} {q = q} a b e =
     -- Both fed as one, with buffers that hold either answer.
     go : (answer : Fed) × (output : List ℕ) × (left : List ℕ)
         × FeedPromise start (slice-file-bytes (a .slice)) (slice-file-bytes (a .output) ++ slice-file-bytes (b .output)) (r .file ++ q .file) answer output left
-        → (r .file ≡ q .file) × (slice-file-bytes (a .output) ≡ slice-file-bytes (b .output))
+        → (r .file ≡ q .file) × (slice-file-bytes (a .output) ≡ slice-file-bytes (b .output)) × (r .arrived ≡ q .arrived) × (r .sent ≡ q .sent)
     go (answer, output, left, k) =
         let m = length-append (slice-file-bytes (a .output)) (slice-file-bytes (b .output)) in
         let n = length-append (r .file) (q .file) in
@@ -299,6 +333,8 @@ same-stream {start} {r = r} {q = q} a b e =
         let told = sym (x .0) ∙ y .0 in (
           same-front (r .file) (q .file) _ (ap (λ (f : Fed). f .patch) told) (sym (x .2) ∙ y .2),
           same-front (slice-file-bytes (a .output)) (slice-file-bytes (b .output)) _ (ap (λ (f : Fed). f .output) told) (sym (x .1) ∙ y .1),
+          ap (λ (f : Fed). f .arrived) told,
+          ap (λ (f : Fed). f .sent) told,
         )
 
 -- Files join to one slice, which is a prefix.
@@ -338,11 +374,13 @@ one-joined w (and-next {files = fs} {p = p} {q = x} j k c) (and-next {files = gs
     let last = one-slice small k (rw (← same) at l) (s .1) in
     sym (concat-only c) ∙ ap₂ concat same last ∙ concat-only d
 
--- Two runs from one start whose slices join to the same slice leave the same patch, and their outputs join to the same output.
+-- Two runs from one start whose slices join to the same slice leave the same patch, their outputs join to the same output, and their
+-- counts are the same.
 module _ {start : List ℕ} {calls others : List Call} {r q : RunEnd} {p : Prefix} (ran : Ran start calls r) (also : Ran start others q)
     (patch : PatchFile start) (b : ByteSlices calls) (c : ByteSlices others) where
   pub runs-agree : Joined (patch .trees .input) (r .slices) p → Joined (patch .trees .input) (q .slices) p
       → (r .file ≡ q .file) × ((o : Prefix) × Joined (patch .output) (r .outputs) o × Joined (patch .output) (q .outputs) o)
+      × (r .arrived ≡ q .arrived) × (r .sent ≡ q .sent)
   runs-agree j k =
       let one = run-faithful ran patch b .as-one (λ e. omega (arith, some-files j, ap length e)) in
       let other = run-faithful also patch c .as-one (λ e. omega (arith, some-files k, ap length e)) in
@@ -351,7 +389,7 @@ module _ {start : List ℕ} {calls others : List Call} {r q : RunEnd} {p : Prefi
       let slice = one-joined w (one .slices-joined) j refl ∙ sym (one-joined w (other .slices-joined) k refl) in
       let same = same-stream one other slice in
       let output = one-slice small (joined-is-prefix (one .outputs-joined)) (joined-is-prefix (other .outputs-joined)) (same .1) in
-      (same .0, (one .output, one .outputs-joined, rw output (other .outputs-joined)))
+      (same .0, (one .output, one .outputs-joined, rw output (other .outputs-joined)), same .2, same .3)
 
 -- A file is read in one way.
 

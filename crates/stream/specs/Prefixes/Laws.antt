@@ -386,6 +386,10 @@ arrivals-empty (seq s t) = arrivals-empty s
 arrivals-empty (par s t) = omega (arith, arrivals-empty s, arrivals-empty t)
 arrivals-empty (either s t) = refl
 
+-- So nothing comes while a node waits.
+pub closed-arrivals : {t : Ty} {p : Prefix} → IsPrefix t p → (Opens t p → ⊥) → arrivals p ≡ 0
+closed-arrivals {t} h k = rw (closed-empty h (closed-test h .1 k)) (arrivals-empty t)
+
 -- No more come than the type has leaves: of n nodes, (n + 1) / 2.
 pub arrivals-few : {t : Ty} {p : Prefix} → IsPrefix t p → 2 * arrivals p ≤ size t + 1
 unfolding arrivals size
