@@ -25,7 +25,7 @@ none-counted {p = p} here = record { passed = []; owed = 1; run = starts p (here
 
 -- A node is one arrival at most, and takes a byte at least.
 
-pub one-at-most : (k : ℕ) → root-arrivals k ≤ 1
+one-at-most : (k : ℕ) → root-arrivals k ≤ 1
 one-at-most =
     every (λ k n. n ≤ 1) 0 arrivals-by-kind
     (omega arith
@@ -44,6 +44,30 @@ one-at-most =
 no-more-than-bytes : (ks : List ℕ) → totals root-arrivals ks ≤ totals root-width ks
 no-more-than-bytes [] = omega arith
 no-more-than-bytes (k ∷ ks) = omega (arith, one-at-most k, root-positive k, no-more-than-bytes ks)
+
+-- A cue or a level that has come is one; nothing else is.
+
+pub cue-arrived : (k : ℕ) → k ≡ 2 → root-arrivals k ≡ 1
+cue-arrived k e = rw e
+
+pub level-arrived : (k : ℕ) → k ≡ 4 → root-arrivals k ≡ 1
+level-arrived k e = rw e
+
+pub none-arrived : (k : ℕ) → (k ≡ 2 → ⊥) → (k ≡ 4 → ⊥) → root-arrivals k ≡ 0
+none-arrived =
+    every (λ k n. (k ≡ 2 → ⊥) → (k ≡ 4 → ⊥) → n ≡ 0) 0 arrivals-by-kind
+    ((λ h l. refl)
+    & (λ h l. refl)
+    & (λ h l. absurd (h refl))
+    & (λ h l. refl)
+    & (λ h l. absurd (l refl))
+    & (λ h l. refl)
+    & (λ h l. refl)
+    & (λ h l. refl)
+    & (λ h l. refl)
+    & (λ h l. refl)
+    & (λ h l. refl)
+    & past (λ k long h l. refl))
 
 module _ {slice : List ℕ} {place : PrefixPlace} {p : Prefix} {count next : ℕ} (here : PrefixIn slice place p)
     (counting : Counting slice (place .start) p count next) where

@@ -216,7 +216,8 @@ pub fn opens(slice: &[u8], place: PrefixPlace) -> bool
     !unfinished
 }
 
-// How many cues and levels came in the prefix in `place`. A level's value is passed as in `skip_prefix`.
+// How many cues and levels came in the prefix in `place`. Each has a branch of its own: by `arrivals_of` and one branch for a level's
+// value the compiler makes no branch at all, and every turn then waits for the kind that the turn before has loaded.
 pub fn count_arrivals(slice: &[u8], place: PrefixPlace) -> u32
     requires { ⌜ SomePrefixIn (now slice) place ⌝ }
     requires { ⌜ place .end ≤ slice-file-limit ⌝ }
@@ -228,8 +229,10 @@ pub fn count_arrivals(slice: &[u8], place: PrefixPlace) -> u32
     while next < end {
         let kind = slice[next];
         next += 1;
-        count += arrivals_of(kind);
-        if kind == 4 {
+        if kind == 2 {
+            count += 1;
+        } else if kind == 4 {
+            count += 1;
             next += VALUE_WIDTH;
         }
     }
