@@ -1,6 +1,6 @@
 -- The starred cases of document 01, 1 to 9, of which M-103 moves the eighth, and of document 02 calls on choices (M-100), for the longest
--- slice (M-101) and on nodes that wait (M-103), each as one table: a call by the contents of the sections that it is handed, and what
--- comes back.
+-- slice (M-101), on nodes that wait (M-103) and for the counts (M-104), each as one table: a call by the contents of the sections that it
+-- is handed, and what comes back.
 use mathlib.Core.Path.{_≡_, refl}
 use mathlib.Core.List.{List, [], _∷_, _++_, map}
 use Prim.Native.Nat.{ℕ}
@@ -8,7 +8,7 @@ use Rattle.stream.specs.Faults.{number}
 use Rattle.stream.specs.Reading.{Result, accepted, refused, section-bytes}
 use Rattle.stream.specs.Reading.Examples.{copies}
 use Rattle.node.specs.Computing.{node-definitions}
-use Rattle.meaning.specs.Answers.{check, admit, join, feed, longest, FedFiles}
+use Rattle.meaning.specs.Answers.{check, admit, join, feed, longest, FedFiles, admitted, fed}
 
 pub data Question : Type 0 where
   checking : (input nodes : List ℕ) → Question
@@ -158,3 +158,39 @@ opening-cues =
 pub opening-cases : map (λ (row : Question × Answer). answered (row .0)) opening-cues ≡ map (λ (row : Question × Answer). row .1) opening-cues
 unfolding node-definitions feed
 opening-cases = refl
+
+-- The counts that a call tells behind its number: of Admit what arrived, of Feed what arrived and what was sent.
+abbrev pub counted : Question → List ℕ
+counted (checking input nodes) = []
+counted (admitting type slice) = let a = admitted (admit (a-section type) (a-section slice)) in a .number ∷ a .arrived ∷ []
+counted (joining type first second) = []
+counted (feeding input nodes slice) = let f = fed (feed (two-sections input nodes) (a-section slice)) in f .number ∷ f .arrived ∷ f .sent ∷ []
+counted (measuring type) = []
+
+abbrev pub arrivals-told : List (Question × List ℕ)
+arrivals-told =
+    -- a level counts once, whatever its value: its two bytes are no kinds
+    (admitting (2 ∷ []) (4 ∷ 2 ∷ 4 ∷ []), 0 ∷ 1 ∷ [])
+    ∷ (admitting (2 ∷ []) (4 ∷ 0 ∷ 0 ∷ []), 0 ∷ 1 ∷ [])
+    ∷ (admitting (2 ∷ []) (3 ∷ []), 0 ∷ 0 ∷ [])
+    -- a crossing and a choice count nothing; what came before the crossing counts with what came behind it
+    ∷ (admitting (3 ∷ 0 ∷ 1 ∷ []) (6 ∷ 0 ∷ 1 ∷ []), 0 ∷ 0 ∷ [])
+    ∷ (admitting (5 ∷ 1 ∷ 1 ∷ []) (9 ∷ 1 ∷ []), 0 ∷ 0 ∷ [])
+    ∷ (admitting (3 ∷ 1 ∷ 4 ∷ 1 ∷ 2 ∷ []) (6 ∷ 2 ∷ 7 ∷ 2 ∷ 4 ∷ 4 ∷ 2 ∷ []), 0 ∷ 3 ∷ [])
+    -- the most: every leaf of a type of 255 nodes
+    ∷ (admitting (copies 127 (4 ∷ 1 ∷ []) (1 ∷ [])) (copies 127 (7 ∷ 2 ∷ []) (2 ∷ [])), 0 ∷ 128 ∷ [])
+    -- refused: nothing
+    ∷ (admitting (3 ∷ 1 ∷ 1 ∷ []) (6 ∷ 2 ∷ 2 ∷ 2 ∷ []), 13 ∷ 0 ∷ [])
+    ∷ (feeding (4 ∷ 1 ∷ 1 ∷ []) (0 ∷ []) (7 ∷ 2 ∷ []), 11 ∷ 0 ∷ 0 ∷ [])
+    -- what is sent is counted in the output: both and spread send an arrival twice, left may send none
+    ∷ (feeding (1 ∷ []) (4 ∷ 0 ∷ 0 ∷ []) (2 ∷ []), 0 ∷ 1 ∷ 2 ∷ [])
+    ∷ (feeding (3 ∷ 1 ∷ 4 ∷ 1 ∷ 1 ∷ []) (13 ∷ []) (6 ∷ 2 ∷ 7 ∷ 2 ∷ 1 ∷ []), 0 ∷ 2 ∷ 3 ∷ [])
+    ∷ (feeding (4 ∷ 1 ∷ 1 ∷ []) (5 ∷ []) (7 ∷ 1 ∷ 2 ∷ []), 0 ∷ 1 ∷ 0 ∷ [])
+    -- a node's own cue is sent, and did not arrive; between the nodes of a chain nothing is sent
+    ∷ (feeding (1 ∷ []) (10 ∷ 14 ∷ 9 ∷ 2 ∷ 0 ∷ []) (1 ∷ []), 0 ∷ 0 ∷ 1 ∷ [])
+    ∷ (feeding (1 ∷ []) (10 ∷ 4 ∷ 0 ∷ 0 ∷ 5 ∷ []) (2 ∷ []), 0 ∷ 1 ∷ 1 ∷ [])
+    ∷ []
+
+pub arrivals-cases : map (λ (row : Question × List ℕ). counted (row .0)) arrivals-told ≡ map (λ (row : Question × List ℕ). row .1) arrivals-told
+unfolding node-definitions admit feed admitted fed
+arrivals-cases = refl

@@ -1,14 +1,14 @@
 -- What else follows from the promises, call by call: what Check, Left, Join and Longest write and what Admit says, which numbers each
--- operation gives and when 20 comes, how long an answer is, that bytes stay bytes, that a promise leaves no choice, that a patch which
--- waits stays, that no slice of a run is longer than Longest says, and that neither the cut of a stream nor the order of two lanes changes
--- the show.
+-- operation gives and when 20 comes, how long an answer is and how much is counted, that bytes stay bytes, that a promise leaves no
+-- choice, that a patch which waits stays, that no slice of a run is longer than Longest says, and that neither the cut of a stream nor the
+-- order of two lanes changes the show.
 use mathlib.Core.Path.{_≡_, refl, sym, _∙_}
 use mathlib.Core.Bool.{true}
 use mathlib.Core.Logic.{_↔_, Iff·trans, _⊎_}
 use mathlib.Core.List.{List, _∷_}
 use Prim.Native.Nat.{ℕ, _≤_}
 use lib.ListN.{length}
-use Rattle.stream.specs.Bounds.{type-file-limit, slice-file-limit, patch-file-limit}
+use Rattle.stream.specs.Bounds.{type-file-limit, slice-file-limit, patch-file-limit, arrivals-limit}
 use Rattle.stream.specs.Faults.{type-numbers, patch-numbers, contains}
 use Rattle.stream.specs.Types.{Ty, par, Small}
 use Rattle.stream.specs.Prefixes.{Prefix, cue-awaited, level-awaited, beside, IsPrefix, Complete, empty-prefix, Opens, arrivals, derivative, Concat}
@@ -28,9 +28,9 @@ use Rattle.meaning.specs.Answers.{check, left, join, feed, longest, files-of, f
 use Rattle.meaning.specs.Answers.Laws.{lanes-join, check-accepted, left-accepted, join-accepted, feed-accepted-of-bytes, longest-accepted, longest-of, check-answers, admit-answers, left-answers, joins, check-refuses, admit-refuses, left-refuses, join-refuses, feed-refuses, longest-refuses, check-sized, left-sized, join-sized, feed-sized-of-bytes, longest-sized}
 use Rattle.meaning.specs.Promises.{CheckPromise, AdmitPromise, LeftPromise, JoinPromise, FeedPromise, LongestPromise}
 use Rattle.demands.specs.Calls.{Wrote, WroteBoth, TooShortFor}
-use Rattle.demands.specs.Calls.Laws.{writes-aside, feeds-aside, writes-exactly, admits-complete, writes-listed, admits-listed, feeds-listed, writes-twenty, feeds-twenty, writes-bounded, feeds-bounded, writes-never-twenty, feeds-never-twenty, writes-bytes, feeds-bytes, writes-alike, admits-alike, feeds-alike, one-type}
+use Rattle.demands.specs.Calls.Laws.{writes-aside, feeds-aside, writes-exactly, admits-complete, admits-few, admits-refused, feeds-refused, writes-listed, admits-listed, feeds-listed, writes-twenty, feeds-twenty, writes-bounded, feeds-bounded, writes-never-twenty, feeds-never-twenty, writes-bytes, feeds-bytes, writes-alike, admits-alike, feeds-alike, one-type}
 use Rattle.demands.specs.Runs.{Call, ByteSlices, RunEnd, Ran, Joined, AsOne, NoneLonger}
-use Rattle.demands.specs.Runs.Laws.{stays-on-file, run-patch, runs-alike, runs-agree, one-joined, one-patch, one-prefix, run-slices-fit, run-outputs-fit}
+use Rattle.demands.specs.Runs.Laws.{stays-on-file, feeds-few, run-patch, runs-alike, runs-agree, one-joined, one-patch, one-prefix, run-slices-fit, run-outputs-fit}
 use Rattle.demands.specs.Runs.Files.{OnFiles, on-files}
 use Rattle.demands.specs.Demands.{demand-2-slice, demand-2-sends}
 
@@ -75,6 +75,13 @@ check-writes call patch h = writes-exactly call (rw (patch .bytes) at (check-ans
 module _ (type slice : List ℕ) {answer : Admitted} (call : AdmitPromise type slice answer) where
   pub listed-admit : contains (0 ∷ admit-numbers) (answer .number) ≡ true
   listed-admit = admits-listed call (admit-refuses type slice)
+
+  -- No slice has more than 128 arrivals, and a refused one has none.
+  pub bound-admit : Bytes type → Bytes slice → answer .arrived ≤ arrivals-limit
+  bound-admit b c = admits-few type slice call b c
+
+  pub refused-admit : (answer .number ≡ 0 → ⊥) → answer .arrived ≡ 0
+  refused-admit refused = admits-refused call refused
 
   pub one-answer-admit : {also : Admitted} → AdmitPromise type slice also → answer ≡ also
   one-answer-admit other = admits-alike call other
@@ -162,6 +169,12 @@ module _ {patch slice output-lent patch-lent output-after patch-after : List ℕ
 
   pub bound-feed : Bytes patch → Bytes slice → (answer .output ≤ slice-file-limit) × (answer .patch ≤ patch-file-limit)
   bound-feed b c = feeds-bounded call (feed-sized-of-bytes patch slice b c)
+
+  pub bound-counts-feed : Bytes patch → Bytes slice → (answer .arrived ≤ arrivals-limit) × (answer .sent ≤ arrivals-limit)
+  bound-counts-feed b c = feeds-few call b c
+
+  pub refused-feed : (answer .number ≡ 0 → ⊥) → (answer .arrived ≡ 0) × (answer .sent ≡ 0)
+  refused-feed refused = feeds-refused call refused
 
   pub never-twenty-feed : Bytes patch → Bytes slice → slice-file-limit ≤ length output-lent → patch-file-limit ≤ length patch-lent
       → answer .number ≡ 20 → ⊥

@@ -3,12 +3,12 @@
 -- the bytes handed in, the answer, and each lent buffer as it is afterwards. The prover shows the promise of every call, so nobody
 -- has to read it. What a reader has to believe is what the conclusions are written in: reading with the first fault (TypeFiles,
 -- SliceFiles, PatchFiles, Checking), the rules (IsPrefix and Concat in Prefixes, Takes and Allowed in Nodes, Feeds in Feeding), the
--- longest slice of a type (Longest), and what is said of calls and runs (Calls, Runs). `Bytes` says that a list of numbers is one of
+-- longest slice of a type (Longest), the arrivals of a slice (Prefixes), and what is said of calls and runs (Calls, Runs). `Bytes` says that a list of numbers is one of
 -- bytes, as whatever a byte slice holds is; nobody has to test it. `Consequences` has what else follows; the laws have the proofs.
 use mathlib.Core.Path.{_≡_}
 use mathlib.Core.Logic.{_↔_, Iff·trans}
 use mathlib.Core.List.{List, [], _∷_, _++_}
-use Prim.Native.Nat.{ℕ, _≤_}
+use Prim.Native.Nat.{ℕ, _+_, _≤_}
 use lib.ListN.{length, take}
 use Rattle.stream.specs.Bounds.{type-file-limit, slice-file-limit, patch-file-limit}
 use Rattle.stream.specs.Prefixes.{Prefix, arrivals, derivative}
@@ -26,7 +26,7 @@ use Rattle.meaning.specs.Answers.{files-of}
 use Rattle.meaning.specs.Answers.Laws.{check-accepted, admit-accepted, left-accepted, join-accepted, feed-accepted, feed-accepted-of-bytes, longest-accepted, check-sized, left-sized, join-sized, longest-sized, feed-sized, feed-sized-of-bytes}
 use Rattle.meaning.specs.Promises.{CheckPromise, AdmitPromise, LeftPromise, JoinPromise, FeedPromise, LongestPromise}
 use Rattle.demands.specs.Calls.{type-and-slice, two-slices, patch-and-slice, DueFromCheck, DueFromAdmit, DueFromLeft, DueFromJoin, DueFromFeed, DueFromLongest, Decided, WroteBoth}
-use Rattle.demands.specs.Calls.Laws.{check-decided, admit-decided, left-decided, join-decided, feed-decided, longest-decided, check-kept, admit-kept, left-kept, join-kept, feed-kept, longest-kept, writes-zero, admits-zero, feeds-zero, feeds-as-check, none-admitted-longer, longest-admits}
+use Rattle.demands.specs.Calls.Laws.{check-decided, admit-decided, left-decided, join-decided, feed-decided, longest-decided, check-kept, admit-kept, left-kept, join-kept, feed-kept, longest-kept, writes-zero, admits-zero, admits-counts, feeds-zero, feeds-as-check, none-admitted-longer, longest-admits, admits-file, join-counts}
 use Rattle.demands.specs.Runs.{Call, ByteSlices, RunEnd, Ran, Faithful, Through}
 use Rattle.demands.specs.Runs.Laws.{feed-by-rules, feed-defined, run-faithful, run-faithful-so-far, every-list-runs}
 
@@ -172,3 +172,22 @@ pub longest-admitted : (type : List ℕ) {lent lent-after : List ℕ} {answer : 
     → AdmitPromise type (take (answer .written) lent-after) seen
     → (t : TypeFile type) × (seen ≡ record { number = 0; complete = 1; arrived = arrivals (longest-prefix (t .type)) })
 longest-admitted type call zero b admits = longest-admits type call zero b admits
+
+-- Document 02, M-104. "Reading a slice now also counts the cues and levels come in it; Admit and Feed give this, and Feed the number
+-- sent. (Admit, here; Feed in `files-of`, by demand-2-sends. What a run counts is the sum of what its accepted feeds tell, and the
+-- joined slice fed as one tells exactly that: `fed-as-one`, by demand-3.)
+
+pub admit-counts : (type slice : List ℕ) {answer : Admitted} → AdmitPromise type slice answer → (t : TypeFile type) (p : SliceFile (t .type) slice)
+    → answer .arrived ≡ arrivals (p .prefix)
+admit-counts type slice call t p = admits-counts call (admits-file t p)
+
+-- Joining two slices adds their counts." (Admit accepts the file that Join wrote, and tells the sum of what it tells of the two slices, of
+-- the second for the type that Left wrote.)
+
+pub joining-adds : (type first second : List ℕ) {lent lent-after left-lent left-after : List ℕ} {joined left : Written} {one next both : Admitted}
+    → JoinPromise type first second lent joined lent-after → joined .number ≡ 0
+    → LeftPromise type first left-lent left left-after → left .number ≡ 0
+    → AdmitPromise type first one → AdmitPromise (take (left .written) left-after) second next
+    → AdmitPromise type (take (joined .written) lent-after) both → Bytes type → Bytes first → Bytes second
+    → (both .number ≡ 0) × (both .arrived ≡ one .arrived + next .arrived)
+joining-adds type first second join zero left left-zero one next both b c d = join-counts type first second join zero left left-zero one next both b c d

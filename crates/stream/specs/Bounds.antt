@@ -1,5 +1,5 @@
--- How long a file can get, and the trees in it (document 01, Bounds; the mission). That none is longer is proved where the bytes
--- are defined: type-file-length, slice-length, slice-file-length, node-length, nodes-length and patch-file-length.
+-- How long a file can get, and the trees in it, and how much comes in a slice (document 01, Bounds; the mission). That none is longer is proved where the bytes
+-- are defined: type-file-length, slice-length, slice-file-length, few-arrivals, node-length, nodes-length and patch-file-length.
 use Prim.Native.Nat.{ℕ, _+_, _*_}
 
 -- A type file: the count, and a byte for each of 255 nodes.
@@ -12,6 +12,10 @@ slice-limit = 511
 
 abbrev pub slice-file-limit : ℕ
 slice-file-limit = 513
+
+-- The cues and levels that came in a slice: the leaves of 255 nodes.
+abbrev pub arrivals-limit : ℕ
+arrivals-limit = 128
 
 -- Twice the most bytes that c nodes have: at most (c + 1) / 2 of them have no parts, and each of these may carry a type of 255
 -- nodes.

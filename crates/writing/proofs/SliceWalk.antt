@@ -23,13 +23,13 @@ use Rattle.stream.specs.Levels.{value-width}
 use Rattle.stream.specs.Levels.Laws.{value-there, value-missing}
 use Rattle.stream.specs.Prefixes.{Prefix, nothing, cue-awaited, cue-come, level-awaited, level-come, in-first, crossed, beside, none-chosen, arrivals, derivative}
 use Rattle.stream.specs.Prefixes.Functions.{complete}
-use Rattle.stream.specs.Prefixes.Laws.{derivative-size, arrivals-few}
+use Rattle.stream.specs.Prefixes.Laws.{derivative-size}
 use Rattle.stream.specs.Prefixes.Kinds.{prefix-arities, prefix-arity, root-width, root-arrivals}
 use Rattle.stream.specs.Reading.{Bytes, Reading, read, fault, read-on, Root, leaf}
 use Rattle.stream.specs.Reading.Laws.{bytes-drop, _&_, past, every}
 use Rattle.stream.specs.Reading.Numbers.{long-or-short}
 use Rattle.stream.specs.SliceFiles.{Owed, owed, belongs, prefix-root, prefix-bytes}
-use Rattle.stream.specs.SliceFiles.Laws.{nodes, nodes-within}
+use Rattle.stream.specs.SliceFiles.Laws.{nodes, nodes-within, arrivals-few}
 use Rattle.reading.specs.TypeReads.{TypeAt, TypeEnds}
 use Rattle.reading.specs.TypeReads.Laws.{kind-at, first-at, second-at, same-type}
 use Rattle.reading.specs.SliceReads.{overlap, prefix-width, known, types-by-kind, type-kind-of, is-unfinished, belongs-at, first-complete, stood-on, leaf-walked, WalksLeaf, first-known, crossed-known, both-known, combined, SumsFit, read-owed, walked, Walks}
@@ -232,7 +232,7 @@ module _ {types : List ℕ} {at : ℕ} {t : Ty} (stands : TypeAt types at t) (sl
               knows = k;
               few = nodes-within (f .is .is);
               remains-within = rw k (derivative-size (f .is .is));
-              arrived-within = rw k (omega (arith, arrivals-few (f .is .is), size-positive t));
+              arrived-within = rw k (omega (arith, arrivals-few p, nodes-within (f .is .is), size-positive t));
               overlap-within = rw k (overlap-size (f .is .is));
             }
 

@@ -4,36 +4,36 @@ use mathlib.Core.Path.{_≡_, refl, sym, ap, ap₂, _∙_}
 use mathlib.Core.Logic.{_↔_, Iff·trans, _⊎_, inl, inr, ⊎-elim}
 use mathlib.Core.Bool.{Bool, true, false, true≢false, or-true}
 use mathlib.Core.List.{List, [], _∷_}
-use Prim.Native.Nat.{ℕ, _≤_}
+use Prim.Native.Nat.{ℕ, _+_, _≤_}
 use native.Mathlib.Omega.{arith}
 use native.Mathlib.Nat.{le-trans}
 use lib.Dec.{eqb, leb}
 use lib.ListN.{length, take, drop}
 use lib.Seq.{take-append-seam}
-use borrow.Author.Tests.{le-leb, leb-false, leb-true}
+use borrow.Author.Tests.{le-leb, leb-false, leb-true, eqb-true, eqb-false}
 use Rattle.stream.specs.declared.Fault.{Fault}
 use Rattle.stream.specs.declared.Fault.the-variants.{NoRoom}
 use Rattle.stream.specs.Faults.{number, contains, Listed}
 use Rattle.stream.specs.Prefixes.{Prefix, Complete, IsPrefix, arrivals, derivative}
 use Rattle.stream.specs.Prefixes.Functions.{complete, concat}
-use Rattle.stream.specs.Prefixes.Laws.{complete-sound, complete-complete, concat-only}
+use Rattle.stream.specs.Prefixes.Laws.{complete-sound, complete-complete, concats, concat-only, concat-is-prefix, derivative-size, arrivals-concat}
 use Rattle.stream.specs.Reading.{Bytes, Result, accepted, refused, IsAccepted, require, go-on}
 use Rattle.stream.specs.Reading.Laws.{bytes-append, bytes-drop, go-on-accepted}
 use Rattle.stream.specs.Reading.Refusals.{Refusals, refusals-too}
 use Rattle.meaning.specs.declared.Written.{Written}
 use Rattle.meaning.specs.declared.Admitted.{Admitted}
 use Rattle.meaning.specs.declared.Fed.{Fed}
-use Rattle.stream.specs.Bounds.{slice-file-limit, patch-file-limit}
+use Rattle.stream.specs.Bounds.{slice-file-limit, patch-file-limit, arrivals-limit}
 use Rattle.meaning.specs.Answers.{with-room, number-of, value-of, as-number, after, fits-one, fits-both, written, admitted, fed, FedFiles, check, left, join, feed, admit, longest, files-of, fed-files, into-both}
-use Rattle.meaning.specs.Answers.Laws.{number-positive, enough-room, room-accepted, room-refusals, both-fit, check-refused-feed, admit-answers, admit-accepted, longest-of, longest-accepted, Refuses, WritesSized, FeedsSized}
+use Rattle.meaning.specs.Answers.Laws.{number-positive, enough-room, room-accepted, room-refusals, both-fit, check-refused-feed, admit-answers, left-answers, joins, admit-accepted, join-accepted, longest-of, longest-accepted, Refuses, WritesSized, FeedsSized}
 use Rattle.meaning.specs.Promises.{Writes, Admits, CheckPromise, AdmitPromise, LeftPromise, JoinPromise, FeedPromise, LongestPromise}
 use Rattle.demands.specs.Calls.{type-and-slice, two-slices, patch-and-slice, DueFromCheck, DueFromAdmit, DueFromLeft, DueFromJoin, DueFromFeed, DueFromLongest, RoomFor, Wrote, WroteBoth, Decided, is-accepted, is-refused, is-short, TooShortFor, Ty}
 use Rattle.stream.specs.TypeFiles.{type-file, type-file-bytes, TypeFile}
 use Rattle.stream.specs.TypeFiles.Laws.{type-file-complete}
 use Rattle.stream.specs.Longest.{longest-prefix}
 use Rattle.stream.specs.Longest.Laws.{longest-prefix-is-prefix, longest-prefix-complete, no-file-longer}
-use Rattle.stream.specs.SliceFiles.{slice-file, slice-file-bytes}
-use Rattle.stream.specs.SliceFiles.Laws.{slice-file-sound}
+use Rattle.stream.specs.SliceFiles.{slice-file, slice-file-bytes, SliceFile}
+use Rattle.stream.specs.SliceFiles.Laws.{slice-file-sound, few-arrivals}
 use Rattle.node.specs.PatchFiles.{patch-file, patch-file-bytes}
 use Rattle.node.specs.Nodes.{Patch}
 use Rattle.node.specs.Feeding.{FeedsPatch}
@@ -465,6 +465,48 @@ pub one-type : {file : List ℕ} (a b : TypeFile file) → a .type ≡ b .type
 one-type {file} a b =
     let x : type-file file ≡ accepted (a .type) = rw (a .bytes) at (type-file-complete (a .type) (a .small)) in
     let y : type-file file ≡ accepted (b .type) = rw (b .bytes) at (type-file-complete (b .type) (b .small)) in cc
+
+-- What Admit says of a slice file, and of the file that Join writes of two.
+
+pub admits-file : {type slice : List ℕ} (t : TypeFile type) (p : SliceFile (t .type) slice) → admit type slice ≡ accepted (p .prefix)
+admits-file t p = rw (t .bytes, p .bytes) at (admit-answers (t .small) (p .is-prefix))
+
+pub admits-few : (type slice : List ℕ) {answer : Admitted} → AdmitPromise type slice answer → Bytes type → Bytes slice → answer .arrived ≤ arrivals-limit
+admits-few type slice {answer} call b c = go (eqb (answer .number) 0) refl
+  where
+    go : (z : Bool) → eqb (answer .number) 0 ≡ z → answer .arrived ≤ arrivals-limit
+    go true e =
+        let both = admit-accepted type slice b c .0 (admits-zero call .0 (eqb-true _ _ e)) in
+        rw (admits-counts call (admits-file (both .0) (both .1))) (few-arrivals (both .1 .is-prefix) (both .0 .small))
+    go false e = rw (admits-refused call (eqb-false _ _ e)) (omega arith)
+
+module _ (type first second : List ℕ) {lent lent-after left-lent left-after : List ℕ} {joined left-answer : Written} {one next both : Admitted} where
+  pub join-counts : JoinPromise type first second lent joined lent-after → joined .number ≡ 0
+      → LeftPromise type first left-lent left-answer left-after → left-answer .number ≡ 0
+      → AdmitPromise type first one → AdmitPromise (take (left-answer .written) left-after) second next
+      → AdmitPromise type (take (joined .written) lent-after) both → Bytes type → Bytes first → Bytes second
+      → (both .number ≡ 0) × (both .arrived ≡ one .arrived + next .arrived)
+  join-counts joins-call zero left-call left-zero first-admits second-admits both-admits b c d =
+      let wrote = writes-accepted joins-call zero in
+      let remained = writes-accepted left-call left-zero in
+      let files = join-accepted type first second b c d .0 (wrote .file, wrote .due) in
+      let t = files .0 in
+      let p = files .1 in
+      let q = files .2 in
+      let rest = derivative (t .type) (p .prefix) in
+      let whole = concat (p .prefix) (q .prefix) in
+      let is-prefix = concat-is-prefix (q .prefix) (p .is-prefix) (q .is-prefix) in
+      let small = le-trans (derivative-size (p .is-prefix)) (t .small) in
+      let joined-is : take (joined .written) lent-after ≡ slice-file-bytes whole
+      = wrote .in-front ∙ (let e = wrote .due in let f = joins t p q (concats (q .prefix) (p .is-prefix) (q .is-prefix)) in cc) in
+      let left-is : take (left-answer .written) left-after ≡ type-file-bytes rest
+      = remained .in-front ∙ (let e = remained .due in let f = rw (t .bytes, p .bytes) at (left-answers (t .small) (p .is-prefix)) in cc) in
+      let rest-file : TypeFile (take (left-answer .written) left-after) = record { type = rest; small = small; bytes = sym left-is } in
+      let whole-file : SliceFile (t .type) (take (joined .written) lent-after) = record { prefix = whole; is-prefix = is-prefix; bytes = sym joined-is } in (
+        admits-zero both-admits .1 (whole, admits-file t whole-file),
+        admits-counts both-admits (admits-file t whole-file) ∙ arrivals-concat (q .prefix) (p .is-prefix) (q .is-prefix)
+            ∙ ap₂ _+_ (sym (admits-counts first-admits (admits-file t p))) (sym (admits-counts second-admits (admits-file rest-file q))),
+      )
 
 -- What Longest writes, beside what Admit says of slices of the same type.
 

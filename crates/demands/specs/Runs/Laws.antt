@@ -8,13 +8,14 @@ use lib.Dec.{eqb}
 use lib.ListN.{length, take, drop, length-append}
 use lib.Seq.{take-append-seam}
 use borrow.Author.Tests.{eqb-true, eqb-false}
+use Rattle.stream.specs.Bounds.{arrivals-limit}
 use Rattle.stream.specs.Types.{Ty, Small}
 use Rattle.stream.specs.Prefixes.{Prefix, IsPrefix, Opens, arrivals, derivative}
 use Rattle.stream.specs.Prefixes.Laws.{closed-derivative, closed-arrivals, concat-is-prefix, derivative-concat, concats, concat-only, derivative-size}
 use Rattle.stream.specs.Reading.{Bytes, accepted}
 use Rattle.stream.specs.Reading.Laws.{go-on-accepted}
 use Rattle.stream.specs.SliceFiles.{slice-file, slice-file-bytes, SliceFile}
-use Rattle.stream.specs.SliceFiles.Laws.{prefix-short, slice-file-sound, slice-file-complete}
+use Rattle.stream.specs.SliceFiles.Laws.{prefix-short, few-arrivals, slice-file-sound, slice-file-complete}
 use Rattle.node.specs.Nodes.{Node, Allowed, patch-of, Patch}
 use Rattle.node.specs.Feeding.{Feeds, FeedsPatch}
 use Rattle.node.specs.Feeding.Functions.{sends, leaves, patch-left}
@@ -25,10 +26,10 @@ use Rattle.stream.specs.Buffers.{at-front}
 use Rattle.meaning.specs.declared.Written.{Written}
 use Rattle.meaning.specs.declared.Fed.{Fed}
 use Rattle.meaning.specs.Answers.{left, FedFiles, feed, files-of, fed-files}
-use Rattle.meaning.specs.Answers.Laws.{feed-of-patch, feed-answers, longest-answers}
+use Rattle.meaning.specs.Answers.Laws.{feed-of-patch, feed-answers, fed-patch, longest-answers}
 use Rattle.meaning.specs.Promises.{FeedPromise, LongestPromise}
 use Rattle.demands.specs.Calls.{WroteBoth}
-use Rattle.demands.specs.Calls.Laws.{writes-accepted, feeds-exactly, feeds-accepted, feed-kept, feeds-alike, left-only}
+use Rattle.demands.specs.Calls.Laws.{writes-accepted, feeds-exactly, feeds-accepted, feeds-refused, feed-kept, feeds-alike, left-only}
 use Rattle.demands.specs.Runs.{Call, ByteSlices, RunEnd, Ran, no-call, accepted-call, refused-call, Joined, alone, and-next, AsOne, Faithful, Through, NoneLonger}
 use Rattle.stream.specs.Prefixes.Functions.{concat}
 use Rattle.node.specs.Nodes.Laws.{output-small, allowed-fits}
@@ -175,6 +176,24 @@ stays-on-file call patch taken closed rule i j =
     let fed : FeedsPatch (patch .trees) (taken .prefix) _ (patch .trees) =
     record { by-node = rule; input-left = sym (closed-derivative (taken .is-prefix) closed) } in
     rw (patch .bytes, closed-arrivals (taken .is-prefix) closed) at (feed-by-rules call patch taken fed i (rw (patch .bytes) j))
+
+-- No more is counted than the leaves of a type, of what arrived and of what was sent.
+pub feeds-few : {file slice output-lent patch-lent output-after patch-after : List ℕ} {answer : Fed}
+    → FeedPromise file slice output-lent patch-lent answer output-after patch-after → Bytes file → Bytes slice
+    → (answer .arrived ≤ arrivals-limit) × (answer .sent ≤ arrivals-limit)
+feeds-few {file} {slice} {answer = answer} call b c = go (eqb (answer .number) 0) refl
+  where
+    go : (z : Bool) → eqb (answer .number) 0 ≡ z → (answer .arrived ≤ arrivals-limit) × (answer .sent ≤ arrivals-limit)
+    go true e =
+        let accepted-call = feeds-accepted call (eqb-true _ _ e) in
+        let patch = fed-patch file slice (accepted-call .files) b (accepted-call .due) in
+        let allowed = patch .allowed in
+        let p = a-piece allowed c (ap (λ f. feed f slice) (patch .bytes) ∙ accepted-call .due) in (
+          rw (accepted-call .arrived, ← ap (λ (w : FedFiles). w .arrived) (p .files)) (few-arrivals (p .is-prefix) (allowed .input-small)),
+          rw (accepted-call .sent, ← ap (λ (w : FedFiles). w .sent) (p .files))
+              (few-arrivals (preserved (allowed .types) (p .is-prefix) .sent) (output-small (allowed .types) (allowed-fits allowed))),
+        )
+    go false e = let none = feeds-refused call (eqb-false _ _ e) in (rw (none .0) (omega arith), rw (none .1) (omega arith))
 
 -- The rules define what is sent and left, of every prefix.
 pub feed-defined : {file slice : List ℕ} (patch : PatchFile file) (taken : SliceFile (patch .trees .input) slice)

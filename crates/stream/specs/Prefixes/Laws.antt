@@ -2,7 +2,7 @@
 use mathlib.Core.Path.{_≡_, refl, sym, ap, ap₂, _∙_}
 use mathlib.Core.Bool.{Bool, true, false, _||_, not, true≢false, false≢true}
 use mathlib.Core.Logic.{_↔_}
-use Prim.Native.Nat.{_+_, _*_, _≤_}
+use Prim.Native.Nat.{_+_, _≤_}
 use native.Mathlib.Omega.{arith}
 use Rattle.stream.specs.Types.{Ty, empty, cue, level, seq, par, either, Nullable, null-empty, null-par, size}
 use Rattle.stream.specs.Types.Laws.{and-left, and-right, and-both}
@@ -389,21 +389,6 @@ arrivals-empty (either s t) = refl
 -- So nothing comes while a node waits.
 pub closed-arrivals : {t : Ty} {p : Prefix} → IsPrefix t p → (Opens t p → ⊥) → arrivals p ≡ 0
 closed-arrivals {t} h k = rw (closed-empty h (closed-test h .1 k)) (arrivals-empty t)
-
--- No more come than the type has leaves: of n nodes, (n + 1) / 2.
-pub arrivals-few : {t : Ty} {p : Prefix} → IsPrefix t p → 2 * arrivals p ≤ size t + 1
-unfolding arrivals size
-arrivals-few of-empty = omega arith
-arrivals-few of-cue-awaited = omega arith
-arrivals-few of-cue-come = omega arith
-arrivals-few of-level-awaited = omega arith
-arrivals-few (of-level-come h) = omega arith
-arrivals-few (of-first h) = omega (arith, arrivals-few h)
-arrivals-few (of-crossed h c k) = omega (arith, arrivals-few h, arrivals-few k)
-arrivals-few (of-beside h k) = omega (arith, arrivals-few h, arrivals-few k)
-arrivals-few of-none-chosen = omega arith
-arrivals-few (of-first-chosen h) = omega (arith, arrivals-few h)
-arrivals-few (of-second-chosen h) = omega (arith, arrivals-few h)
 
 -- Two lanes side by side: which of them comes first does not matter (the source's Theorem 3.4).
 

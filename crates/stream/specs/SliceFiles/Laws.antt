@@ -12,10 +12,10 @@ use Rattle.stream.specs.declared.Fault.the-variants.{SliceCutShort, Slic
 use Rattle.stream.specs.Types.{Ty, size, type-limit, first-part, second-part, has-kind, Small}
 use Rattle.stream.specs.Types.Laws.{and-left, and-right, made-of, parts-size, size-positive}
 use Rattle.stream.specs.Levels.{level-limit, value-bytes, read-value, value-width}
-use Rattle.stream.specs.Bounds.{slice-limit, slice-file-limit}
+use Rattle.stream.specs.Bounds.{slice-limit, slice-file-limit, arrivals-limit}
 use Rattle.stream.specs.Faults.{slice-numbers, Listed}
 use Rattle.stream.specs.Levels.Laws.{value-length, value-append, value-is-bytes, value-reads, value-sound, value-faults}
-use Rattle.stream.specs.Prefixes.{Prefix, nothing, cue-awaited, cue-come, level-awaited, level-come, in-first, crossed, beside, none-chosen, first-chosen, second-chosen, Complete, whole-nothing, whole-cue, whole-level, whole-crossed, whole-beside, whole-first-chosen, whole-second-chosen, IsPrefix, of-empty, of-cue-awaited, of-cue-come, of-level-awaited, of-level-come, of-first, of-crossed, of-beside, of-none-chosen, of-first-chosen, of-second-chosen}
+use Rattle.stream.specs.Prefixes.{Prefix, nothing, cue-awaited, cue-come, level-awaited, level-come, in-first, crossed, beside, none-chosen, first-chosen, second-chosen, Complete, whole-nothing, whole-cue, whole-level, whole-crossed, whole-beside, whole-first-chosen, whole-second-chosen, IsPrefix, of-empty, of-cue-awaited, of-cue-come, of-level-awaited, of-level-come, of-first, of-crossed, of-beside, of-none-chosen, of-first-chosen, of-second-chosen, arrivals}
 use Rattle.stream.specs.Prefixes.Kinds.{tally}
 use Rattle.stream.specs.Prefixes.Laws.{crossed-second, beside-first, beside-second, first-chosen-inside, second-chosen-inside}
 use Rattle.stream.specs.Reading.{Bytes, Reading, read, fault, accepted, IsAccepted, read-on, whole, section-bytes, section, Root, forest, leaf, one-part, two-parts}
@@ -76,6 +76,26 @@ Short p = nodes p ≤ type-limit
 
 pub prefix-short : {t : Ty} {p : Prefix} → IsPrefix t p → Small t → Short p
 prefix-short h w = omega (arith, nodes-within h)
+
+-- Arrivals are leaves, of which n nodes have at most (n + 1) / 2; so 128 at the most.
+
+pub arrivals-few : (p : Prefix) → 2 * arrivals p ≤ nodes p + 1
+unfolding arrivals nodes
+arrivals-few nothing = omega arith
+arrivals-few cue-awaited = omega arith
+arrivals-few cue-come = omega arith
+arrivals-few level-awaited = omega arith
+arrivals-few (level-come v) = omega arith
+arrivals-few (in-first p) = omega (arith, arrivals-few p)
+arrivals-few (crossed b q) = omega (arith, arrivals-few b, arrivals-few q)
+arrivals-few (beside p q) = omega (arith, arrivals-few p, arrivals-few q)
+arrivals-few none-chosen = omega arith
+arrivals-few (first-chosen p) = omega (arith, arrivals-few p)
+arrivals-few (second-chosen p) = omega (arith, arrivals-few p)
+
+pub few-arrivals : {t : Ty} {p : Prefix} → IsPrefix t p → Small t → arrivals p ≤ arrivals-limit
+unfolding type-limit
+few-arrivals {p = p} h w = omega (arith, arrivals-few p, prefix-short h w)
 
 -- What is behind a prefix is not looked at.
 
