@@ -7,7 +7,7 @@ use mathlib.Core.Bool.{true}
 use mathlib.Core.Logic.{_↔_, Iff·trans, _⊎_}
 use mathlib.Core.List.{List, _∷_}
 use Prim.Native.Nat.{ℕ, _≤_}
-use lib.ListN.{length}
+use lib.ListN.{length, take}
 use Rattle.stream.specs.Bounds.{type-file-limit, slice-file-limit, patch-file-limit, arrivals-limit}
 use Rattle.stream.specs.Faults.{type-numbers, patch-numbers, contains}
 use Rattle.stream.specs.Types.{Ty, par, Small}
@@ -30,7 +30,7 @@ use Rattle.meaning.specs.Promises.{CheckPromise, AdmitPromise, LeftPromise, Joi
 use Rattle.demands.specs.Calls.{Wrote, WroteBoth, TooShortFor}
 use Rattle.demands.specs.Calls.Laws.{writes-aside, feeds-aside, writes-exactly, admits-complete, admits-few, admits-refused, feeds-refused, writes-listed, admits-listed, feeds-listed, writes-twenty, feeds-twenty, writes-bounded, feeds-bounded, writes-never-twenty, feeds-never-twenty, writes-bytes, feeds-bytes, writes-alike, admits-alike, feeds-alike, one-type}
 use Rattle.demands.specs.Runs.{Call, ByteSlices, RunEnd, Ran, Joined, AsOne, NoneLonger}
-use Rattle.demands.specs.Runs.Laws.{stays-on-file, feeds-few, run-patch, runs-alike, runs-agree, one-joined, one-patch, one-prefix, run-slices-fit, run-outputs-fit}
+use Rattle.demands.specs.Runs.Laws.{stays-on-file, feeds-few, counts-as-admit, run-patch, runs-alike, runs-agree, one-joined, one-patch, one-prefix, run-slices-fit, run-outputs-fit}
 use Rattle.demands.specs.Runs.Files.{OnFiles, on-files}
 use Rattle.demands.specs.Demands.{demand-2-slice, demand-2-sends}
 
@@ -235,6 +235,15 @@ module _ {start : List ℕ} {calls : List Call} {r : RunEnd} (ran : Ran start ca
       → length (slice-file-bytes sent) ≤ length output-lent → length (patch-file-bytes next) ≤ length patch-lent
       → WroteBoth (files-of (taken .prefix) sent next) output-lent patch-lent answer output-after patch-after
   run-sends taken rule h k = demand-2-sends call (run-accepted ran patch b) taken rule h k
+
+-- Document 02, M-104: Feed counts as Admit does, what arrived in the slice that it is fed and what it sends in its output. (The input type
+-- file is the first section of the patch; Check writes the output type file.)
+pub feed-counts : {file slice output-lent patch-lent output-after patch-after : List ℕ} {answer : Fed} {taken sent : Admitted}
+    → FeedPromise file slice output-lent patch-lent answer output-after patch-after → answer .number ≡ 0 → (patch : PatchFile file) → Bytes slice
+    → AdmitPromise (type-file-bytes (patch .trees .input)) slice taken
+    → AdmitPromise (type-file-bytes (patch .output)) (take (answer .output) output-after) sent
+    → (answer .arrived ≡ taken .arrived) × (answer .sent ≡ sent .arrived)
+feed-counts call zero patch c takes sends-on = counts-as-admit call zero patch c takes sends-on
 
 -- Document 02, M-103, of a patch that is a node 2 or 3: until the slice "differs from its type's empty slice or is complete" the node sends
 -- "the empty slice of [its] own type" and stays, so that the patch file is written back, byte for byte; nothing is counted.

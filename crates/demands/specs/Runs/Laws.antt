@@ -24,12 +24,13 @@ use Rattle.node.specs.Feeding.Lists.{Pieces, no-more, piece, concat-all, deriva
 use Rattle.node.specs.PatchFiles.{patch-file-bytes, PatchFile, patch-file, Checked}
 use Rattle.stream.specs.Buffers.{at-front}
 use Rattle.meaning.specs.declared.Written.{Written}
+use Rattle.meaning.specs.declared.Admitted.{Admitted}
 use Rattle.meaning.specs.declared.Fed.{Fed}
 use Rattle.meaning.specs.Answers.{left, FedFiles, feed, files-of, fed-files}
-use Rattle.meaning.specs.Answers.Laws.{feed-of-patch, feed-answers, fed-patch, longest-answers}
-use Rattle.meaning.specs.Promises.{FeedPromise, LongestPromise}
+use Rattle.meaning.specs.Answers.Laws.{admit-answers, feed-of-patch, feed-answers, fed-patch, longest-answers}
+use Rattle.meaning.specs.Promises.{AdmitPromise, FeedPromise, LongestPromise}
 use Rattle.demands.specs.Calls.{WroteBoth}
-use Rattle.demands.specs.Calls.Laws.{writes-accepted, feeds-exactly, feeds-accepted, feeds-refused, feed-kept, feeds-alike, left-only}
+use Rattle.demands.specs.Calls.Laws.{writes-accepted, admits-counts, feeds-exactly, feeds-accepted, feeds-refused, feed-kept, feeds-alike, left-only}
 use Rattle.demands.specs.Runs.{Call, ByteSlices, RunEnd, Ran, no-call, accepted-call, refused-call, Joined, alone, and-next, AsOne, Faithful, Through, NoneLonger}
 use Rattle.stream.specs.Prefixes.Functions.{concat}
 use Rattle.node.specs.Nodes.Laws.{output-small, allowed-fits}
@@ -194,6 +195,24 @@ feeds-few {file} {slice} {answer = answer} call b c = go (eqb (answer .number) 0
               (few-arrivals (preserved (allowed .types) (p .is-prefix) .sent) (output-small (allowed .types) (allowed-fits allowed))),
         )
     go false e = let none = feeds-refused call (eqb-false _ _ e) in (rw (none .0) (omega arith), rw (none .1) (omega arith))
+
+-- Feed counts as Admit does, what arrived in the slice and what was sent in the output.
+pub counts-as-admit : {file slice output-lent patch-lent output-after patch-after : List ℕ} {answer : Fed} {taken sent : Admitted}
+    → FeedPromise file slice output-lent patch-lent answer output-after patch-after → answer .number ≡ 0 → (patch : PatchFile file) → Bytes slice
+    → AdmitPromise (type-file-bytes (patch .trees .input)) slice taken
+    → AdmitPromise (type-file-bytes (patch .output)) (take (answer .output) output-after) sent
+    → (answer .arrived ≡ taken .arrived) × (answer .sent ≡ sent .arrived)
+counts-as-admit {slice = slice} call zero patch c takes sends-on =
+    let fed = feeds-accepted call zero in
+    let allowed = patch .allowed in
+    let p = a-piece allowed c (ap (λ f. feed f slice) (patch .bytes) ∙ fed .due) in
+    let output = ap (λ (w : FedFiles). w .output) (p .files) ∙ sym (fed .output-file) in
+    let small = output-small (allowed .types) (allowed-fits allowed) in (
+      fed .arrived ∙ sym (ap (λ (w : FedFiles). w .arrived) (p .files))
+          ∙ sym (admits-counts takes (rw (p .bytes) at (admit-answers (allowed .input-small) (p .is-prefix)))),
+      fed .sent ∙ sym (ap (λ (w : FedFiles). w .sent) (p .files))
+          ∙ sym (admits-counts sends-on (rw output at (admit-answers small (preserved (allowed .types) (p .is-prefix) .sent)))),
+    )
 
 -- The rules define what is sent and left, of every prefix.
 pub feed-defined : {file slice : List ℕ} (patch : PatchFile file) (taken : SliceFile (patch .trees .input) slice)
