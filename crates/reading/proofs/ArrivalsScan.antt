@@ -10,40 +10,18 @@ use Rattle.stream.specs.Prefixes.Kinds.{prefix-arity, root-width, arrivals-by-k
 use Rattle.stream.specs.Reading.Laws.{_&_, past, every}
 use Rattle.reading.specs.declared.prefixes.PrefixPlace.{PrefixPlace}
 use Rattle.reading.specs.SliceReads.{PrefixIn}
-use Rattle.reading.specs.SliceReads.Laws.{root-positive}
 use Rattle.reading.proofs.PrefixWalk.{Run, starts, within, finished, summed, turned}
 
--- On the way through the prefix p at `start`: `count` arrivals were in the nodes before `next`.
+-- On the way through the prefix p at `start`: `count` arrivals were in the nodes before `next`, each of which has a byte.
 pub record Counting (slice : List ℕ) (start : ℕ) (p : Prefix) (count next : ℕ) : Type 0 where
   pub passed : List ℕ
   pub owed : ℕ
   pub run : Run slice start p passed owed next
   pub counted : count ≡ totals root-arrivals passed
+  pub few : count + start ≤ next
 
 pub none-counted : {slice : List ℕ} {place : PrefixPlace} {p : Prefix} → PrefixIn slice place p → Counting slice (place .start) p 0 (place .start)
-none-counted {p = p} here = record { passed = []; owed = 1; run = starts p (here .stands); counted = refl }
-
--- A node is one arrival at most, and takes a byte at least.
-
-one-at-most : (k : ℕ) → root-arrivals k ≤ 1
-one-at-most =
-    every (λ k n. n ≤ 1) 0 arrivals-by-kind
-    (omega arith
-    & omega arith
-    & omega arith
-    & omega arith
-    & omega arith
-    & omega arith
-    & omega arith
-    & omega arith
-    & omega arith
-    & omega arith
-    & omega arith
-    & past (λ k h. omega arith))
-
-no-more-than-bytes : (ks : List ℕ) → totals root-arrivals ks ≤ totals root-width ks
-no-more-than-bytes [] = omega arith
-no-more-than-bytes (k ∷ ks) = omega (arith, one-at-most k, root-positive k, no-more-than-bytes ks)
+none-counted {p = p} here = record { passed = []; owed = 1; run = starts p (here .stands); counted = refl; few = omega arith }
 
 -- A cue or a level that has come is one; nothing else is.
 
@@ -71,11 +49,8 @@ none-arrived =
 
 module _ {slice : List ℕ} {place : PrefixPlace} {p : Prefix} {count next : ℕ} (here : PrefixIn slice place p)
     (counting : Counting slice (place .start) p count next) where
-  pub inside : next + counting .owed ≤ place .end
+  inside : next + counting .owed ≤ place .end
   inside = omega (arith, here .ends, within (counting .run))
-
-  pub few : count + place .start ≤ next
-  few = omega (arith, counting .counted, counting .run .come, no-more-than-bytes (counting .passed))
 
   still-owed : next < place .end → 0 < counting .owed
   still-owed more = go (counting .owed) refl
@@ -86,13 +61,14 @@ module _ {slice : List ℕ} {place : PrefixPlace} {p : Prefix} {count next : ℕ
 
   -- The kind byte come to is counted, and passed with its value.
   pub counted-on : {later behind : ℕ} → next < place .end → later ≡ count + root-arrivals (getD slice next 0) → behind ≡ next + root-width (getD slice next 0)
-      → Counting slice (place .start) p later behind
-  counted-on more is-later is-behind =
+      → later + place .start ≤ behind → Counting slice (place .start) p later behind
+  counted-on more is-later is-behind fits =
       record {
         passed = _;
         owed = counting .owed + prefix-arity (getD slice next 0) - 1;
         run = turned (counting .run) (still-owed more) _ _ (omega (arith, still-owed more)) is-behind;
         counted = omega (arith, counting .counted);
+        few = fits;
       }
 
   pub counted-all : place .end ≤ next → count ≡ arrivals p

@@ -9,7 +9,7 @@ use Rattle.stream.specs.Prefixes.{Prefix}
 use Rattle.reading.specs.SliceReads.{PrefixIn}
 use Rattle.reading.proofs.OpeningScan.{ends-inside}
 use Rattle.reading.proofs.PrefixWalk.{level-wide, other-wide}
-use Rattle.reading.proofs.ArrivalsScan.{Counting, none-counted, few, cue-arrived, level-arrived, none-arrived, counted-on, counted-all}
+use Rattle.reading.proofs.ArrivalsScan.{Counting, none-counted, cue-arrived, level-arrived, none-arrived, counted-on, counted-all}
 use Rattle.reading.proofs.prefixes.count_arrivals.Statement.{statement}
 use Rattle.reading.proofs.prefixes.count_arrivals.Tie as tie
 
@@ -31,7 +31,7 @@ kind c = getD (entry c .args .slice .now) (c .loop .next) 0
 
 -- What was counted before the turn, of the prefix that stands there.
 so-far : (c : tie.At-loop Inv-loop μ-loop) → (c .loop .count + entry c .args .place .start ≤ c .loop .next) × (entry c .args .place .end ≤ slice-file-limit)
-so-far c = let some = entry c .pre .0 in (few (some .here) (c .loop .inv (some .prefix) (some .here)), entry c .pre .1)
+so-far c = let some = entry c .pre .0 in (c .loop .inv (some .prefix) (some .here) .few, entry c .pre .1)
 
 loop-holds : tie.Need-loop-holds Inv-loop μ-loop
 loop-holds c = λ p here. none-counted here
@@ -52,7 +52,7 @@ loop-again : tie.Need-loop-again Inv-loop μ-loop
 loop-again c = λ p here.
     let at = turn (c .before) in
     counted-on here (at .loop .inv p here) (omega arith) (omega (arith, cue-arrived (kind at) (c .if1 .taken)))
-    (omega (arith, other-wide (kind at) (λ e. omega arith)))
+    (omega (arith, other-wide (kind at) (λ e. omega arith))) (omega (arith, at .loop .inv p here .few))
 
 add-count-2 : tie.Need-add-count-2 Inv-loop μ-loop
 add-count-2 c = omega (arith, so-far (turn (c .before .before)))
@@ -67,7 +67,7 @@ loop-again-2 : tie.Need-loop-again-2 Inv-loop μ-loop
 loop-again-2 c = λ p here.
     let at = turn (c .before .before) in
     counted-on here (at .loop .inv p here) (omega arith) (omega (arith, level-arrived (kind at) (c .if2 .taken)))
-    (omega (arith, level-wide (kind at) (c .if2 .taken)))
+    (omega (arith, level-wide (kind at) (c .if2 .taken))) (omega (arith, at .loop .inv p here .few))
 
 loop-less-3 : tie.Need-loop-less-3 Inv-loop μ-loop
 loop-less-3 c = omega arith
@@ -76,7 +76,7 @@ loop-again-3 : tie.Need-loop-again-3 Inv-loop μ-loop
 loop-again-3 c = λ p here.
     let at = turn (c .before .before) in
     counted-on here (at .loop .inv p here) (omega arith) (omega (arith, none-arrived (kind at) (c .before .if1 .left) (c .if2 .left)))
-    (omega (arith, other-wide (kind at) (c .if2 .left)))
+    (omega (arith, other-wide (kind at) (c .if2 .left))) (omega (arith, at .loop .inv p here .few))
 
 returns : tie.Need-returns Inv-loop μ-loop
 returns c = record { each = λ p here. counted-all here (c .before .loop .inv p here) (omega arith) }
