@@ -58,7 +58,8 @@ impl Lent {
     }
 }
 
-/// What a call answers: its number, and its lengths or whether the slice is complete.
+/// What a call answers: its number, and its lengths or whether the slice is complete. Its counts are
+/// left to the comparison, so that a row does what it did before there were any.
 pub type Answer = (u32, [usize; 2]);
 
 /// Which of the two is measured.
@@ -116,14 +117,15 @@ impl Row {
         let (files, first) = (&self.files, &mut lent.first);
         let answer = match self.operation {
             Operation::Check => second_interpreter::check(&files[0], first),
-            Operation::Admit => second_interpreter::admit(&files[0], &files[1]).map(usize::from),
+            Operation::Admit => second_interpreter::admit(&files[0], &files[1])
+                .map(|admitted| usize::from(admitted.complete)),
             Operation::Left => second_interpreter::left(&files[0], &files[1], first),
             Operation::Join => second_interpreter::join(&files[0], &files[1], &files[2], first),
             Operation::Feed => {
                 let fed = second_interpreter::feed(&files[0], &files[1], first, &mut lent.patch);
                 return fed.map_or_else(
                     |number| (number, [0, 0]),
-                    |(output, patch)| (ACCEPTED, [output, patch]),
+                    |fed| (ACCEPTED, [fed.output, fed.patch]),
                 );
             }
             Operation::Longest => second_interpreter::longest(&files[0], first),

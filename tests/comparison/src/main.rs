@@ -7,14 +7,16 @@ use std::time::{Duration, Instant};
 use comparison::calls::library;
 use comparison::convention::{self, number, Output, Stop};
 use comparison::formats::fault;
-use comparison::{compare, limits, Call, Calls, Operation, OtherSlices, Random, Runs, Tally};
+use comparison::{
+    compare, hold_joined, limits, Call, Calls, Operation, OtherSlices, Random, Runs, Tally,
+};
 
 const HELP: &str = "\
 compare (--calls N | --seconds N) [--seed S]
 
 Compares the library with the second interpreter, in single calls and, after every hundred of them,
-in a run of feeds. What Longest wrote is held to other slices of its type. Prints what was met, or
-the first difference.
+in a run of feeds. What Longest wrote is held to other slices of its type, and what Join wrote to
+the arrivals of its two slices. Prints what was met, or the first difference.
 
   --calls N    makes so many calls
   --seconds N  goes on for so long
@@ -59,7 +61,8 @@ fn options(words: &[&str]) -> Result<Options, Stop> {
     })
 }
 
-/// Compares a call and counts it. What Longest wrote is held to other slices of its type.
+/// Compares a call and counts it. What Longest wrote is held to other slices of its type, and what
+/// Join wrote to the arrivals of its two slices.
 fn compare_call(
     call: &Call,
     other_slices: &mut OtherSlices,
@@ -68,11 +71,19 @@ fn compare_call(
 ) -> Result<(), String> {
     let agreed = compare(call, noise)?;
     tally.add(call, &agreed)?;
-    if call.operation == Operation::Longest && agreed.answer.number == fault::ACCEPTED {
-        let tried = other_slices
-            .try_against(&call.files[0], &agreed.files[0])
-            .map_err(|text| format!("{text}\n{call}"))?;
-        tally.longest.add_tried(tried);
+    let told = |text: String| format!("{text}\n{call}");
+    match (call.operation, agreed.answer.number) {
+        (Operation::Longest, fault::ACCEPTED) => {
+            let tried =
+                (other_slices.try_against(&call.files[0], &agreed.files[0])).map_err(told)?;
+            tally.longest.add_tried(tried);
+        }
+        (Operation::Join, fault::ACCEPTED) => {
+            let joined = &agreed.files[0];
+            let arrivals = hold_joined(&call.files, joined, noise).map_err(told)?;
+            (tally.sums.add_join(&call.files[1..], joined, arrivals)).map_err(told)?;
+        }
+        _ => {}
     }
     Ok(())
 }
@@ -125,6 +136,7 @@ fn compare_all(words: &[&str]) -> Result<(), Stop> {
         alone + in_runs
     )?;
     writeln!(Output, "{}", tally.waits.told())?;
+    writeln!(Output, "{}", tally.sums.told())?;
     writeln!(
         Output,
         "{} calls of Longest: {}",

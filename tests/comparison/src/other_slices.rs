@@ -6,6 +6,7 @@ use second_interpreter::longest_by_trying;
 use crate::calls::library::{self, Admitted};
 use crate::formats::fault;
 use crate::formats::files::{contents, decimal, section};
+use crate::formats::preorder::arrivals;
 use crate::formats::trees::type_of;
 use crate::generators::random::Random;
 use crate::generators::slices::{slice_at, Pace};
@@ -46,6 +47,7 @@ impl OtherSlices {
         let due = Admitted {
             number: fault::ACCEPTED,
             complete: 1,
+            arrived: arrivals(contents(longest)),
         };
         if answer != due {
             return Err(format!("of what Longest wrote Admit says {answer:?}"));
@@ -67,12 +69,17 @@ impl OtherSlices {
     }
 }
 
-/// A slice of the type is admitted, and it is not longer.
+/// A slice of the type is admitted with its arrivals, and it is not longer.
 fn try_one(type_file: &[u8], longest: &[u8], slice: &[u8]) -> Result<(), String> {
-    let number = library::admit(type_file, slice).number;
-    if number != fault::ACCEPTED {
-        let slice = decimal(slice);
+    let answer = library::admit(type_file, slice);
+    if answer.number != fault::ACCEPTED {
+        let (number, slice) = (answer.number, decimal(slice));
         Err(format!("Admit refuses a slice with {number}: {slice}"))
+    } else if answer.arrived != arrivals(contents(slice)) {
+        let (arrived, slice) = (answer.arrived, decimal(slice));
+        Err(format!(
+            "Admit counts {arrived} arrivals in a slice: {slice}"
+        ))
     } else if slice.len() > longest.len() {
         let slice = decimal(slice);
         Err(format!(

@@ -19,9 +19,9 @@ fn written(call: &Call) -> Option<[Vec<u8>; 2]> {
         return None;
     }
     let (mut output, mut left) = (vec![0; LONGEST_SLICE_FILE], vec![0; LONGEST_PATCH_FILE]);
-    let (sent, rest) = second_interpreter::feed(patch, slice, &mut output, &mut left).ok()?;
-    output.truncate(sent);
-    left.truncate(rest);
+    let fed = second_interpreter::feed(patch, slice, &mut output, &mut left).ok()?;
+    output.truncate(fed.output);
+    left.truncate(fed.patch);
     Some([output, left])
 }
 

@@ -19,11 +19,12 @@ fn wrong_program(fault: &str) -> Program {
 }
 
 /// The faults, and who finds them.
-const WRONG: [(&str, &[Kind]); 56] = [
+const WRONG: [(&str, &[Kind]); 57] = [
     // What is printed.
     ("upper_case", &[Runs, LargestAnswers, OpenInput]),
     ("one_digit_below_16", &[Runs, Ends]),
     ("counts_printed", &[Runs, Ends]),
+    ("arrivals_printed", &[Runs, Ends]),
     ("space_at_the_end", &[Runs, DamagedPatches, Ends]),
     ("carriage_return", &[Runs, DamagedPatches, Ends]),
     ("no_last_line_feed", &[Runs, DamagedPatches, Ends]),

@@ -1,15 +1,29 @@
 //! Calls that have to be accepted: with long buffers, and compared as all others are.
 
 use crate::calls::call::{Call, Operation};
-use crate::calls::comparison::compare;
+use crate::calls::comparison::{compare, Agreed};
+use crate::calls::counts::Counts;
 use crate::formats::fault;
 use crate::generators::random::Random;
 
-/// A patch is fed, and sends and leaves these files.
+/// A patch is fed, and sends and leaves these files; and what came and was sent.
 #[derive(Clone, Debug, PartialEq, Eq)]
 pub struct Fed {
     pub output: Vec<u8>,
     pub left: Vec<u8>,
+    pub counts: Counts,
+}
+
+impl Fed {
+    /// By what an accepted feed answered and wrote.
+    pub fn by(agreed: Agreed) -> Self {
+        let [output, left] = <[Vec<u8>; 2]>::try_from(agreed.files).expect("Feed writes two files");
+        Fed {
+            output,
+            left,
+            counts: agreed.answer.counts,
+        }
+    }
 }
 
 /// Makes the calls; what is in the buffers before is noise.
@@ -19,23 +33,29 @@ pub struct Asking<'a> {
 }
 
 impl Asking<'_> {
-    fn ask(&mut self, operation: Operation, files: &[&[u8]]) -> Result<Vec<Vec<u8>>, String> {
+    fn ask(&mut self, operation: Operation, files: &[&[u8]]) -> Result<Agreed, String> {
         let files = files.iter().map(|file| file.to_vec()).collect();
         let call = Call::roomy(operation, files);
         let agreed = compare(&call, self.noise)?;
         match agreed.answer.number {
-            fault::ACCEPTED => Ok(agreed.files),
+            fault::ACCEPTED => Ok(agreed),
             number => Err(format!("both refuse, with {number}:\n{call}")),
         }
     }
 
     fn ask_one(&mut self, operation: Operation, files: &[&[u8]]) -> Result<Vec<u8>, String> {
-        Ok(self.ask(operation, files)?.swap_remove(0))
+        Ok(self.ask(operation, files)?.files.swap_remove(0))
     }
 
     /// The type that a patch gives.
     pub fn check(&mut self, patch: &[u8]) -> Result<Vec<u8>, String> {
         self.ask_one(Operation::Check, &[patch])
+    }
+
+    /// How many cues and levels came in a slice.
+    pub fn arrivals(&mut self, stream: &[u8], slice: &[u8]) -> Result<u32, String> {
+        let agreed = self.ask(Operation::Admit, &[stream, slice])?;
+        Ok(agreed.answer.counts.arrived)
     }
 
     /// What a slice leaves of a type.
@@ -69,9 +89,6 @@ impl Asking<'_> {
 
     /// What a patch sends and leaves.
     pub fn feed(&mut self, patch: &[u8], slice: &[u8]) -> Result<Fed, String> {
-        let mut files = self.ask(Operation::Feed, &[patch, slice])?;
-        let left = files.swap_remove(1);
-        let output = files.swap_remove(0);
-        Ok(Fed { output, left })
+        Ok(Fed::by(self.ask(Operation::Feed, &[patch, slice])?))
     }
 }

@@ -1,9 +1,11 @@
 //! One call, handed to the library and to the second interpreter, and the two answers compared.
 
 use crate::calls::call::{Call, Operation};
+use crate::calls::counts::Counts;
 use crate::calls::library;
 use crate::formats::fault;
-use crate::formats::files::decimal;
+use crate::formats::files::{contents, decimal};
+use crate::formats::preorder::arrivals;
 use crate::generators::random::Random;
 
 /// So many random bytes lie in front of and behind every file and every lent buffer. Behind a
@@ -19,14 +21,41 @@ pub struct Answer {
     pub complete: u32,
     /// The bytes written to each lent buffer; 0 on a refusal, and where there is no such buffer.
     pub written: [usize; 2],
+    /// For Admit and Feed what came in the slice, and for Feed what is in the slice sent; 0 on a
+    /// refusal.
+    pub counts: Counts,
 }
 
 impl Answer {
     fn of_written(answer: library::Written) -> Self {
         Answer {
             number: answer.number,
-            complete: 0,
             written: [answer.written, 0],
+            ..Answer::default()
+        }
+    }
+
+    fn of_admitted(answer: library::Admitted) -> Self {
+        Answer {
+            number: answer.number,
+            complete: answer.complete,
+            counts: Counts {
+                arrived: answer.arrived,
+                sent: 0,
+            },
+            ..Answer::default()
+        }
+    }
+
+    fn of_fed(answer: library::Fed) -> Self {
+        Answer {
+            number: answer.number,
+            written: [answer.output, answer.patch],
+            counts: Counts {
+                arrived: answer.arrived,
+                sent: answer.sent,
+            },
+            ..Answer::default()
         }
     }
 }
@@ -81,12 +110,7 @@ fn library_answer(operation: Operation, files: &[&[u8]], lent: &mut [&mut [u8]])
     match (operation, files, lent) {
         (Operation::Check, [patch], [lent]) => Answer::of_written(library::check(patch, lent)),
         (Operation::Admit, [stream, slice], []) => {
-            let answer = library::admit(stream, slice);
-            Answer {
-                number: answer.number,
-                complete: answer.complete,
-                written: [0, 0],
-            }
+            Answer::of_admitted(library::admit(stream, slice))
         }
         (Operation::Left, [stream, slice], [lent]) => {
             Answer::of_written(library::left(stream, slice, lent))
@@ -95,12 +119,7 @@ fn library_answer(operation: Operation, files: &[&[u8]], lent: &mut [&mut [u8]])
             Answer::of_written(library::join(stream, first, second, lent))
         }
         (Operation::Feed, [patch, slice], [output, left]) => {
-            let answer = library::feed(patch, slice, output, left);
-            Answer {
-                number: answer.number,
-                complete: 0,
-                written: [answer.output, answer.patch],
-            }
+            Answer::of_fed(library::feed(patch, slice, output, left))
         }
         (Operation::Longest, [stream], [lent]) => {
             Answer::of_written(library::longest(stream, lent))
@@ -116,8 +135,12 @@ pub fn second_answer(operation: Operation, files: &[&[u8]], lent: &mut [&mut [u8
         (Operation::Check, [patch], [lent]) => {
             second_interpreter::check(patch, lent).map(|written| answer.written[0] = written)
         }
-        (Operation::Admit, [stream, slice], []) => second_interpreter::admit(stream, slice)
-            .map(|complete| answer.complete = u32::from(complete)),
+        (Operation::Admit, [stream, slice], []) => {
+            second_interpreter::admit(stream, slice).map(|admitted| {
+                answer.complete = u32::from(admitted.complete);
+                answer.counts.arrived = admitted.arrived;
+            })
+        }
         (Operation::Left, [stream, slice], [lent]) => {
             second_interpreter::left(stream, slice, lent).map(|written| answer.written[0] = written)
         }
@@ -126,8 +149,11 @@ pub fn second_answer(operation: Operation, files: &[&[u8]], lent: &mut [&mut [u8
                 .map(|written| answer.written[0] = written)
         }
         (Operation::Feed, [patch, slice], [output, left]) => {
-            second_interpreter::feed(patch, slice, output, left)
-                .map(|(output, patch)| answer.written = [output, patch])
+            second_interpreter::feed(patch, slice, output, left).map(|fed| {
+                answer.written = [fed.output, fed.patch];
+                answer.counts.arrived = fed.arrived;
+                answer.counts.sent = fed.sent;
+            })
         }
         (Operation::Longest, [stream], [lent]) => {
             second_interpreter::longest(stream, lent).map(|written| answer.written[0] = written)
@@ -182,6 +208,8 @@ pub fn compare(call: &Call, random: &mut Random) -> Result<Agreed, String> {
         "a file was altered"
     } else if !stays(&ours, &before) {
         "both altered a byte that stays as it was"
+    } else if ours.answer.counts != due_counts(call, &ours) {
+        "both count otherwise than the kinds in the slices"
     } else {
         return Ok(agreed(ours));
     };
@@ -196,6 +224,24 @@ fn stays(outcome: &Outcome, before: &[Place]) -> bool {
             let (after, before) = (after.bytes(), before.bytes());
             written <= after.len() && after[written..] == before[written..]
         })
+}
+
+/// The counts by the kinds in the bytes of the slices; 0 on a refusal, and where none are given.
+fn due_counts(call: &Call, outcome: &Outcome) -> Counts {
+    if outcome.answer.number != fault::ACCEPTED {
+        return Counts::default();
+    }
+    match (call.operation, call.files.as_slice()) {
+        (Operation::Admit, [_, slice]) => Counts {
+            arrived: arrivals(contents(slice)),
+            sent: 0,
+        },
+        (Operation::Feed, [_, slice]) => Counts {
+            arrived: arrivals(contents(slice)),
+            sent: arrivals(contents(outcome.lent[0].bytes())),
+        },
+        _ => Counts::default(),
+    }
 }
 
 fn agreed(outcome: Outcome) -> Agreed {

@@ -20,6 +20,8 @@ pub struct Admitted {
     pub number: u32,
     /// 1 if the slice is complete.
     pub complete: u32,
+    /// The cues and levels that came in the slice.
+    pub arrived: u32,
 }
 
 /// The answer of Feed.
@@ -32,10 +34,14 @@ pub struct Fed {
     pub output: usize,
     /// The bytes at the front of the buffer for the patch left.
     pub patch: usize,
+    /// The cues and levels that came in the slice.
+    pub arrived: u32,
+    /// Those in the slice sent.
+    pub sent: u32,
 }
 
 /// The binary interface that these declarations are of.
-pub const ABI: u32 = 1;
+pub const ABI: u32 = 2;
 
 extern "C" {
     fn wosthile_abi() -> u32;

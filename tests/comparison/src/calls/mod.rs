@@ -3,4 +3,5 @@
 pub(crate) mod asking;
 pub mod call;
 pub mod comparison;
+pub mod counts;
 pub mod library;

@@ -7,6 +7,9 @@ pub const LONGEST_SLICE_FILE: usize = 513;
 /// That of the longest patch file.
 pub const LONGEST_PATCH_FILE: usize = 8_482;
 
+/// The most cues and levels that come in one slice: the leaves of a type of 255 nodes.
+pub const MOST_ARRIVALS: u32 = 128;
+
 /// The file of one section. Its contents have at most 65,535 bytes.
 pub fn section(contents: &[u8]) -> Vec<u8> {
     let mut file = vec![0, 0];

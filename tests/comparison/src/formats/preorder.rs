@@ -67,6 +67,30 @@ pub fn slice_roots(tree: &[u8]) -> Vec<usize> {
     found
 }
 
+/// The kinds of the nodes of a slice, from left to right.
+pub fn slice_kinds(tree: &[u8]) -> Vec<u8> {
+    slice_roots(tree).into_iter().map(|at| tree[at]).collect()
+}
+
+/// The kinds of those nodes of a slice that are in a first part that is crossed.
+pub fn in_crossed_first_parts(tree: &[u8]) -> Vec<u8> {
+    let mut found = Vec::new();
+    // For each slice that is still to come, whether it is in such a part.
+    let mut owed = vec![false];
+    for kind in slice_kinds(tree) {
+        let inside = owed.pop().unwrap_or_default();
+        if inside {
+            found.push(kind);
+        }
+        owed.extend(vec![inside; slice_parts(kind)]);
+        if kind == slice_kind::CROSSED {
+            owed.pop();
+            owed.push(true);
+        }
+    }
+    found
+}
+
 /// Whether slices of this kind choose a part of an either.
 pub fn is_choice(kind: u8) -> bool {
     matches!(kind, slice_kind::FIRST_CHOSEN | slice_kind::SECOND_CHOSEN)
@@ -74,8 +98,25 @@ pub fn is_choice(kind: u8) -> bool {
 
 /// How many choices a slice makes.
 pub fn choices(tree: &[u8]) -> u64 {
-    let roots = slice_roots(tree).into_iter();
-    roots.filter(|at| is_choice(tree[*at])).count() as u64
+    let kinds = slice_kinds(tree).into_iter();
+    kinds.filter(|kind| is_choice(*kind)).count() as u64
+}
+
+/// Whether slices of this kind are a cue or a level that has come.
+pub fn is_arrival(kind: u8) -> bool {
+    matches!(kind, slice_kind::CUE_COME | slice_kind::LEVEL_COME)
+}
+
+/// How many cues and levels have come in a slice.
+pub fn arrivals(tree: &[u8]) -> u32 {
+    let kinds = slice_kinds(tree).into_iter();
+    kinds.filter(|kind| is_arrival(*kind)).count() as u32
+}
+
+/// How many of them are in first parts that are crossed.
+pub fn crossed_arrivals(tree: &[u8]) -> u32 {
+    let kinds = in_crossed_first_parts(tree).into_iter();
+    kinds.filter(|kind| is_arrival(*kind)).count() as u32
 }
 
 /// Whether a slice brings anything: a cue, a level, a crossing or a choice. The empty slice of a

@@ -2,6 +2,7 @@
 
 use crate::calls::call::{Buffer, Call, Operation};
 use crate::formats::files::section;
+use crate::formats::kinds::type_kind::SEQUENCE;
 use crate::formats::kinds::{node_kind, slice_kind};
 use crate::generators::damage::{damage, few_bytes, type_about_the_limit, SLICE_KINDS, TYPE_KINDS};
 use crate::generators::feeds::feed_files;
@@ -9,7 +10,7 @@ use crate::generators::patch_damage::damage_patch;
 use crate::generators::patches::any_patch;
 use crate::generators::random::Random;
 use crate::generators::sides::type_with_sides;
-use crate::generators::slices::slice_of;
+use crate::generators::slices::{slice_at, slice_of, Pace};
 use crate::generators::types::{forks, write_type, Style, MOST_FORKS};
 
 /// A buffer that is longer than any answer has so many bytes more.
@@ -111,9 +112,21 @@ fn type_for_longest(random: &mut Random) -> Vec<u8> {
     type_of_style(random, &style, MOST_FORKS)
 }
 
+/// The tree of any type, new or what an earlier slice leaves of one with a sequence: if nothing is
+/// left to come of its first part, it is crossed without an arrival.
+fn type_in_a_stream(random: &mut Random) -> Vec<u8> {
+    let tree = any_type(random);
+    if tree.contains(&SEQUENCE) && random.chance(30) {
+        let gentle = Pace::gentle(random);
+        let pace = random.pick(&[gentle, Pace::UNCROSSED]);
+        return slice_at(random, pace, &tree).left;
+    }
+    tree
+}
+
 /// The files of a type, of a slice of it, and of a slice of what that one leaves.
 fn stream_files(random: &mut Random) -> [Vec<u8>; 3] {
-    let tree = any_type(random);
+    let tree = type_in_a_stream(random);
     let first = slice_of(random, &tree);
     let second = slice_of(random, &first.left);
     [

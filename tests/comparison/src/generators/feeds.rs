@@ -3,26 +3,24 @@
 use crate::formats::files::{
     contents, section, LONGEST_PATCH_FILE, LONGEST_SLICE_FILE, LONGEST_TYPE_FILE,
 };
-use crate::generators::patches::{any_patch, crossing_patch, waiting_patch};
+use crate::generators::patches::{any_patch, crossing_patch, full_patch, waiting_patch};
 use crate::generators::random::Random;
-use crate::generators::slices::{little_of, slice_at, slice_of, Pace};
+use crate::generators::slices::{all_of, little_of, slice_at, slice_of, Come, Pace};
+
+/// What draws a slice of the type with a tree.
+type SliceOf = fn(&mut Random, &[u8]) -> Come;
 
 /// A patch, most often one that is accepted, and a slice of its input type.
 pub fn feed_files(random: &mut Random) -> [Vec<u8>; 2] {
-    let waits = random.chance(25);
-    let mut patch = if waits {
-        waiting_patch(random)
-    } else {
-        any_patch(random)
+    let (mut patch, slice): (_, SliceOf) = match random.below(100) {
+        0..=24 => (waiting_patch(random), little_of),
+        25..=27 => (full_patch(random), all_of),
+        _ => (any_patch(random), slice_of),
     };
     if random.chance(30) {
         patch = fed(random, patch);
     }
-    let slice = if waits && random.chance(50) {
-        little_of(random, contents(&patch))
-    } else {
-        slice_of(random, contents(&patch))
-    };
+    let slice = random.pick(&[slice, slice_of])(random, contents(&patch));
     [patch, section(&slice.slice)]
 }
 
@@ -33,8 +31,8 @@ pub fn fed(random: &mut Random, mut patch: Vec<u8>) -> Vec<u8> {
         let pace = random.pick(&[gentle, gentle, Pace::NOTHING]);
         let slice = section(&slice_at(random, pace, contents(&patch)).slice);
         let (mut output, mut left) = ([0; LONGEST_SLICE_FILE], vec![0; LONGEST_PATCH_FILE]);
-        if let Ok((_, length)) = second_interpreter::feed(&patch, &slice, &mut output, &mut left) {
-            patch = left[..length].to_vec();
+        if let Ok(fed) = second_interpreter::feed(&patch, &slice, &mut output, &mut left) {
+            patch = left[..fed.patch].to_vec();
         }
     }
     patch
@@ -43,9 +41,10 @@ pub fn fed(random: &mut Random, mut patch: Vec<u8>) -> Vec<u8> {
 /// An accepted patch, new or left by earlier feeds.
 pub fn accepted_patch(random: &mut Random, old: bool) -> Vec<u8> {
     loop {
-        let mut patch = match random.below(10) {
-            0..=4 => crossing_patch(random),
-            5..=7 => waiting_patch(random),
+        let mut patch = match random.below(100) {
+            0..=47 => crossing_patch(random),
+            48..=76 => waiting_patch(random),
+            77..=80 => full_patch(random),
             _ => any_patch(random),
         };
         if old {

@@ -10,6 +10,7 @@ use crate::formats::kinds::node_kind::{
 };
 use crate::formats::trees::type_of;
 use crate::generators::random::Random;
+use crate::generators::slices::value;
 use crate::generators::types::{self, write_type, Shape};
 
 /// A patch of 63 nodes has so many forks.
@@ -85,6 +86,16 @@ impl Style {
             boundless: false,
         }
     }
+
+    /// Nodes that mostly send all that comes.
+    fn passing(random: &mut Random) -> Self {
+        Style {
+            waiting: 0,
+            keeping: 100,
+            changing: 0,
+            ..Style::crossing(random)
+        }
+    }
 }
 
 /// A node, and the type that it gives.
@@ -118,6 +129,15 @@ pub fn crossing_patch(random: &mut Random) -> Vec<u8> {
         _ => node_forks(random),
     };
     let style = Style::crossing(random);
+    grown(random, style, &input, forks)
+}
+
+/// A patch file on a stream of as many cues and levels as there can be; mostly it sends all of them.
+pub fn full_patch(random: &mut Random) -> Vec<u8> {
+    let style = types::Style::full(random);
+    let input = a_type(random, &style, types::MOST_FORKS);
+    let style = Style::passing(random);
+    let forks = random.below(3);
     grown(random, style, &input, forks)
 }
 
@@ -348,7 +368,7 @@ impl Grower<'_> {
             PASS => Node::Pass,
             SILENT => Node::silent(self.carried(room)),
             CUE => Node::Cue,
-            LEVEL => Node::Level(self.random.number() as u16),
+            LEVEL => Node::Level(value(self.random)),
             LEFT => Node::Left,
             RIGHT => Node::Right,
             FIRST => Node::First,

@@ -2,6 +2,7 @@
 
 use crate::formats::kinds::{slice_kind, type_kind};
 use crate::formats::preorder::type_end;
+use crate::generators::damage::SLICE_KINDS;
 use crate::generators::random::Random;
 
 /// A slice, and what it leaves of its type.
@@ -39,6 +40,20 @@ impl Pace {
         cross_spent: 100,
         choose: 100,
     };
+    /// All that can come before a crossing.
+    pub const UNCROSSED: Pace = Pace {
+        come: 100,
+        cross: 0,
+        cross_spent: 0,
+        choose: 100,
+    };
+    /// No cue and no level; but every crossing and every choice that can come without one.
+    pub const NO_ARRIVALS: Pace = Pace {
+        come: 0,
+        cross: 0,
+        cross_spent: 100,
+        choose: 100,
+    };
 
     /// Any pace.
     pub fn any(random: &mut Random) -> Self {
@@ -65,10 +80,11 @@ impl Pace {
 
 /// A slice of the type with this tree, mostly at any pace.
 pub fn slice_of(random: &mut Random, tree: &[u8]) -> Come {
-    if random.chance(10) {
-        return little_of(random, tree);
-    }
-    let pace = Pace::any(random);
+    let pace = match random.below(10) {
+        0 => return little_of(random, tree),
+        1 => Pace::NO_ARRIVALS,
+        _ => Pace::any(random),
+    };
     slice_at(random, pace, tree)
 }
 
@@ -79,6 +95,11 @@ pub fn little_of(random: &mut Random, tree: &[u8]) -> Come {
     } else {
         one_arrival(random, tree)
     }
+}
+
+/// A slice of the type with this tree that brings all that can come.
+pub fn all_of(random: &mut Random, tree: &[u8]) -> Come {
+    slice_at(random, Pace::ALL, tree)
 }
 
 /// A slice of the type with this tree, at this pace.
@@ -95,6 +116,18 @@ pub fn one_arrival(random: &mut Random, tree: &[u8]) -> Come {
     let last = could.saturating_sub(1);
     let before = random.pick(&[any, any, last]);
     written(random, Coming::Only(before), tree).come
+}
+
+/// The value of a level: one at an end of what its bytes can say, one whose bytes are kinds of
+/// slices, those of arrivals above all, or any.
+pub fn value(random: &mut Random) -> u16 {
+    let come = [slice_kind::CUE_COME, slice_kind::LEVEL_COME];
+    match random.below(5) {
+        0..=1 => random.pick(&[0, 0, 1, 255, 256, 65_535]),
+        2 => u16::from_be_bytes([random.pick(&come), random.pick(&come)]),
+        3 => u16::from_be_bytes([SLICE_KINDS.listed(random), SLICE_KINDS.listed(random)]),
+        _ => random.number() as u16,
+    }
 }
 
 fn written<'a>(random: &'a mut Random, coming: Coming, tree: &'a [u8]) -> Writer<'a> {
@@ -189,11 +222,7 @@ impl Writer<'_> {
         if leaf == type_kind::CUE {
             self.leaf(&[slice_kind::CUE_COME], type_kind::EMPTY);
         } else {
-            let any = self.random.number() as u16;
-            let [high, low] = self
-                .random
-                .pick(&[0, 1, 255, 256, 65_535, any])
-                .to_be_bytes();
+            let [high, low] = value(self.random).to_be_bytes();
             self.leaf(&[slice_kind::LEVEL_COME, high, low], type_kind::EMPTY);
         }
     }

@@ -3,6 +3,7 @@
 use second_interpreter::{output_type, Node, Type};
 
 use crate::generators::patches::Grower;
+use crate::generators::slices::value;
 
 /// With so many forks a node can be built from every input to this type.
 fn forks_to(target: &Type) -> usize {
@@ -51,7 +52,7 @@ impl Grower<'_> {
             ],
             _ => [
                 Node::silent(target.clone()),
-                Node::Level(self.random.number() as u16),
+                Node::Level(value(self.random)),
             ],
         };
         let bare = [
@@ -89,7 +90,7 @@ impl Grower<'_> {
             }
             Type::Cue => Some(self.ending(input, Node::Cue, forks)),
             Type::Level => {
-                let level = Node::Level(self.random.number() as u16);
+                let level = Node::Level(value(self.random));
                 Some(self.ending(input, level, forks))
             }
             Type::Sequence(first, second) => self.build_sequence(input, [first, second], forks),

@@ -98,13 +98,20 @@ impl Style {
         }
     }
 
-    /// Without choices, and with a level at every leaf: of its size it has the longest slice.
-    pub fn levels(random: &mut Random) -> Self {
+    /// Without choices, and with a cue or a level at every leaf: of its size it brings the most.
+    pub fn full(random: &mut Random) -> Self {
         Style {
             choices: 0,
             empties: 0,
-            levels: 100,
             ..Style::any(random)
+        }
+    }
+
+    /// The same with a level at every leaf: of its size it has the longest slice.
+    pub fn levels(random: &mut Random) -> Self {
+        Style {
+            levels: 100,
+            ..Style::full(random)
         }
     }
 

@@ -1,13 +1,16 @@
-//! Demand 3, held to a run from the outside: by calls of Check, Left, Join and Feed alone.
+//! Demand 3, held to a run from the outside: by calls of the library alone.
 
 use crate::calls::asking::{Asking, Fed};
+use crate::calls::counts::Counts;
 use crate::formats::files::{contents, section};
 
-/// The slices and the outputs of the accepted feeds so far, each joined in order.
+/// The slices and the outputs of the accepted feeds so far, each joined in order, and the sums of
+/// their counts.
 #[derive(Clone, Debug, PartialEq, Eq)]
 pub struct Joined {
     pub slices: Vec<u8>,
     pub outputs: Vec<u8>,
+    pub counts: Counts,
 }
 
 /// A run as the demand sees it: its start, and what was accepted so far.
@@ -38,18 +41,28 @@ impl Demand {
     }
 
     /// After an accepted feed: the patch left is accepted, its input type is what the joined slices
-    /// leave, and its output type is what the joined outputs leave.
+    /// leave, and its output type is what the joined outputs leave. The joined slices have as many
+    /// arrivals as all feeds counted together, and so have the joined outputs.
     pub fn after(&mut self, asking: &mut Asking, slice: &[u8], fed: &Fed) -> Result<(), String> {
         let joined = match self.joined.take() {
             None => Joined {
                 slices: slice.to_vec(),
                 outputs: fed.output.clone(),
+                counts: fed.counts,
             },
             Some(before) => Joined {
                 slices: asking.join(&self.input, &before.slices, slice)?,
                 outputs: asking.join(&self.output, &before.outputs, &fed.output)?,
+                counts: before.counts + fed.counts,
             },
         };
+        let counted = Counts {
+            arrived: asking.arrivals(&self.input, &joined.slices)?,
+            sent: asking.arrivals(&self.output, &joined.outputs)?,
+        };
+        if counted != joined.counts {
+            return Err("joined, slices or outputs do not have the sums of the counts".to_string());
+        }
         let given = asking.check(&fed.left)?;
         let input_left = asking.left(&self.input, &joined.slices)?;
         let output_left = asking.left(&self.output, &joined.outputs)?;
@@ -65,7 +78,7 @@ impl Demand {
 
     /// At any point: the joined slices, fed as one to the patch at the start, are accepted, send
     /// the joined outputs, and leave the patch that the run left; if none was accepted, that is the
-    /// patch at the start.
+    /// patch at the start. What came and was sent is counted as in all feeds together.
     pub fn as_one(&self, asking: &mut Asking, patch: &[u8]) -> Result<(), String> {
         let Some(joined) = &self.joined else {
             return if patch == self.start {
@@ -79,6 +92,8 @@ impl Demand {
             Err("fed as one, the slices do not send the joined outputs".to_string())
         } else if fed.left != patch {
             Err("fed as one, the slices do not leave the same patch".to_string())
+        } else if fed.counts != joined.counts {
+            Err("fed as one, the slices do not have the sums of the counts".to_string())
         } else {
             Ok(())
         }

@@ -15,6 +15,7 @@ use crate::runs::demand::Demand;
 use crate::runs::recut::recut;
 use crate::runs::room::Room;
 use crate::tallies::feeds::Position;
+use crate::tallies::sums::Sums;
 use crate::tallies::waits::Waits;
 use crate::tallies::Tally;
 
@@ -99,17 +100,21 @@ impl Runs {
             patch: start.clone(),
             slice: Vec::new(),
             waits: Waits::default(),
+            sums: Sums::default(),
         };
         let demand = run
             .go(&mut self.random, noise, tally, demand)
             .map_err(|text| format!("{text}\n{}", run_so_far(&start, &run.steps)))?;
+        let told = |text: String| format!("{text}\n{}", run_so_far(&start, &run.steps));
         tally.runs.add_run(&run.steps, run.feeds, old);
         tally.waits.add_run(&run.steps, &run.waits);
+        tally.sums.add_run(&run.sums).map_err(told)?;
         if !run.steps.is_empty() {
-            let anew = recut(&mut self.random, &mut Asking { noise }, &demand, &run.steps)
-                .map_err(|text| format!("{text}\n{}", run_so_far(&start, &run.steps)))?;
+            let mut asking = Asking { noise };
+            let anew = recut(&mut self.random, &mut asking, &demand, &run.steps).map_err(told)?;
             tally.runs.add_recut(&anew);
             tally.waits.add_recut(&anew, &run.waits);
+            tally.sums.add_recut(anew.summed);
         }
         Ok(())
     }
@@ -141,6 +146,7 @@ struct Run {
     /// The slice of the last call, accepted or not.
     slice: Vec<u8>,
     waits: Waits,
+    sums: Sums,
 }
 
 impl Run {
@@ -159,15 +165,18 @@ impl Run {
             self.slice.clone_from(&call.files[1]);
             let agreed = compare(&call, noise)?;
             tally.runs.add_feed(agreed.answer.number, &call.files[1])?;
+            tally.arrivals.add(&call, &agreed)?;
             if agreed.answer.number != fault::ACCEPTED {
+                self.sums.refuse(agreed.answer.number, &call.files[1]);
                 continue;
             }
             let position = Position::InRun {
                 after: self.steps.len(),
             };
-            let effects = (tally.feeds).add(position, &call.files, &agreed.files)?;
+            let effects = tally.feeds.add(position, &call.files, &agreed)?;
             self.waits.follow(&effects)?;
-            self.accept(agreed.files);
+            self.sums.accept(agreed.answer.counts);
+            self.accept(Fed::by(agreed));
             let step = self.steps.last().expect("one was accepted");
             demand.after(&mut Asking { noise }, &step.slice, &step.fed)?;
             self.room.holds(&step.slice, &step.fed)?;
@@ -182,13 +191,12 @@ impl Run {
     }
 
     /// The patch that was written is handed to the next call.
-    fn accept(&mut self, files: Vec<Vec<u8>>) {
-        let [output, left] = <[Vec<u8>; 2]>::try_from(files).expect("Feed writes two files");
-        let patch = std::mem::replace(&mut self.patch, left.clone());
+    fn accept(&mut self, fed: Fed) {
+        let patch = std::mem::replace(&mut self.patch, fed.left.clone());
         self.steps.push(Step {
             patch,
             slice: self.slice.clone(),
-            fed: Fed { output, left },
+            fed,
         });
     }
 
@@ -231,6 +239,7 @@ impl Run {
             0..=1 => Pace::NOTHING,
             2 => Pace::any(random),
             3 if random.chance(20) => Pace::ALL,
+            4 => Pace::NO_ARRIVALS,
             _ => self.plan.pace,
         };
         slice_at(random, pace, left)

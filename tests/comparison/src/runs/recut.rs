@@ -13,11 +13,13 @@ pub struct Anew {
     pub begins: Vec<usize>,
     /// How many of its feeds brought several slices as one.
     pub joined: usize,
+    /// How many of these had arrivals of more than one of them.
+    pub summed: usize,
 }
 
-/// Feeds the stream of these steps in other slices. Each group sends its outputs, joined, and
-/// leaves the patch that its last step left; and demand 3 holds of the new cut, whose joined slices
-/// and outputs are those of the run.
+/// Feeds the stream of these steps in other slices. Each group sends its outputs, joined, leaves
+/// the patch that its last step left and has the sums of its counts; and demand 3 holds of the new
+/// cut, whose joined slices and outputs and whose sums are those of the run.
 pub fn recut(
     random: &mut Random,
     asking: &mut Asking,
@@ -35,11 +37,13 @@ pub fn recut(
         let slice = joined_slices(asking, &patch, group)?;
         let fed = asking.feed(&patch, &slice)?;
         if fed != joined_feeds(asking, &patch, group)? {
-            return Err("cut anew, the stream sends or leaves something else".to_string());
+            return Err("cut anew, the stream sends, leaves or counts something else".to_string());
         }
         demand.after(asking, &slice, &fed)?;
         anew.begins.push(steps.len() - rest.len());
         anew.joined += usize::from(group.len() > 1);
+        let arriving = group.iter().filter(|step| step.fed.counts.arrived > 0);
+        anew.summed += usize::from(arriving.count() > 1);
         patch = fed.left;
         rest = others;
     }
@@ -56,12 +60,14 @@ fn joined_slices(asking: &mut Asking, patch: &[u8], group: &[Step]) -> Result<Ve
     asking.join_all(&input, group.iter().map(|step| step.slice.as_slice()))
 }
 
-/// What the group has sent, joined against the output type in force, and what its last step left.
+/// What the group has sent, joined against the output type in force, what its last step left, and
+/// the sums of its counts.
 fn joined_feeds(asking: &mut Asking, patch: &[u8], group: &[Step]) -> Result<Fed, String> {
     let given = asking.check(patch)?;
     let outputs = group.iter().map(|step| step.fed.output.as_slice());
     Ok(Fed {
         output: asking.join_all(&given, outputs)?,
         left: group[group.len() - 1].fed.left.clone(),
+        counts: group.iter().map(|step| step.fed.counts).sum(),
     })
 }

@@ -40,10 +40,10 @@ pub const CASES: [&str; 30] = [
 /// How many nodes met each case.
 pub type Met = [u64; CASES.len()];
 
-/// Counts a case by its name.
-pub fn count(met: &mut Met, name: &str) {
+/// The place of a case, by its name.
+pub fn place(name: &str) -> usize {
     let case = CASES.iter().position(|case| *case == name);
-    met[case.expect("the names are those of the cases")] += 1;
+    case.expect("the names are those of the cases")
 }
 
 /// The case of a node. What a cue or a level does is told by what is left of it: whether it waits.

@@ -4,11 +4,13 @@ use std::fmt;
 
 use second_interpreter::{slice_file, Node};
 
+use crate::calls::comparison::Agreed;
 use crate::formats::files::contents;
 use crate::formats::preorder::choices;
 use crate::formats::trees::{patch_trees, slice_tree};
 use crate::tallies::cases::{Met, CASES};
 use crate::tallies::openings::{Effect, OpeningTally};
+use crate::tallies::shares::ShareTally;
 use crate::tallies::walk::Walk;
 
 /// Where a feed is made.
@@ -23,8 +25,8 @@ pub enum Position {
 /// A feed comes late in a run if so many were accepted before it.
 pub const LATE: usize = 10;
 
-/// The columns of the table.
-const COLUMNS: [&str; 3] = ["alone", "in a run", "late in a run"];
+/// The columns of the tables.
+pub const COLUMNS: [&str; 3] = ["alone", "in a run", "late in a run"];
 
 /// What was met in accepted calls of Feed.
 #[derive(Clone, Debug, Default)]
@@ -37,6 +39,7 @@ pub struct FeedTally {
     /// The choices in slices of calls of their own.
     choices_alone: u64,
     openings: OpeningTally,
+    shares: ShareTally,
 }
 
 impl FeedTally {
@@ -46,15 +49,15 @@ impl FeedTally {
         &mut self,
         position: Position,
         files: &[Vec<u8>],
-        written: &[Vec<u8>],
+        agreed: &Agreed,
     ) -> Result<Vec<Effect>, String> {
-        let [patch, slice] = files else {
-            unreachable!("Feed has two files");
+        let ([patch, slice], [output, patch_left]) = (files, agreed.files.as_slice()) else {
+            unreachable!("Feed has two files and writes two");
         };
         let (input, node) = patch_trees(patch);
-        let (_, left) = patch_trees(&written[1]);
+        let (_, left) = patch_trees(patch_left);
         let (walk, sent) = Walk::of(&node, &input, &slice_tree(contents(slice)), &left)?;
-        if slice_file(&sent) != written[0] {
+        if slice_file(&sent) != *output {
             return Err("the walk over the nodes sends something else".to_string());
         }
         self.openings.add(&walk.effects, contents(slice))?;
@@ -68,11 +71,12 @@ impl FeedTally {
                 *feeds += u64::from(times > 0);
             }
         }
+        (self.shares).add(columns, agreed.answer.counts, &walk.unequal)?;
         if position == Position::Alone {
             self.choices_alone += choices(contents(slice));
         }
         self.largest += u64::from(node.count() == Node::LIMIT);
-        self.longer += u64::from(written[1].len() > patch.len());
+        self.longer += u64::from(patch_left.len() > patch.len());
         Ok(walk.effects)
     }
 
@@ -97,6 +101,7 @@ impl FeedTally {
             }
         }
         gaps.extend(self.openings.gaps());
+        gaps.extend(self.shares.gaps());
         gaps
     }
 
@@ -127,6 +132,6 @@ impl fmt::Display for FeedTally {
         for (times, what) in self.extremes() {
             writeln!(out, "{times} times an accepted feed {what}")?;
         }
-        write!(out, "\n{}", self.openings)
+        write!(out, "\n{}\n{}", self.openings, self.shares)
     }
 }

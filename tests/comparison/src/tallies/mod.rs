@@ -5,20 +5,25 @@ use std::fmt;
 use crate::calls::call::{Call, Operation};
 use crate::calls::comparison::Agreed;
 use crate::formats::fault;
+use crate::tallies::arrivals::ArrivalTally;
 use crate::tallies::feeds::{FeedTally, Position};
 use crate::tallies::longest::LongestTally;
 use crate::tallies::patches::PatchTally;
 use crate::tallies::runs::RunTally;
 use crate::tallies::streams::StreamTally;
+use crate::tallies::sums::SumTally;
 use crate::tallies::waits::WaitTally;
 
+mod arrivals;
 mod cases;
 pub(crate) mod feeds;
 mod longest;
 mod openings;
 mod patches;
 mod runs;
+mod shares;
 mod streams;
+pub(crate) mod sums;
 pub(crate) mod waits;
 mod walk;
 
@@ -72,6 +77,10 @@ pub struct Tally {
     streams: StreamTally,
     /// The accepted feeds, alone and in runs.
     pub feeds: FeedTally,
+    /// The slices whose arrivals were counted, alone and in runs.
+    pub arrivals: ArrivalTally,
+    /// The sums of counts, in joins and in runs.
+    pub sums: SumTally,
     /// The calls of Longest, and what was tried against their answers.
     pub longest: LongestTally,
     /// The runs, whose feeds are not among the calls.
@@ -90,14 +99,14 @@ impl Tally {
             .ok_or_else(|| format!("{operation:?} answers {}", answer.number))?;
         self.counts[operation as usize][column] += 1;
         self.complete += u64::from(answer.complete);
+        self.arrivals.add(call, agreed)?;
         match (operation, answer.number) {
             (Operation::Check, _) => self.patches.add(&call.files[0], answer),
             (Operation::Admit | Operation::Left | Operation::Join, fault::ACCEPTED) => {
                 self.streams.add(&call.files);
             }
             (Operation::Feed, fault::ACCEPTED) => {
-                self.feeds
-                    .add(Position::Alone, &call.files, &agreed.files)?;
+                self.feeds.add(Position::Alone, &call.files, agreed)?;
             }
             (Operation::Longest, fault::ACCEPTED | fault::NO_ROOM) => {
                 self.longest.add(call, agreed)?;
@@ -131,6 +140,8 @@ impl Tally {
         let mut gaps = self.patches.gaps();
         gaps.extend(self.streams.gaps());
         gaps.extend(self.feeds.gaps());
+        gaps.extend(self.arrivals.gaps());
+        gaps.extend(self.sums.gaps());
         gaps.extend(self.longest.gaps());
         gaps.extend(self.runs.gaps());
         gaps.extend(self.waits.gaps());
@@ -182,6 +193,6 @@ impl fmt::Display for Tally {
         )?;
         write!(out, "\n{}\n{}", self.streams, self.patches)?;
         write!(out, "\n{}\n{}\n{}", self.feeds, self.longest, self.runs)?;
-        write!(out, "\n{}", self.waits)
+        write!(out, "\n{}\n{}\n{}", self.waits, self.arrivals, self.sums)
     }
 }

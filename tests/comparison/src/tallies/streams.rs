@@ -3,9 +3,9 @@
 use std::fmt;
 
 use crate::formats::files::contents;
-use crate::formats::kinds::slice_kind::{CROSSED, NONE_CHOSEN};
+use crate::formats::kinds::slice_kind::NONE_CHOSEN;
 use crate::formats::kinds::{slice_kind, type_kind};
-use crate::formats::preorder::{choices, is_choice, slice_parts, slice_roots};
+use crate::formats::preorder::{choices, in_crossed_first_parts, is_choice, slice_kinds};
 
 /// What was met in accepted calls of Admit, Left and Join.
 #[derive(Clone, Debug, Default)]
@@ -21,27 +21,9 @@ pub struct StreamTally {
     joined_before: u64,
 }
 
-/// The kinds of the nodes of a slice, from left to right.
-fn kinds(tree: &[u8]) -> Vec<u8> {
-    slice_roots(tree).into_iter().map(|at| tree[at]).collect()
-}
-
 /// Whether a choice is made in a first part that is crossed.
 fn chooses_in_crossed(tree: &[u8]) -> bool {
-    // For each slice that is still to come, whether it is in such a part.
-    let mut owed = vec![false];
-    for kind in kinds(tree) {
-        let inside = owed.pop().unwrap_or_default();
-        if inside && is_choice(kind) {
-            return true;
-        }
-        owed.extend(vec![inside; slice_parts(kind)]);
-        if kind == CROSSED {
-            owed.pop();
-            owed.push(true);
-        }
-    }
-    false
+    in_crossed_first_parts(tree).into_iter().any(is_choice)
 }
 
 /// Counts each kind once.
@@ -57,12 +39,12 @@ impl StreamTally {
         let trees: Vec<&[u8]> = files.iter().map(|file| contents(file)).collect();
         count(&mut self.types, trees[0]);
         for tree in &trees[1..] {
-            count(&mut self.slices, &kinds(tree));
+            count(&mut self.slices, &slice_kinds(tree));
             self.choices += choices(tree);
             self.crossed += u64::from(chooses_in_crossed(tree));
         }
         if let [_, first, second] = trees[..] {
-            let waits = kinds(first).contains(&NONE_CHOSEN);
+            let waits = slice_kinds(first).contains(&NONE_CHOSEN);
             self.joined_later += u64::from(waits && choices(second) > 0);
             self.joined_before += u64::from(choices(first) > 0);
         }

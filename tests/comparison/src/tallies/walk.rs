@@ -4,11 +4,13 @@
 
 use second_interpreter::{empty_slice, feed_node, output_type, slice_file, Node, Slice, Type};
 
+use crate::calls::counts::Counts;
 use crate::formats::files::contents;
 use crate::formats::kinds::node_kind::{BOTH, CHAIN, CHOOSE, THEN};
 use crate::formats::trees::kind_of;
-use crate::tallies::cases::{count, name, Met};
+use crate::tallies::cases::{self, Met};
 use crate::tallies::openings::{Brought, Came, Effect, Location};
+use crate::tallies::shares::{count_unequal, Share, Unequal};
 
 /// The nodes were checked, and the slice was read against their input type.
 const FITS: &str = "a checked node takes every slice of its input";
@@ -29,6 +31,8 @@ struct Place<'a> {
 pub struct Walk {
     /// How many nodes met each case.
     pub met: Met,
+    /// How many of them sent other than as many cues and levels as came to them.
+    pub unequal: Unequal,
     /// What was done to each cue and level of the patch, from left to right.
     pub effects: Vec<Effect>,
     /// Whether what is left of a node is none of what can be.
@@ -61,7 +65,19 @@ impl Walk {
     /// one in a chain, and the type that it gives.
     fn go(&mut self, place: Place) -> (Slice, Type) {
         let waits = is_opening(place.node) && place.left == Some(place.node);
-        count(&mut self.met, name(place.node, place.slice, waits));
+        let (sent, gives) = self.sends(place, waits);
+        let case = cases::place(cases::name(place.node, place.slice, waits));
+        self.met[case] += 1;
+        let share = Share::of(Counts {
+            arrived: place.slice.arrivals(),
+            sent: sent.arrivals(),
+        });
+        count_unequal(&mut self.unequal, case, share);
+        (sent, gives)
+    }
+
+    /// What the node sends, and the type that it gives; its parts are counted.
+    fn sends(&mut self, place: Place, waits: bool) -> (Slice, Type) {
         match place.node {
             Node::Cue | Node::Level(_) => self.opening(place, waits),
             Node::Both(..) => self.both(place),

@@ -11,7 +11,7 @@ use comparison::formats::files::{
     contents, count, LONGEST_PATCH_FILE, LONGEST_SLICE_FILE, LONGEST_TYPE_FILE,
 };
 use comparison::formats::kinds::slice_kind::{FIRST_CHOSEN, NONE_CHOSEN, NOTHING, SECOND_CHOSEN};
-use comparison::formats::preorder::{choices, slice_roots};
+use comparison::formats::preorder::{arrivals, choices, slice_roots};
 use comparison::other_rules::Rule;
 use second_interpreter::{check, feed};
 
@@ -134,17 +134,17 @@ impl Wrong {
     /// The output file of a feed, and the patch left.
     fn written(&self, patch: &[u8], slice: &[u8]) -> Result<[Vec<u8>; 2], u32> {
         let (mut output, mut left) = (vec![0; LONGEST_SLICE_FILE], vec![0; LONGEST_PATCH_FILE]);
-        let (output_length, patch_length) = feed(patch, slice, &mut output, &mut left)?;
-        let short = self.is("output_buffer_of_512") && output_length > 512
-            || self.is("patch_buffer_of_8481") && patch_length > 8_481;
+        let fed = feed(patch, slice, &mut output, &mut left)?;
+        let short = self.is("output_buffer_of_512") && fed.output > 512
+            || self.is("patch_buffer_of_8481") && fed.patch > 8_481;
         if short {
             return Err(fault::NO_ROOM);
         }
         if let Some(rule) = Rule::wrong(&self.fault) {
             return rule.feed(patch, slice).ok_or(fault::SLICE_MISPLACED);
         }
-        output.truncate(output_length);
-        left.truncate(patch_length);
+        output.truncate(fed.output);
+        left.truncate(fed.patch);
         Ok([output, left])
     }
 
@@ -161,13 +161,19 @@ impl Wrong {
         } else {
             &left
         };
+        let counts = if self.is("arrivals_printed") {
+            let [arrived, sent] = [slice, &sent].map(|file| arrivals(contents(file)));
+            format!(" {arrived} {sent}")
+        } else {
+            String::new()
+        };
         let sent = self.field(&match self.fault.as_str() {
             "second_marked_as_first" => with_other_kind(&sent, SECOND_CHOSEN, FIRST_CHOSEN),
             "none_chosen_sends_nothing" => with_other_kind(&sent, NONE_CHOSEN, NOTHING),
             _ => sent,
         });
         let rest = self.field(&printed[..2 + count(printed)]);
-        Ok((format!("0 {sent} {rest}"), left))
+        Ok((format!("0 {sent} {rest}{counts}"), left))
     }
 
     /// A file in hexadecimal, without its count.
