@@ -3,8 +3,9 @@
 -- the bytes handed in, the answer, and each lent buffer as it is afterwards. The prover shows the promise of every call, so nobody
 -- has to read it. What a reader has to believe is what the conclusions are written in: reading with the first fault (TypeFiles,
 -- SliceFiles, PatchFiles, Checking), the rules (IsPrefix and Concat in Prefixes, Takes and Allowed in Nodes, Feeds in Feeding), the
--- longest slice of a type (Longest), the arrivals of a slice (Prefixes), and what is said of calls and runs (Calls, Runs). `Bytes` says that a list of numbers is one of
--- bytes, as whatever a byte slice holds is; nobody has to test it. `Consequences` has what else follows; the laws have the proofs.
+-- longest slice of a type (Longest), the arrivals of a slice (Prefixes), and what is said of calls and runs (Calls, Runs). `Bytes`
+-- says that a list of numbers is one of bytes, as whatever a byte slice holds is; nobody has to test it. `Consequences` has what else
+-- follows; the laws have the proofs.
 use mathlib.Core.Path.{_≡_}
 use mathlib.Core.Logic.{_↔_, Iff·trans}
 use mathlib.Core.List.{List, [], _∷_, _++_}

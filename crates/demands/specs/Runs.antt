@@ -63,8 +63,9 @@ pub data Joined (t : Ty) : List (List ℕ) → Prefix → Type 0 where
 
 -- "The accepted slices joined in order, fed as one to the patch at the start with long enough buffers, are accepted too, send
 -- exactly the accepted feeds' outputs joined in order, and leave the patch that the list left, byte for byte": whatever call
--- keeps the promise. It answers the counts of the accepted feeds, added up (M-104). "Its input type is exactly what the slices taken so far, joined, leave of the input type at the start,
--- and its output type exactly what the outputs so far, joined, leave of the output type at the start."
+-- keeps the promise. It tells the counts of the accepted feeds, added up (M-104). "Its input type is exactly what the slices taken
+-- so far, joined, leave of the input type at the start, and its output type exactly what the outputs so far, joined, leave of the
+-- output type at the start."
 pub record AsOne {start : List ℕ} (patch : PatchFile start) (r : RunEnd) (next : PatchFile (r .file)) : Type 0 where
   pub slice : Prefix
   pub output : Prefix

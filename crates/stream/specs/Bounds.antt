@@ -1,5 +1,6 @@
--- How long a file can get, and the trees in it, and how much comes in a slice (document 01, Bounds; the mission). That none is longer is proved where the bytes
--- are defined: type-file-length, slice-length, slice-file-length, few-arrivals, node-length, nodes-length and patch-file-length.
+-- How long a file can get, and the trees in it, and how much can come in a slice (document 01, Bounds; the mission). That none is
+-- longer, and that no more comes, is proved where the bytes are defined: type-file-length, slice-length, slice-file-length,
+-- few-arrivals, node-length, nodes-length and patch-file-length.
 use Prim.Native.Nat.{ℕ, _+_, _*_}
 
 -- A type file: the count, and a byte for each of 255 nodes.
