@@ -1,4 +1,4 @@
-/* A small show: its patch is checked, fed slice by slice, and fed two of the slices as one. */
+/* A small show: its patch is checked, fed slice by slice, and fed two of the slices as one; what came is counted. */
 #include <stdio.h>
 #include <string.h>
 #include <wosthile.h>
@@ -18,6 +18,13 @@ static void print_file(const char *what, const uint8_t *file, size_t length)
         printf(" %d", file[place]);
     }
     printf("\n");
+}
+
+/* What a feed sends, and how many cues and levels came and were sent. */
+static void print_fed(const char *what, wosthile_fed fed)
+{
+    print_file(what, output, fed.output);
+    printf("  arrived %u, sent %u\n", fed.arrived, fed.sent);
 }
 
 struct frame {
@@ -47,7 +54,7 @@ static void feed_in_turn(void)
             printf("%s: refused with %u, and the patch stays\n", frame.what, fed.number);
             continue;
         }
-        print_file(frame.what, output, fed.output);
+        print_fed(frame.what, fed);
         uint8_t *swapped = patch;
         patch = left;
         left = swapped;
@@ -69,11 +76,12 @@ int main(void)
     print_file("comet and Saturn as one", both, joined.written);
     wosthile_fed fed =
         wosthile_feed(start, sizeof start, both, joined.written, output, sizeof output, buffers[0], sizeof buffers[0]);
-    print_file("fed as one", output, fed.output);
+    print_fed("fed as one", fed);
 
     wosthile_written rest = wosthile_left(show, sizeof show, both, joined.written, type, sizeof type);
     wosthile_admitted seen = wosthile_admit(type, rest.written, lamp, sizeof lamp);
-    printf("the lamp, of what they leave: number %u, complete %u\n", seen.number, seen.complete);
+    printf("the lamp, of what they leave: number %u, complete %u, arrived %u\n", seen.number, seen.complete,
+           seen.arrived);
     if (ferror(stdout) || fclose(stdout) != 0) {
         fprintf(stderr, "calls: standard output cannot be written\n");
         return 2;

@@ -304,9 +304,9 @@ wosthile_written wosthile_join(const uint8_t *type, size_t type_len, const uint8
  * the patch that this one was handed.
  *
  * The arrivals of the slice fed are in arrived, whatever the patch does with them, and those of the slice sent in sent:
- * both and spread can send an arrival twice, left may send none of them, and a cue or level node sends one of its own.
- * What goes from one node to another inside the patch is not sent. A slice that brings nothing has 0 arrived and may
- * still have some sent.
+ * both and spread can send an arrival twice, left may send none of them, and a cue or level node sends one of its own,
+ * once. What goes from one node to another inside the patch is not sent. A slice with no arrival may make the patch send
+ * some.
  *
  * What a node sends and leaves; b and c are complete, and p, q and r are any slices.
  *
@@ -347,9 +347,9 @@ wosthile_written wosthile_join(const uint8_t *type, size_t type_len, const uint8
  * The empty slice of a type says that nothing has come: 0, 1 or 3 at its leaves, 5 with the empty slice of the first
  * part, 7 with both empty, 8 alone.
  *
- * Cue and level wait for the first arrival in the slice that they themselves are fed, of the type that they take: on
+ * Cue and level wait until something comes in the slice that they themselves are fed, of the type that they take: on
  * type 4 1 1 the nodes 10 5 2, a cue on the left side, send 1 for the slice 7 1 2. A 6, a 9 or a 10 is no empty slice,
- * even with nothing come in it. Of a nullable type the empty slice is complete, so on such a type they send at their
+ * even with no arrival in it. Of a nullable type the empty slice is complete, so on such a type they send at their
  * first feed: 10 14 9 2 0 puts a cue in front of the show, and 10 1 0 2 is a cue that does not wait. Front, mark first
  * and mark second act at their first feed on every type.
  */

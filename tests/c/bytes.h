@@ -18,7 +18,7 @@ struct bytes {
 
 /*
  * RAW is a file byte by byte; FILE_OF is the file of one section, given by its contents; PATCH_OF is the file of two,
- * each given by its contents in parentheses.
+ * each given by its contents in parentheses. COUNTS are those of a feed: what arrived, and what was sent.
  */
 /* clang-format off */
 #define LENGTH(...) sizeof((const uint8_t[]){__VA_ARGS__})
@@ -27,17 +27,22 @@ struct bytes {
 #define PATCH_OF(type, nodes) RAW(0, LENGTH type, CONTENTS type, 0, LENGTH nodes, CONTENTS nodes)
 #define CONTENTS(...) __VA_ARGS__
 #define NONE {NULL, 0}
+#define COUNTS(arrived, sent) {arrived, sent}
 /* clang-format on */
 
 static int passed, failed;
 
-/* Counts what holds or does not; which of several it was is the length of a buffer in most tests. */
+enum { FAILURES_TOLD = 100 };
+
+/*
+ * Counts what holds or does not; which of several it was is the length of a buffer in most tests. What does not hold is
+ * told, but not more often than can be read: a wrong library may fail a million times.
+ */
 static inline void count(bool holds, const char *what, const char *name, size_t which)
 {
     if (holds) {
         passed++;
-    } else {
-        failed++;
+    } else if (++failed <= FAILURES_TOLD) {
         printf("%s, %s, %zu: FAILED\n", what, name, which);
     }
 }
@@ -90,6 +95,43 @@ static inline bool holds(const uint8_t *memory, size_t room, struct bytes answer
         }
     }
     return true;
+}
+
+/* The arrivals of a feed: how many cues and levels came in the slice, and how many are in the slice sent. */
+struct counts {
+    uint32_t arrived, sent;
+};
+
+static const struct counts nothing_counted = COUNTS(0, 0);
+
+static inline bool same_counts(struct counts one, struct counts other)
+{
+    return one.arrived == other.arrived && one.sent == other.sent;
+}
+
+static inline struct counts counts_of(wosthile_fed fed) { return (struct counts){fed.arrived, fed.sent}; }
+
+/* A refusal: its number, and 0 for everything else. */
+static inline bool is_refusal(wosthile_fed fed, uint32_t number)
+{
+    return fed.number == number && fed.output == 0 && fed.patch == 0 && fed.arrived == 0 && fed.sent == 0;
+}
+
+static inline struct counts sum_of(struct counts one, struct counts other)
+{
+    return (struct counts){one.arrived + other.arrived, one.sent + other.sent};
+}
+
+/* The arrivals in the file of an accepted slice: its kinds 2 and 4. Behind a 4 is the value, which has no kinds. */
+static inline uint32_t arrivals_in(struct bytes slice)
+{
+    uint32_t arrivals = 0;
+    for (size_t place = 2; place < slice.count; place++) {
+        bool level = slice.at[place] == WOSTHILE_SLICE_LEVEL_COME;
+        arrivals += level || slice.at[place] == WOSTHILE_SLICE_CUE_COME;
+        place += level ? 2 : 0;
+    }
+    return arrivals;
 }
 
 /* A section that begins with a few bytes, then repeats others so many times, and ends in a few more. */

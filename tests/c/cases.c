@@ -165,92 +165,93 @@ struct admit_row {
 };
 
 static const struct admit_row admit_rows[] = {
-    {"empty", FILE_OF(0), FILE_OF(0), {0, 1}},
-    {"cue not yet", FILE_OF(1), FILE_OF(1), {0, 0}},
-    {"cue come", FILE_OF(1), FILE_OF(2), {0, 1}},
-    {"level not yet", FILE_OF(2), FILE_OF(3), {0, 0}},
-    {"level 0 come is not level not yet", FILE_OF(2), FILE_OF(4, 0, 0), {0, 1}},
-    {"level 65535 come", FILE_OF(2), FILE_OF(4, 255, 255), {0, 1}},
-    {"value bytes are no kinds", FILE_OF(4, 2, 1), FILE_OF(7, 4, 200, 8, 2), {0, 1}},
-    {"first part has come and is not crossed", FILE_OF(3, 1, 1), FILE_OF(5, 2), {0, 0}},
-    {"crossed", FILE_OF(3, 1, 1), FILE_OF(6, 2, 1), {0, 0}},
-    {"crossed, and the second part has come", FILE_OF(3, 1, 1), FILE_OF(6, 2, 2), {0, 1}},
-    {"empty in sequence with empty still owes its crossing", FILE_OF(3, 0, 0), FILE_OF(5, 0), {0, 0}},
-    {"empty crossed to empty", FILE_OF(3, 0, 0), FILE_OF(6, 0, 0), {0, 1}},
-    {"one side has come", FILE_OF(4, 1, 2), FILE_OF(7, 2, 3), {0, 0}},
-    {"both sides have come", FILE_OF(4, 1, 2), FILE_OF(7, 2, 4, 1, 0), {0, 1}},
-    {"none chosen", FILE_OF(5, 1, 2), FILE_OF(8), {0, 0}},
-    {"first chosen, nothing has come", FILE_OF(5, 1, 2), FILE_OF(9, 1), {0, 0}},
-    {"first chosen, and it has come", FILE_OF(5, 1, 2), FILE_OF(9, 2), {0, 1}},
-    {"second chosen, nothing has come", FILE_OF(5, 1, 2), FILE_OF(10, 3), {0, 0}},
-    {"second chosen, and it has come", FILE_OF(5, 1, 2), FILE_OF(10, 4, 0, 0), {0, 1}},
-    {"either of empty and empty still owes its choice", FILE_OF(5, 0, 0), FILE_OF(8), {0, 0}},
-    {"empty chosen", FILE_OF(5, 0, 0), FILE_OF(9, 0), {0, 1}},
-    {"the other empty chosen", FILE_OF(5, 0, 0), FILE_OF(10, 0), {0, 1}},
-    {"a choice in a choice", FILE_OF(5, 5, 1, 2, 1), FILE_OF(9, 10, 4, 1, 1), {0, 1}},
-    {"none chosen in a choice", FILE_OF(5, 5, 1, 2, 1), FILE_OF(9, 8), {0, 0}},
-    {"the part behind a larger one is chosen", FILE_OF(5, 3, 4, 1, 2, 1, 2), FILE_OF(10, 3), {0, 0}},
-    {"a crossing in a choice", FILE_OF(5, 3, 1, 1, 2), FILE_OF(9, 6, 2, 2), {0, 1}},
-    {"a choice in a crossed first part", FILE_OF(3, 5, 1, 2, 1), FILE_OF(6, 9, 2, 1), {0, 0}},
-    {"a choice in a crossed first part, all has come", FILE_OF(3, 5, 1, 2, 1), FILE_OF(6, 10, 4, 0, 7, 2), {0, 1}},
-    {"none chosen in a crossed second part", FILE_OF(3, 1, 5, 1, 2), FILE_OF(6, 2, 8), {0, 0}},
-    {"one side chosen", FILE_OF(4, 5, 1, 2, 5, 1, 2), FILE_OF(7, 9, 2, 8), {0, 0}},
-    {"both sides chosen", FILE_OF(4, 5, 1, 2, 5, 1, 2), FILE_OF(7, 9, 2, 10, 4, 8, 9), {0, 1}},
+    {"empty", FILE_OF(0), FILE_OF(0), {0, 1, 0}},
+    {"cue not yet", FILE_OF(1), FILE_OF(1), {0, 0, 0}},
+    {"cue come", FILE_OF(1), FILE_OF(2), {0, 1, 1}},
+    {"level not yet", FILE_OF(2), FILE_OF(3), {0, 0, 0}},
+    {"level 0 come is not level not yet", FILE_OF(2), FILE_OF(4, 0, 0), {0, 1, 1}},
+    {"level 65535 come", FILE_OF(2), FILE_OF(4, 255, 255), {0, 1, 1}},
+    {"value bytes are no kinds", FILE_OF(4, 2, 1), FILE_OF(7, 4, 200, 8, 2), {0, 1, 2}},
+    {"value bytes are no arrivals", FILE_OF(2), FILE_OF(4, 2, 4), {0, 1, 1}},
+    {"first part has come and is not crossed", FILE_OF(3, 1, 1), FILE_OF(5, 2), {0, 0, 1}},
+    {"crossed", FILE_OF(3, 1, 1), FILE_OF(6, 2, 1), {0, 0, 1}},
+    {"crossed, and the second part has come", FILE_OF(3, 1, 1), FILE_OF(6, 2, 2), {0, 1, 2}},
+    {"empty in sequence with empty still owes its crossing", FILE_OF(3, 0, 0), FILE_OF(5, 0), {0, 0, 0}},
+    {"empty crossed to empty", FILE_OF(3, 0, 0), FILE_OF(6, 0, 0), {0, 1, 0}},
+    {"one side has come", FILE_OF(4, 1, 2), FILE_OF(7, 2, 3), {0, 0, 1}},
+    {"both sides have come", FILE_OF(4, 1, 2), FILE_OF(7, 2, 4, 1, 0), {0, 1, 2}},
+    {"none chosen", FILE_OF(5, 1, 2), FILE_OF(8), {0, 0, 0}},
+    {"first chosen, nothing has come", FILE_OF(5, 1, 2), FILE_OF(9, 1), {0, 0, 0}},
+    {"first chosen, and it has come", FILE_OF(5, 1, 2), FILE_OF(9, 2), {0, 1, 1}},
+    {"second chosen, nothing has come", FILE_OF(5, 1, 2), FILE_OF(10, 3), {0, 0, 0}},
+    {"second chosen, and it has come", FILE_OF(5, 1, 2), FILE_OF(10, 4, 0, 0), {0, 1, 1}},
+    {"either of empty and empty still owes its choice", FILE_OF(5, 0, 0), FILE_OF(8), {0, 0, 0}},
+    {"empty chosen", FILE_OF(5, 0, 0), FILE_OF(9, 0), {0, 1, 0}},
+    {"the other empty chosen", FILE_OF(5, 0, 0), FILE_OF(10, 0), {0, 1, 0}},
+    {"a choice in a choice", FILE_OF(5, 5, 1, 2, 1), FILE_OF(9, 10, 4, 1, 1), {0, 1, 1}},
+    {"none chosen in a choice", FILE_OF(5, 5, 1, 2, 1), FILE_OF(9, 8), {0, 0, 0}},
+    {"the part behind a larger one is chosen", FILE_OF(5, 3, 4, 1, 2, 1, 2), FILE_OF(10, 3), {0, 0, 0}},
+    {"a crossing in a choice", FILE_OF(5, 3, 1, 1, 2), FILE_OF(9, 6, 2, 2), {0, 1, 2}},
+    {"a choice in a crossed first part", FILE_OF(3, 5, 1, 2, 1), FILE_OF(6, 9, 2, 1), {0, 0, 1}},
+    {"a choice in a crossed first part, all has come", FILE_OF(3, 5, 1, 2, 1), FILE_OF(6, 10, 4, 0, 7, 2), {0, 1, 2}},
+    {"none chosen in a crossed second part", FILE_OF(3, 1, 5, 1, 2), FILE_OF(6, 2, 8), {0, 0, 1}},
+    {"one side chosen", FILE_OF(4, 5, 1, 2, 5, 1, 2), FILE_OF(7, 9, 2, 8), {0, 0, 1}},
+    {"both sides chosen", FILE_OF(4, 5, 1, 2, 5, 1, 2), FILE_OF(7, 9, 2, 10, 4, 8, 9), {0, 1, 2}},
 
-    {"no type file", NONE, FILE_OF(1), {1, 0}},
-    {"type file of one byte", RAW(0), FILE_OF(1), {1, 0}},
-    {"type section without contents", RAW(0, 0), FILE_OF(1), {1, 0}},
-    {"type section longer than the file", RAW(0, 2, 1), FILE_OF(1), {1, 0}},
-    {"length before contents", RAW(0, 2, 200), FILE_OF(1), {1, 0}},
-    {"type section that claims 65535 bytes", RAW(255, 255, 1), FILE_OF(1), {1, 0}},
-    {"type tree cut short", FILE_OF(3, 1), FILE_OF(5, 1), {1, 0}},
-    {"unlisted type kind", FILE_OF(200), FILE_OF(1), {2, 0}},
-    {"unlisted type kind below", FILE_OF(4, 1, 19), FILE_OF(7, 1, 1), {2, 0}},
-    {"bytes after the type", FILE_OF(1, 1), FILE_OF(1), {3, 0}},
-    {"bytes after the type are not looked at", FILE_OF(1, 200), FILE_OF(1), {3, 0}},
-    {"bytes after the type section", RAW(0, 1, 1, 0), FILE_OF(1), {3, 0}},
-    {"the type before the slice", FILE_OF(1, 1), FILE_OF(200), {3, 0}},
+    {"no type file", NONE, FILE_OF(1), {1, 0, 0}},
+    {"type file of one byte", RAW(0), FILE_OF(1), {1, 0, 0}},
+    {"type section without contents", RAW(0, 0), FILE_OF(1), {1, 0, 0}},
+    {"type section longer than the file", RAW(0, 2, 1), FILE_OF(1), {1, 0, 0}},
+    {"length before contents", RAW(0, 2, 200), FILE_OF(1), {1, 0, 0}},
+    {"type section that claims 65535 bytes", RAW(255, 255, 1), FILE_OF(1), {1, 0, 0}},
+    {"type tree cut short", FILE_OF(3, 1), FILE_OF(5, 1), {1, 0, 0}},
+    {"unlisted type kind", FILE_OF(200), FILE_OF(1), {2, 0, 0}},
+    {"unlisted type kind below", FILE_OF(4, 1, 19), FILE_OF(7, 1, 1), {2, 0, 0}},
+    {"bytes after the type", FILE_OF(1, 1), FILE_OF(1), {3, 0, 0}},
+    {"bytes after the type are not looked at", FILE_OF(1, 200), FILE_OF(1), {3, 0, 0}},
+    {"bytes after the type section", RAW(0, 1, 1, 0), FILE_OF(1), {3, 0, 0}},
+    {"the type before the slice", FILE_OF(1, 1), FILE_OF(200), {3, 0, 0}},
 
-    {"no slice file", FILE_OF(1), NONE, {11, 0}},
-    {"slice file of one byte", FILE_OF(1), RAW(0), {11, 0}},
-    {"slice section without contents", FILE_OF(1), RAW(0, 0), {11, 0}},
-    {"slice section longer than the file", FILE_OF(1), RAW(0, 2, 200), {11, 0}},
-    {"slice tree cut short", FILE_OF(4, 1, 1), FILE_OF(7, 2), {11, 0}},
-    {"level without its value", FILE_OF(2), FILE_OF(4), {11, 0}},
-    {"level with half its value", FILE_OF(2), FILE_OF(4, 1), {11, 0}},
-    {"first chosen without its slice", FILE_OF(5, 1, 2), FILE_OF(9), {11, 0}},
-    {"second chosen without its slice", FILE_OF(5, 1, 2), FILE_OF(10), {11, 0}},
-    {"second chosen with half a value", FILE_OF(5, 1, 2), FILE_OF(10, 4, 1), {11, 0}},
-    {"unlisted slice kind", FILE_OF(1), FILE_OF(200), {12, 0}},
-    {"unlisted slice kind in a crossed first part", FILE_OF(3, 1, 1), FILE_OF(6, 15), {12, 0}},
-    {"unlisted slice kind of an either", FILE_OF(5, 1, 2), FILE_OF(15), {12, 0}},
-    {"unlisted slice kind of a chosen part", FILE_OF(5, 1, 2), FILE_OF(9, 15), {12, 0}},
-    {"bytes after the slice", FILE_OF(1), FILE_OF(2, 1), {13, 0}},
-    {"bytes after the slice are not looked at", FILE_OF(1), FILE_OF(2, 200), {13, 0}},
-    {"bytes after the slice section", FILE_OF(1), RAW(0, 1, 2, 0), {13, 0}},
-    {"bytes after none chosen", FILE_OF(5, 1, 2), FILE_OF(8, 1), {13, 0}},
-    {"case 7, a crossed first part that has not come", FILE_OF(3, 1, 1), FILE_OF(6, 1, 1), {14, 0}},
-    {"level not yet in a crossed first part", FILE_OF(3, 2, 1), FILE_OF(6, 3, 1), {14, 0}},
-    {"uncrossed in a crossed first part", FILE_OF(3, 3, 1, 1, 1), FILE_OF(6, 5, 2, 1), {14, 0}},
-    {"the second of a crossed first part", FILE_OF(3, 3, 1, 1, 1), FILE_OF(6, 6, 2, 1, 1), {14, 0}},
-    {"one side of a crossed first part", FILE_OF(3, 4, 1, 1, 1), FILE_OF(6, 7, 2, 1, 1), {14, 0}},
-    {"at the byte, before the cut", FILE_OF(3, 4, 1, 1, 1), FILE_OF(6, 7, 1), {14, 0}},
-    {"at the byte, before the unlisted kind", FILE_OF(3, 4, 1, 1, 1), FILE_OF(6, 7, 1, 200), {14, 0}},
-    {"a kind of another type", FILE_OF(1), FILE_OF(3), {14, 0}},
-    {"the kind before its value", FILE_OF(1), FILE_OF(4, 1), {14, 0}},
-    {"side by side on a sequence", FILE_OF(3, 1, 1), FILE_OF(7, 2, 1), {14, 0}},
-    {"none chosen of a cue", FILE_OF(1), FILE_OF(8), {14, 0}},
-    {"first chosen of empty", FILE_OF(0), FILE_OF(9, 0), {14, 0}},
-    {"second chosen of side by side", FILE_OF(4, 1, 1), FILE_OF(10, 1), {14, 0}},
-    {"in the first part of an either", FILE_OF(5, 1, 1), FILE_OF(5, 1), {14, 0}},
-    {"side by side on an either", FILE_OF(5, 1, 1), FILE_OF(7, 1, 1), {14, 0}},
-    {"a slice of a part without its mark", FILE_OF(5, 1, 1), FILE_OF(1), {14, 0}},
-    {"first chosen with a slice of the second", FILE_OF(5, 1, 2), FILE_OF(9, 3), {14, 0}},
-    {"second chosen with a slice of the first", FILE_OF(5, 1, 2), FILE_OF(10, 1), {14, 0}},
-    {"none chosen in a crossed first part", FILE_OF(3, 5, 1, 2, 1), FILE_OF(6, 8, 1), {14, 0}},
-    {"a choice alone in a crossed first part", FILE_OF(3, 5, 1, 2, 1), FILE_OF(6, 9, 1, 1), {14, 0}},
-    {"none chosen of empty in a crossed first part", FILE_OF(3, 5, 0, 0, 1), FILE_OF(6, 8, 1), {14, 0}},
-    {"none chosen at the byte, before the cut", FILE_OF(3, 5, 1, 2, 1), FILE_OF(6, 8), {14, 0}},
+    {"no slice file", FILE_OF(1), NONE, {11, 0, 0}},
+    {"slice file of one byte", FILE_OF(1), RAW(0), {11, 0, 0}},
+    {"slice section without contents", FILE_OF(1), RAW(0, 0), {11, 0, 0}},
+    {"slice section longer than the file", FILE_OF(1), RAW(0, 2, 200), {11, 0, 0}},
+    {"slice tree cut short", FILE_OF(4, 1, 1), FILE_OF(7, 2), {11, 0, 0}},
+    {"level without its value", FILE_OF(2), FILE_OF(4), {11, 0, 0}},
+    {"level with half its value", FILE_OF(2), FILE_OF(4, 1), {11, 0, 0}},
+    {"first chosen without its slice", FILE_OF(5, 1, 2), FILE_OF(9), {11, 0, 0}},
+    {"second chosen without its slice", FILE_OF(5, 1, 2), FILE_OF(10), {11, 0, 0}},
+    {"second chosen with half a value", FILE_OF(5, 1, 2), FILE_OF(10, 4, 1), {11, 0, 0}},
+    {"unlisted slice kind", FILE_OF(1), FILE_OF(200), {12, 0, 0}},
+    {"unlisted slice kind in a crossed first part", FILE_OF(3, 1, 1), FILE_OF(6, 15), {12, 0, 0}},
+    {"unlisted slice kind of an either", FILE_OF(5, 1, 2), FILE_OF(15), {12, 0, 0}},
+    {"unlisted slice kind of a chosen part", FILE_OF(5, 1, 2), FILE_OF(9, 15), {12, 0, 0}},
+    {"bytes after the slice", FILE_OF(1), FILE_OF(2, 1), {13, 0, 0}},
+    {"bytes after the slice are not looked at", FILE_OF(1), FILE_OF(2, 200), {13, 0, 0}},
+    {"bytes after the slice section", FILE_OF(1), RAW(0, 1, 2, 0), {13, 0, 0}},
+    {"bytes after none chosen", FILE_OF(5, 1, 2), FILE_OF(8, 1), {13, 0, 0}},
+    {"case 7, a crossed first part that has not come", FILE_OF(3, 1, 1), FILE_OF(6, 1, 1), {14, 0, 0}},
+    {"level not yet in a crossed first part", FILE_OF(3, 2, 1), FILE_OF(6, 3, 1), {14, 0, 0}},
+    {"uncrossed in a crossed first part", FILE_OF(3, 3, 1, 1, 1), FILE_OF(6, 5, 2, 1), {14, 0, 0}},
+    {"the second of a crossed first part", FILE_OF(3, 3, 1, 1, 1), FILE_OF(6, 6, 2, 1, 1), {14, 0, 0}},
+    {"one side of a crossed first part", FILE_OF(3, 4, 1, 1, 1), FILE_OF(6, 7, 2, 1, 1), {14, 0, 0}},
+    {"at the byte, before the cut", FILE_OF(3, 4, 1, 1, 1), FILE_OF(6, 7, 1), {14, 0, 0}},
+    {"at the byte, before the unlisted kind", FILE_OF(3, 4, 1, 1, 1), FILE_OF(6, 7, 1, 200), {14, 0, 0}},
+    {"a kind of another type", FILE_OF(1), FILE_OF(3), {14, 0, 0}},
+    {"the kind before its value", FILE_OF(1), FILE_OF(4, 1), {14, 0, 0}},
+    {"side by side on a sequence", FILE_OF(3, 1, 1), FILE_OF(7, 2, 1), {14, 0, 0}},
+    {"none chosen of a cue", FILE_OF(1), FILE_OF(8), {14, 0, 0}},
+    {"first chosen of empty", FILE_OF(0), FILE_OF(9, 0), {14, 0, 0}},
+    {"second chosen of side by side", FILE_OF(4, 1, 1), FILE_OF(10, 1), {14, 0, 0}},
+    {"in the first part of an either", FILE_OF(5, 1, 1), FILE_OF(5, 1), {14, 0, 0}},
+    {"side by side on an either", FILE_OF(5, 1, 1), FILE_OF(7, 1, 1), {14, 0, 0}},
+    {"a slice of a part without its mark", FILE_OF(5, 1, 1), FILE_OF(1), {14, 0, 0}},
+    {"first chosen with a slice of the second", FILE_OF(5, 1, 2), FILE_OF(9, 3), {14, 0, 0}},
+    {"second chosen with a slice of the first", FILE_OF(5, 1, 2), FILE_OF(10, 1), {14, 0, 0}},
+    {"none chosen in a crossed first part", FILE_OF(3, 5, 1, 2, 1), FILE_OF(6, 8, 1), {14, 0, 0}},
+    {"a choice alone in a crossed first part", FILE_OF(3, 5, 1, 2, 1), FILE_OF(6, 9, 1, 1), {14, 0, 0}},
+    {"none chosen of empty in a crossed first part", FILE_OF(3, 5, 0, 0, 1), FILE_OF(6, 8, 1), {14, 0, 0}},
+    {"none chosen at the byte, before the cut", FILE_OF(3, 5, 1, 2, 1), FILE_OF(6, 8), {14, 0, 0}},
 };
 
 /* An operation that writes: Check of a patch, Left of a type and a slice, Join of a type and two, Longest of a type. */
@@ -428,6 +429,7 @@ static void check_admit(const struct admit_row *row)
     uint8_t *slice = copy_of(row->slice);
     wosthile_admitted answer = wosthile_admit(type, row->type.count, slice, row->slice.count);
     bool right = answer.number == row->answer.number && answer.complete == row->answer.complete;
+    right = right && answer.arrived == row->answer.arrived;
     count(right && unaltered(type, row->type) && unaltered(slice, row->slice), "Admit", row->name, 0);
     free(type);
     free(slice);
@@ -505,7 +507,8 @@ static void check_longest(const struct writing_row *row)
     if (row->number == WOSTHILE_ACCEPTED) {
         size_t written = wosthile_longest(row->file.at, row->file.count, slice, sizeof slice).written;
         wosthile_admitted seen = wosthile_admit(row->file.at, row->file.count, slice, written);
-        count(seen.number == 0 && seen.complete == 1, "Admit of what Longest writes", row->name, written);
+        bool counted = seen.arrived == arrivals_in((struct bytes){slice, written});
+        count(seen.number == 0 && seen.complete == 1 && counted, "Admit of what Longest writes", row->name, written);
     }
 }
 
@@ -532,13 +535,14 @@ static void check_limit(void)
     struct bytes needed = repeated(lane, 127, end), needed_unlisted = repeated(lane, 127, extra);
     struct bytes all = repeated(come, 127, last), nothing = repeated(awaited, 127, cue);
 
-    check_admit_of("255 nodes, all has come", largest, all, (wosthile_admitted){0, 1});
-    check_admit_of("255 nodes, nothing has come", largest, nothing, (wosthile_admitted){0, 0});
-    check_admit_of("257 nodes", larger, slice, (wosthile_admitted){4, 0});
-    check_admit_of("128 forks and nothing more", forks, slice, (wosthile_admitted){1, 0});
-    check_admit_of("255 forks and nothing more", more_forks, slice, (wosthile_admitted){4, 0});
-    check_admit_of("a 256th node is needed", needed, slice, (wosthile_admitted){4, 0});
-    check_admit_of("a 256th node is needed before it is unlisted", needed_unlisted, slice, (wosthile_admitted){4, 0});
+    check_admit_of("255 nodes, all has come", largest, all, (wosthile_admitted){0, 1, 128});
+    check_admit_of("255 nodes, nothing has come", largest, nothing, (wosthile_admitted){0, 0, 0});
+    check_admit_of("257 nodes", larger, slice, (wosthile_admitted){4, 0, 0});
+    check_admit_of("128 forks and nothing more", forks, slice, (wosthile_admitted){1, 0, 0});
+    check_admit_of("255 forks and nothing more", more_forks, slice, (wosthile_admitted){4, 0, 0});
+    check_admit_of("a 256th node is needed", needed, slice, (wosthile_admitted){4, 0, 0});
+    check_admit_of("a 256th node is needed before it is unlisted", needed_unlisted, slice,
+                   (wosthile_admitted){4, 0, 0});
 
     struct writing_row left = {"255 nodes, nothing has come", largest, nothing, none, 0, largest};
     check_writing(LEFT, &left);
@@ -739,10 +743,10 @@ static void check_long_files(void)
     struct bytes type_mebibyte = lengthened(type, 1 << 20), slice_mebibyte = lengthened(slice, 1 << 20);
     struct bytes type_section = lengthened(claim, 65537), slice_section = lengthened(slice_claim, 65537);
 
-    check_admit_of("a type file of a mebibyte", type_mebibyte, slice, (wosthile_admitted){3, 0});
-    check_admit_of("a slice file of a mebibyte", type, slice_mebibyte, (wosthile_admitted){13, 0});
-    check_admit_of("a type section of 65535 bytes", type_section, slice, (wosthile_admitted){3, 0});
-    check_admit_of("a slice section of 65535 bytes", type, slice_section, (wosthile_admitted){13, 0});
+    check_admit_of("a type file of a mebibyte", type_mebibyte, slice, (wosthile_admitted){3, 0, 0});
+    check_admit_of("a slice file of a mebibyte", type, slice_mebibyte, (wosthile_admitted){13, 0, 0});
+    check_admit_of("a type section of 65535 bytes", type_section, slice, (wosthile_admitted){3, 0, 0});
+    check_admit_of("a slice section of 65535 bytes", type, slice_section, (wosthile_admitted){13, 0, 0});
 
     struct writing_row join = {"128 levels come at once", levels, nothing, all, 0, all};
     count(all.count == WOSTHILE_SLICE_FILE_MAX && levels.count == WOSTHILE_TYPE_FILE_MAX, "sizes", join.name, 0);
@@ -764,9 +768,11 @@ static void check_shared_memory(void)
     const uint8_t cue[] = {0, 1, 1};
     uint8_t buffer[4] = {9, 9, 9, 9};
     wosthile_admitted seen = wosthile_admit(cue, sizeof cue, cue, sizeof cue);
-    count(seen.number == 0 && seen.complete == 0, "Admit", "type and slice are the same bytes", 0);
+    bool nothing = seen.complete == 0 && seen.arrived == 0;
+    count(seen.number == 0 && nothing, "Admit", "type and slice are the same bytes", 0);
     seen = wosthile_admit(cue, sizeof cue, cue + 1, sizeof cue - 1);
-    count(seen.number == 11, "Admit", "the slice file begins inside the type file", 0);
+    nothing = seen.complete == 0 && seen.arrived == 0;
+    count(seen.number == 11 && nothing, "Admit", "the slice file begins inside the type file", 0);
     wosthile_written joined = wosthile_join(cue, sizeof cue, cue, sizeof cue, cue, sizeof cue, buffer, sizeof buffer);
     count(joined.number == 0 && joined.written == 3 && memcmp(buffer, cue, 3) == 0 && buffer[3] == 9, "Join",
           "all three files are the same bytes", sizeof buffer);
@@ -777,7 +783,7 @@ static void check_shared_memory(void)
     checked = wosthile_check(patch, sizeof patch, buffer, 0);
     count(checked.number == 20 && checked.written == 0 && buffer[0] == 9, "Check", "a buffer of length 0", 0);
     seen = wosthile_admit(cue, 0, cue, sizeof cue);
-    count(seen.number == 1, "Admit", "a pointer with length 0", 0);
+    count(seen.number == 1 && seen.complete == 0 && seen.arrived == 0, "Admit", "a pointer with length 0", 0);
     buffer[0] = 9;
     wosthile_written left = wosthile_left(cue, sizeof cue, cue, sizeof cue, buffer, 0);
     count(left.number == 20 && left.written == 0 && buffer[0] == 9, "Left", "a pointer with length 0", 0);

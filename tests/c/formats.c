@@ -1,12 +1,13 @@
 /*
- * Holds docs/FORMATS.md to the library: runs every example on the page and compares numbers, lengths and bytes.
+ * Holds docs/FORMATS.md to the library: runs every example on the page and compares numbers, lengths, bytes and counts.
  *
  *   formats PAGE
  *
- * A fence "example" has a call with its answer on each line. A fence "dump" is a show file in hexadecimal, the table
- * whose first column is "Bytes" explains it, and a fence "run" is what the program prints for it. The page says how
- * many of all these it has, and it has to have an example for every number, for every kind that the library knows and
- * for every operation: so none is lost by a changed fence, and a new kind is not forgotten.
+ * A fence "example" has a call with its answer on each line. Where that gives no counts, the library's are held to the
+ * kinds 2 and 4 of the slices. A fence "dump" is a show file in hexadecimal, the table whose first column is "Bytes"
+ * explains it, and a fence "run" is what the program prints for it. The page says how many of all these it has, and it
+ * has to have an example for every number, for every kind that the library knows and for every operation: so none is
+ * lost by a changed fence, and a new kind is not forgotten.
  */
 #include "bytes.h"
 
@@ -154,20 +155,21 @@ struct call {
 struct answer {
     uint32_t number, complete;
     size_t lengths[2];
+    uint32_t counts[2]; /* what arrived, and what was sent */
 };
 
 static struct answer call_check(const struct call *call)
 {
     const struct bytes *patch = &call->files[0];
     wosthile_written written = wosthile_check(patch->at, patch->count, call->lent[0], call->rooms[0]);
-    return (struct answer){written.number, 0, {written.written, 0}};
+    return (struct answer){written.number, 0, {written.written, 0}, {0, 0}};
 }
 
 static struct answer call_admit(const struct call *call)
 {
     const struct bytes *type = &call->files[0], *slice = &call->files[1];
     wosthile_admitted admitted = wosthile_admit(type->at, type->count, slice->at, slice->count);
-    return (struct answer){admitted.number, admitted.complete, {0, 0}};
+    return (struct answer){admitted.number, admitted.complete, {0, 0}, {admitted.arrived, 0}};
 }
 
 static struct answer call_left(const struct call *call)
@@ -175,7 +177,7 @@ static struct answer call_left(const struct call *call)
     const struct bytes *type = &call->files[0], *slice = &call->files[1];
     wosthile_written written =
         wosthile_left(type->at, type->count, slice->at, slice->count, call->lent[0], call->rooms[0]);
-    return (struct answer){written.number, 0, {written.written, 0}};
+    return (struct answer){written.number, 0, {written.written, 0}, {0, 0}};
 }
 
 static struct answer call_join(const struct call *call)
@@ -183,7 +185,7 @@ static struct answer call_join(const struct call *call)
     const struct bytes *type = &call->files[0], *first = &call->files[1], *second = &call->files[2];
     wosthile_written written = wosthile_join(type->at, type->count, first->at, first->count, second->at, second->count,
                                              call->lent[0], call->rooms[0]);
-    return (struct answer){written.number, 0, {written.written, 0}};
+    return (struct answer){written.number, 0, {written.written, 0}, {0, 0}};
 }
 
 static struct answer call_feed(const struct call *call)
@@ -191,14 +193,14 @@ static struct answer call_feed(const struct call *call)
     const struct bytes *patch = &call->files[0], *slice = &call->files[1];
     wosthile_fed fed = wosthile_feed(patch->at, patch->count, slice->at, slice->count, call->lent[0], call->rooms[0],
                                      call->lent[1], call->rooms[1]);
-    return (struct answer){fed.number, 0, {fed.output, fed.patch}};
+    return (struct answer){fed.number, 0, {fed.output, fed.patch}, {fed.arrived, fed.sent}};
 }
 
 static struct answer call_longest(const struct call *call)
 {
     const struct bytes *type = &call->files[0];
     wosthile_written written = wosthile_longest(type->at, type->count, call->lent[0], call->rooms[0]);
-    return (struct answer){written.number, 0, {written.written, 0}};
+    return (struct answer){written.number, 0, {written.written, 0}, {0, 0}};
 }
 
 /* An operation as the page writes it. The rooms are those of its buffers where the line gives none. */
@@ -207,16 +209,17 @@ struct operation {
     size_t files, buffers;
     const char *answers[2];
     size_t rooms[2];
+    size_t counts; /* how many it has: none, what arrived, or also what was sent */
     struct answer (*call)(const struct call *call);
 };
 
 static const struct operation operations[] = {
-    {"check", 1, 1, {"gives", NULL}, {WOSTHILE_TYPE_FILE_MAX, 0}, call_check},
-    {"admit", 2, 0, {NULL, NULL}, {0, 0}, call_admit},
-    {"left", 2, 1, {"leaves", NULL}, {WOSTHILE_TYPE_FILE_MAX, 0}, call_left},
-    {"join", 3, 1, {"gives", NULL}, {WOSTHILE_SLICE_FILE_MAX, 0}, call_join},
-    {"feed", 2, 2, {"sends", "leaves"}, {WOSTHILE_SLICE_FILE_MAX, WOSTHILE_PATCH_FILE_MAX}, call_feed},
-    {"longest", 1, 1, {"gives", NULL}, {WOSTHILE_SLICE_FILE_MAX, 0}, call_longest},
+    {"check", 1, 1, {"gives", NULL}, {WOSTHILE_TYPE_FILE_MAX, 0}, 0, call_check},
+    {"admit", 2, 0, {NULL, NULL}, {0, 0}, 1, call_admit},
+    {"left", 2, 1, {"leaves", NULL}, {WOSTHILE_TYPE_FILE_MAX, 0}, 0, call_left},
+    {"join", 3, 1, {"gives", NULL}, {WOSTHILE_SLICE_FILE_MAX, 0}, 0, call_join},
+    {"feed", 2, 2, {"sends", "leaves"}, {WOSTHILE_SLICE_FILE_MAX, WOSTHILE_PATCH_FILE_MAX}, 2, call_feed},
+    {"longest", 1, 1, {"gives", NULL}, {WOSTHILE_SLICE_FILE_MAX, 0}, 0, call_longest},
 };
 
 enum { OPERATIONS = sizeof operations / sizeof operations[0] };
@@ -229,6 +232,8 @@ struct example {
     size_t number;
     bool complete;
     struct built answers[2];
+    bool counted; /* it gives the counts */
+    size_t counts[2];
 };
 
 static bool take_operation(const char **at, struct example *example)
@@ -279,19 +284,33 @@ static bool take_written(const char **at, struct example *example)
     return true;
 }
 
+/* ", arrived 1, sent 2" behind an answer gives the counts, as many as the operation has. */
+static bool take_counts(const char **at, struct example *example)
+{
+    static const char *const words[] = {"arrived", "sent"};
+    example->counted = take_word(at, ",");
+    for (size_t index = 0; example->counted && index < example->operation->counts; index++) {
+        if ((index > 0 && !take_word(at, ",")) || !take_word(at, words[index]) ||
+            !take_number(at, WOSTHILE_ARRIVALS_MAX, &example->counts[index])) {
+            return false;
+        }
+    }
+    return !example->counted || example->operation->counts > 0;
+}
+
 static bool take_answer(const char **at, struct example *example)
 {
     example->number = WOSTHILE_ACCEPTED;
-    example->complete = false;
+    example->complete = example->counted = false;
     example->answers[0].count = example->answers[1].count = 0;
     if (take_word(at, "refused")) {
         return take_number(at, 255, &example->number) && example->number != WOSTHILE_ACCEPTED;
     }
     if (example->operation->buffers > 0) {
-        return take_written(at, example);
+        return take_written(at, example) && take_counts(at, example);
     }
     example->complete = !take_word(at, "not");
-    return take_word(at, "complete");
+    return take_word(at, "complete") && take_counts(at, example);
 }
 
 /* A remark may follow behind #. */
@@ -307,10 +326,11 @@ struct page {
     size_t line; /* that is being read; 0 once all are */
     size_t differences;
     size_t examples[OPERATIONS]; /* that hold */
+    size_t counted[OPERATIONS];  /* of these, those that give counts */
     bool accepted[OPERATIONS];
     bool numbers[256], type_kinds[256], slice_kinds[256], node_kinds[256]; /* met in examples that hold */
     size_t claims;                                                         /* how often it says how many there are */
-    size_t examples_claimed, bytes_claimed, lines_claimed;
+    size_t examples_claimed, counted_claimed, bytes_claimed, lines_claimed;
     struct built show; /* the dump */
     size_t explained;  /* how many of its bytes the table has explained so far */
     size_t run_lines;
@@ -333,6 +353,7 @@ static void note(struct page *page, const struct example *example)
 {
     const uint8_t *first = example->files[0].bytes;
     page->examples[example->operation - operations]++;
+    page->counted[example->operation - operations] += example->counted;
     page->numbers[example->number] = true;
     if (example->number != WOSTHILE_ACCEPTED) {
         return;
@@ -376,6 +397,29 @@ static const char *answer_text(const char *word, struct bytes answer)
     return text;
 }
 
+/* What an operation should count, if the page does not say: nothing in a refusal, else the kinds 2 and 4 of a slice. */
+static size_t count_due(const struct example *example, size_t index)
+{
+    if (example->counted) {
+        return example->counts[index];
+    }
+    const struct built *slice = index == 0 ? &example->files[1] : &example->answers[0];
+    return example->number == WOSTHILE_ACCEPTED ? arrivals_in(built_bytes(slice)) : 0;
+}
+
+static const char *compare_counts(const struct example *example, struct answer answer)
+{
+    static char why[64];
+    for (size_t index = 0; index < example->operation->counts; index++) {
+        if (answer.counts[index] != count_due(example, index)) {
+            snprintf(why, sizeof why, "the library counts %u as %s", answer.counts[index],
+                     index == 0 ? "arrived" : "sent");
+            return why;
+        }
+    }
+    return NULL;
+}
+
 /* Why the answer is not the one that the page claims; NULL if it is. */
 static const char *compare(const struct example *example, struct answer answer, uint8_t *const memory[2])
 {
@@ -395,7 +439,7 @@ static const char *compare(const struct example *example, struct answer answer, 
             return answer_text(operation->answers[index], written);
         }
     }
-    return NULL;
+    return compare_counts(example, answer);
 }
 
 static void run_example(struct page *page, const char *text)
@@ -476,9 +520,9 @@ static void take_run_line(struct page *page, const char *text)
 static void take_claim(struct page *page, const char *text)
 {
     page->claims++;
-    if (sscanf(text, "This page has %zu examples, a show of %zu bytes and a run of %zu lines", &page->examples_claimed,
-               &page->bytes_claimed, &page->lines_claimed) != 3) {
-        differs(page, text, "this line does not say how many examples, bytes and lines there are");
+    if (sscanf(text, "This page has %zu examples, %zu of them with counts, a show of %zu bytes and a run of %zu lines",
+               &page->examples_claimed, &page->counted_claimed, &page->bytes_claimed, &page->lines_claimed) != 4) {
+        differs(page, text, "this line does not say how many examples, counts, bytes and lines there are");
     }
 }
 
@@ -646,27 +690,38 @@ static void demand_all(struct page *page, const char *what, bool (*listed)(uint8
     printf("%s: %zu, with examples for %zu\n", what, count, met_count);
 }
 
-static size_t demand_operations(struct page *page)
+static void demand_operations(struct page *page)
 {
-    size_t examples = 0;
     for (size_t index = 0; index < OPERATIONS; index++) {
         if (!page->accepted[index]) {
             differs(page, operations[index].word, "no accepted example holds");
         }
-        printf("%s: %zu examples\n", operations[index].word, page->examples[index]);
-        examples += page->examples[index];
+        if (operations[index].counts > 0 && page->counted[index] == 0) {
+            differs(page, operations[index].word, "no example with counts holds");
+        }
+        printf("%s: %zu examples, %zu with counts\n", operations[index].word, page->examples[index],
+               page->counted[index]);
     }
-    return examples;
 }
 
-static void demand_claim(struct page *page, size_t examples)
+static size_t sum(const size_t numbers[OPERATIONS])
 {
-    if (page->claims != 1 || page->examples_claimed != examples || page->bytes_claimed != page->show.count ||
-        page->lines_claimed != page->run_lines) {
+    size_t sum = 0;
+    for (size_t index = 0; index < OPERATIONS; index++) {
+        sum += numbers[index];
+    }
+    return sum;
+}
+
+static void demand_claim(struct page *page)
+{
+    size_t examples = sum(page->examples), counted = sum(page->counted);
+    if (page->claims != 1 || page->examples_claimed != examples || page->counted_claimed != counted ||
+        page->bytes_claimed != page->show.count || page->lines_claimed != page->run_lines) {
         char why[128];
-        snprintf(why, sizeof why, "%zu examples hold, the show has %zu bytes and the run %zu lines", examples,
-                 page->show.count, page->run_lines);
-        differs(page, "the page does not say once how many examples, bytes and lines it has", why);
+        snprintf(why, sizeof why, "%zu examples hold, %zu with counts, the show has %zu bytes and the run %zu lines",
+                 examples, counted, page->show.count, page->run_lines);
+        differs(page, "the page does not say once how many examples, counts, bytes and lines it has", why);
     }
     if (page->explained != page->show.count) {
         differs(page, "the dump", "not every byte is explained");
@@ -677,7 +732,8 @@ static void demand_claim(struct page *page, size_t examples)
 static void demand_whole(struct page *page)
 {
     compare_run(page);
-    demand_claim(page, demand_operations(page));
+    demand_operations(page);
+    demand_claim(page);
     demand_all(page, "numbers", number_listed, page->numbers);
     demand_all(page, "kinds of types", type_kind_listed, page->type_kinds);
     demand_all(page, "kinds of slices", slice_kind_listed, page->slice_kinds);

@@ -1,6 +1,7 @@
 /*
- * The header and the archive agree: on the interface, and on every kind and every number that the header names. Each is
- * tried by a feed. The header cannot name a kind that the library lacks, or lack one that the library has.
+ * The header and the archive agree: on the interface, on where each part of an answer is, and on every kind and every
+ * number that the header names. Each is tried by a feed. The header cannot name a kind that the library lacks, or lack
+ * one that the library has.
  */
 #include "bytes.h"
 
@@ -160,12 +161,17 @@ static bool names_number(unsigned number)
     return false;
 }
 
-/* The number of a feed whose buffers have room for any answer, or for none. */
+/* The number of a feed whose buffers have room for any answer, or for none; a refusal says nothing else. */
 static uint32_t number_of_feed(struct bytes patch, struct bytes slice, bool room)
 {
     static uint8_t output[WOSTHILE_SLICE_FILE_MAX], left[WOSTHILE_PATCH_FILE_MAX];
     size_t output_room = room ? sizeof output : 0, left_room = room ? sizeof left : 0;
-    return wosthile_feed(patch.at, patch.count, slice.at, slice.count, output, output_room, left, left_room).number;
+    wosthile_fed fed =
+        wosthile_feed(patch.at, patch.count, slice.at, slice.count, output, output_room, left, left_room);
+    if (fed.number != WOSTHILE_ACCEPTED) {
+        count(is_refusal(fed, fed.number), "Feed", "a refusal is its number alone", fed.number);
+    }
+    return fed.number;
 }
 
 /* The numbers of feeds in which a byte is alone where a type, a slice or the nodes are due. */
@@ -239,8 +245,91 @@ static void check_numbers(void)
     }
 }
 
+/*
+ * The answers of this interface, and where the parts of each are. Whoever changes one of these changes WOSTHILE_ABI,
+ * without which a program that was compiled before would read them wrongly.
+ */
+enum { INTERFACE = 2 };
+
+enum { WRITTEN_BYTES = 16, WRITTEN_LENGTH = 8 };
+enum { ADMITTED_BYTES = 12, ADMITTED_COMPLETE = 4, ADMITTED_ARRIVED = 8 };
+enum { FED_BYTES = 32, FED_OUTPUT = 8, FED_PATCH = 16, FED_ARRIVED = 24, FED_SENT = 28 };
+
+/* The number of so many bytes that an answer has at a place. */
+static uint64_t part_of(const void *answer, size_t place, size_t bytes)
+{
+    uint64_t part = 0;
+    memcpy(&part, (const uint8_t *)answer + place, bytes); /* low byte first, as on every x86-64 */
+    return part;
+}
+
+static void check_sizes(void)
+{
+    count(WOSTHILE_ABI == INTERFACE, "interface", "the number of these answers", WOSTHILE_ABI);
+    count(sizeof(wosthile_written) == WRITTEN_BYTES, "size", "wosthile_written", sizeof(wosthile_written));
+    count(sizeof(wosthile_admitted) == ADMITTED_BYTES, "size", "wosthile_admitted", sizeof(wosthile_admitted));
+    count(sizeof(wosthile_fed) == FED_BYTES, "size", "wosthile_fed", sizeof(wosthile_fed));
+    count(offsetof(wosthile_written, number) == 0, "place", "written: number", 0);
+    count(offsetof(wosthile_written, written) == WRITTEN_LENGTH, "place", "written: written", 0);
+    count(offsetof(wosthile_admitted, number) == 0, "place", "admitted: number", 0);
+    count(offsetof(wosthile_admitted, complete) == ADMITTED_COMPLETE, "place", "admitted: complete", 0);
+    count(offsetof(wosthile_admitted, arrived) == ADMITTED_ARRIVED, "place", "admitted: arrived", 0);
+    count(offsetof(wosthile_fed, number) == 0, "place", "fed: number", 0);
+    count(offsetof(wosthile_fed, output) == FED_OUTPUT, "place", "fed: output", 0);
+    count(offsetof(wosthile_fed, patch) == FED_PATCH, "place", "fed: patch", 0);
+    count(offsetof(wosthile_fed, arrived) == FED_ARRIVED, "place", "fed: arrived", 0);
+    count(offsetof(wosthile_fed, sent) == FED_SENT, "place", "fed: sent", 0);
+}
+
+/* Answers whose parts are all different: the archive writes each at its place, accepted and refused. */
+static void check_places(void)
+{
+    static uint8_t output[WOSTHILE_SLICE_FILE_MAX], left[WOSTHILE_PATCH_FILE_MAX];
+    const struct bytes patch = PATCH_OF((4, 1, 4, 1, 1), (4, 0, 0)), type = FILE_OF(4, 1, 4, 1, 1);
+    const struct bytes slice = FILE_OF(7, 2, 7, 2, 2), cut = FILE_OF(7, 2);
+    wosthile_admitted seen = wosthile_admit(type.at, type.count, slice.at, slice.count);
+    bool right = part_of(&seen, 0, 4) == 0 && part_of(&seen, ADMITTED_COMPLETE, 4) == 1;
+    count(right && part_of(&seen, ADMITTED_ARRIVED, 4) == 3, "Admit", "each part at its place", seen.arrived);
+    seen = wosthile_admit(type.at, type.count, cut.at, cut.count);
+    right = part_of(&seen, 0, 4) == 11 && part_of(&seen, ADMITTED_COMPLETE, 8) == 0;
+    count(right, "Admit", "a refusal at its place", seen.number);
+
+    wosthile_fed fed =
+        wosthile_feed(patch.at, patch.count, slice.at, slice.count, output, sizeof output, left, sizeof left);
+    right = part_of(&fed, 0, 4) == 0 && part_of(&fed, FED_OUTPUT, 8) == 13 && part_of(&fed, FED_PATCH, 8) == 12;
+    right = right && part_of(&fed, FED_ARRIVED, 4) == 3 && part_of(&fed, FED_SENT, 4) == 6;
+    count(right, "Feed", "each part at its place", fed.sent);
+    fed = wosthile_feed(patch.at, patch.count, cut.at, cut.count, output, sizeof output, left, sizeof left);
+    right = part_of(&fed, 0, 4) == 11 && part_of(&fed, FED_OUTPUT, 8) == 0 && part_of(&fed, FED_PATCH, 8) == 0;
+    count(right && part_of(&fed, FED_ARRIVED, 8) == 0, "Feed", "a refusal at its place", fed.number);
+
+    wosthile_written written = wosthile_check(patch.at, patch.count, output, sizeof output);
+    right = part_of(&written, 0, 4) == 0 && part_of(&written, WRITTEN_LENGTH, 8) == 13;
+    count(right, "Check", "each part at its place", written.written);
+}
+
+/* The most arrivals that the header names are those of the largest type, and they are reached. */
+static void check_most_arrivals(void)
+{
+    const struct bytes lane = RAW(4, 1), cue = RAW(1), come = RAW(7, 2), last = RAW(2), pass = FILE_OF(0);
+    struct bytes type = repeated(lane, WOSTHILE_TYPE_NODES_MAX / 2, cue);
+    struct bytes slice = repeated(come, WOSTHILE_TYPE_NODES_MAX / 2, last);
+    struct bytes patch = patch_of(type, lengthened(pass, pass.count));
+    static uint8_t output[WOSTHILE_SLICE_FILE_MAX], left[WOSTHILE_PATCH_FILE_MAX];
+    wosthile_fed fed =
+        wosthile_feed(patch.at, patch.count, slice.at, slice.count, output, sizeof output, left, sizeof left);
+    count(WOSTHILE_ARRIVALS_MAX == (WOSTHILE_TYPE_NODES_MAX + 1) / 2, "the most arrivals", "of the largest type", 0);
+    count(fed.arrived == WOSTHILE_ARRIVALS_MAX && fed.sent == WOSTHILE_ARRIVALS_MAX, "the most arrivals", "are reached",
+          fed.arrived);
+    struct bytes files[] = {patch, slice};
+    release(files, sizeof files / sizeof files[0]);
+}
+
 int main(void)
 {
+    check_sizes();
+    check_places();
+    check_most_arrivals();
     count(wosthile_abi() == WOSTHILE_ABI, "interface", "the archive's and the header's", wosthile_abi());
     count(WOSTHILE_ABI_FUNCTION() == WOSTHILE_ABI, "interface", "the function named for it", WOSTHILE_ABI_FUNCTION());
     for (size_t family = 0; family < sizeof families / sizeof families[0]; family++) {

@@ -25,7 +25,7 @@ static size_t longest_length(struct bytes type)
     return wosthile_longest(type.at, type.count, slice, sizeof slice).written;
 }
 
-static void note_slice(void *context, const struct growing *slice, bool complete)
+static void note_slice(void *context, const struct growing *slice, wosthile_admitted seen)
 {
     struct found *found = context;
     uint8_t left[WOSTHILE_TYPE_FILE_MAX];
@@ -35,7 +35,7 @@ static void note_slice(void *context, const struct growing *slice, bool complete
     found->slices++;
     found->left = longest > found->left ? longest : found->left;
     found->greatest = slice->count > found->greatest ? slice->count : found->greatest;
-    if (complete && slice->count > found->first.count) {
+    if (seen.complete && slice->count > found->first.count) {
         found->first = *slice;
     }
 }

@@ -33,18 +33,20 @@ static inline struct small_file patch_with(struct bytes type, struct bytes front
     return patch;
 }
 
-/* What a feed sends and leaves; both are of no bytes if it is refused. */
+/* What a feed sends, leaves and counts; both files are of no bytes if it is refused. */
 struct answer {
     struct small_file output, left;
+    struct counts counts;
 };
 
 static inline struct answer feed(struct bytes patch, struct bytes slice)
 {
-    struct answer answer = {{{0}, 0}, {{0}, 0}};
+    struct answer answer = {{{0}, 0}, {{0}, 0}, COUNTS(0, 0)};
     wosthile_fed fed =
         wosthile_feed(patch.at, patch.count, slice.at, slice.count, answer.output.bytes, ROOM, answer.left.bytes, ROOM);
     answer.output.count = fed.output;
     answer.left.count = fed.patch;
+    answer.counts = counts_of(fed);
     return answer;
 }
 
@@ -61,6 +63,18 @@ static inline struct small_file left_of(struct bytes type, struct bytes slice)
     struct small_file left;
     left.count = wosthile_left(type.at, type.count, slice.at, slice.count, left.bytes, ROOM).written;
     return left;
+}
+
+/* The empty slice of a type: what second sends of a cue and then that type, before the crossing. */
+static inline struct small_file empty_slice_of(struct bytes type)
+{
+    const struct bytes second = RAW(8), none = NONE, not_crossed = FILE_OF(5, 1);
+    const struct small_file sequence = {{0, (uint8_t)type.count, 3, 1}, 4};
+    struct small_file input = sequence;
+    append(input.bytes + input.count, (struct bytes){type.at + 2, type.count - 2});
+    input.count += type.count - 2;
+    struct small_file patch = patch_with(file_at(&input), none, second);
+    return feed(file_at(&patch), not_crossed).output;
 }
 
 /* The input type of a patch, its first section; and its nodes, the contents of its second. */

@@ -1,6 +1,7 @@
 /*
  * Every type of a few nodes, and every slice of a type, found byte by byte: what the library calls cut short is made
- * longer, and what it accepts counts. So no rule of a type or of a slice is written down here.
+ * longer, and what it accepts counts. So no rule of a type or of a slice is written down here but one, that the
+ * arrivals of a slice are its kinds 2 and 4: every answer of Admit on the way is held to it.
  */
 #ifndef SMALL_TYPES_H
 #define SMALL_TYPES_H
@@ -30,21 +31,31 @@ static inline struct growing grown(const struct growing *growing, struct bytes b
     return longer;
 }
 
-/* The slices of a type, and what is done with each. */
+/* The slices of a type, and what is done with each that Admit accepts, and with its answer. */
 struct slices {
     struct bytes type;
     uint8_t level; /* both bytes of the value with which a level comes */
-    void (*visit)(void *context, const struct growing *slice, bool complete);
+    void (*visit)(void *context, const struct growing *slice, wosthile_admitted seen);
     void *context;
 };
+
+/* Admit says how much came in a slice; of a refused one it says nothing but its number. */
+static inline void check_admitted(wosthile_admitted seen, struct bytes slice)
+{
+    bool accepted = seen.number == WOSTHILE_ACCEPTED;
+    if (seen.arrived != (accepted ? arrivals_in(slice) : 0) || (!accepted && seen.complete != 0)) {
+        count(false, "Admit", accepted ? "the arrivals of a slice" : "a refused slice", slice.count);
+    }
+}
 
 /* Visits every accepted slice that begins with these bytes, in the order of their bytes. */
 static inline void visit_slices(const struct slices *slices, const struct growing *slice)
 {
     struct bytes type = slices->type;
     wosthile_admitted seen = wosthile_admit(type.at, type.count, slice->bytes, slice->count);
+    check_admitted(seen, growing_file(slice));
     if (seen.number == WOSTHILE_ACCEPTED) {
-        slices->visit(slices->context, slice, seen.complete == 1);
+        slices->visit(slices->context, slice, seen);
     }
     if (seen.number != WOSTHILE_FAULT_SLICE_CUT_SHORT || slice->count >= 2 + CONTENTS_MAX) {
         return;
@@ -65,11 +76,13 @@ static inline void every_slice(const struct slices *slices)
 /* Visits every type that begins with these bytes; a slice file without bytes is 11 of a type, and of nothing else. */
 static inline void visit_types(size_t nodes, const struct growing *type, void (*visit)(struct bytes type))
 {
-    uint32_t number = wosthile_admit(type->bytes, type->count, NULL, 0).number;
-    if (number == WOSTHILE_FAULT_SLICE_CUT_SHORT) {
+    const struct bytes no_slice = NONE;
+    wosthile_admitted seen = wosthile_admit(type->bytes, type->count, no_slice.at, no_slice.count);
+    check_admitted(seen, no_slice);
+    if (seen.number == WOSTHILE_FAULT_SLICE_CUT_SHORT) {
         visit(growing_file(type));
     }
-    if (number != WOSTHILE_FAULT_CUT_SHORT || type->count >= 2 + nodes) {
+    if (seen.number != WOSTHILE_FAULT_CUT_SHORT || type->count >= 2 + nodes) {
         return;
     }
     for (unsigned kind = 0; kind < 256; kind++) {

@@ -28,129 +28,147 @@ enum { FORMS = sizeof forms / sizeof forms[0] };
 /* Where the node is: second in a chain behind a node of some kind, or a part of a node of some kind. */
 enum place { BEHIND, FIRST_PART, SECOND_PART, PLACES };
 
-/* A feed by the contents of the sections. The node waits if the nodes left have it still. */
+/* A feed by the contents of the sections, and what it counts. The node waits if the nodes left have it still. */
 struct row {
     const char *name;
     unsigned kind;
     enum place place;
     struct bytes type, nodes, slice, output, type_left, nodes_left;
+    struct counts counts;
 };
 
 /* clang-format off */
-#define ROW(name, kind, place, type, nodes, slice, output, type_left, nodes_left) \
-    {name, kind, place, RAW type, RAW nodes, RAW slice, RAW output, RAW type_left, RAW nodes_left}
+#define ROW(name, kind, place, type, nodes, slice, output, type_left, nodes_left, arrived, sent) \
+    {name, kind, place, RAW type, RAW nodes, RAW slice, RAW output, RAW type_left, RAW nodes_left, {arrived, sent}}
 
 static const struct row rows[] = {
-    ROW("pass, empty", 0, BEHIND, (1), (10, 0, NODE), (1), (AWAITED), (1), (10, 0, NODE)),
-    ROW("pass, come", 0, BEHIND, (1), (10, 0, NODE), (2), (COME), (0), (10, 0, 1, 0)),
-    ROW("pass, a choice alone", 0, BEHIND, (5, 1, 1), (10, 0, NODE), (9, 1), (COME), (1), (10, 0, 1, 0)),
-    ROW("pass, a crossing alone", 0, BEHIND, (3, 0, 1), (10, 0, NODE), (6, 0, 1), (COME), (1), (10, 0, 1, 0)),
-    ROW("silent is complete", 1, BEHIND, (1), (10, 1, 0, NODE), (1), (COME), (1), (10, 1, 0, 1, 0)),
-    ROW("silent of two sides", 1, BEHIND, (1), (10, 1, 4, 0, 0, NODE), (2), (COME), (0), (10, 1, 4, 0, 0, 1, 0)),
-    ROW("cue waits too", 2, BEHIND, (1), (10, 2, NODE), (1), (AWAITED), (1), (10, 2, NODE)),
-    ROW("cue opens too", 2, BEHIND, (1), (10, 2, NODE), (2), (COME), (0), (10, 1, 0, 1, 0)),
-    ROW("cue on empty", 2, BEHIND, (0), (10, 2, NODE), (0), (COME), (0), (10, 1, 0, 1, 0)),
-    ROW("level waits too", 3, BEHIND, (1), (10, 3, 0, 0, NODE), (1), (AWAITED), (1), (10, 3, 0, 0, NODE)),
-    ROW("level opens too", 3, BEHIND, (1), (10, 3, 0, 0, NODE), (2), (COME), (0), (10, 1, 0, 1, 0)),
-    ROW("both, empty", 4, BEHIND, (1), (10, 4, 0, 0, NODE), (1), (AWAITED), (1), (10, 4, 0, 0, NODE)),
-    ROW("both, come", 4, BEHIND, (1), (10, 4, 0, 0, NODE), (2), (COME), (0), (10, 4, 0, 0, 1, 0)),
-    ROW("both, one side silent", 4, BEHIND, (1), (10, 4, 1, 0, 0, NODE), (1), (AWAITED), (1), (10, 4, 1, 0, 0, NODE)),
-    ROW("both, two silent", 4, BEHIND, (1), (10, 4, 1, 0, 1, 0, NODE), (1), (COME), (1), (10, 4, 1, 0, 1, 0, 1, 0)),
+    ROW("pass, empty", 0, BEHIND, (1), (10, 0, NODE), (1), (AWAITED), (1), (10, 0, NODE), 0, 0),
+    ROW("pass, come", 0, BEHIND, (1), (10, 0, NODE), (2), (COME), (0), (10, 0, 1, 0), 1, 1),
+    ROW("pass, a choice alone", 0, BEHIND, (5, 1, 1), (10, 0, NODE), (9, 1), (COME), (1), (10, 0, 1, 0), 0, 1),
+    ROW("pass, a crossing alone", 0, BEHIND, (3, 0, 1), (10, 0, NODE), (6, 0, 1), (COME), (1), (10, 0, 1, 0), 0, 1),
+    ROW("silent is complete", 1, BEHIND, (1), (10, 1, 0, NODE), (1), (COME), (1), (10, 1, 0, 1, 0), 0, 1),
+    ROW("silent of two sides", 1, BEHIND, (1), (10, 1, 4, 0, 0, NODE), (2), (COME), (0), (10, 1, 4, 0, 0, 1, 0), 1, 1),
+    ROW("cue waits too", 2, BEHIND, (1), (10, 2, NODE), (1), (AWAITED), (1), (10, 2, NODE), 0, 0),
+    ROW("cue opens too", 2, BEHIND, (1), (10, 2, NODE), (2), (COME), (0), (10, 1, 0, 1, 0), 1, 1),
+    ROW("cue on empty", 2, BEHIND, (0), (10, 2, NODE), (0), (COME), (0), (10, 1, 0, 1, 0), 0, 1),
+    ROW("level waits too", 3, BEHIND, (1), (10, 3, 0, 0, NODE), (1), (AWAITED), (1), (10, 3, 0, 0, NODE), 0, 0),
+    ROW("level opens too", 3, BEHIND, (1), (10, 3, 0, 0, NODE), (2), (COME), (0), (10, 1, 0, 1, 0), 1, 1),
+    ROW("both, empty", 4, BEHIND, (1), (10, 4, 0, 0, NODE), (1), (AWAITED), (1), (10, 4, 0, 0, NODE), 0, 0),
+    ROW("both, come", 4, BEHIND, (1), (10, 4, 0, 0, NODE), (2), (COME), (0), (10, 4, 0, 0, 1, 0), 1, 1),
+    ROW("both, one side silent", 4, BEHIND, (1), (10, 4, 1, 0, 0, NODE), (1), (AWAITED),
+        (1), (10, 4, 1, 0, 0, NODE), 0, 0),
+    ROW("both, two silent", 4, BEHIND, (1), (10, 4, 1, 0, 1, 0, NODE), (1), (COME),
+        (1), (10, 4, 1, 0, 1, 0, 1, 0), 0, 1),
     ROW("left, the other has come", 5, BEHIND, (4, 1, 1), (10, 5, NODE), (7, 1, 2), (AWAITED),
-        (4, 1, 0), (10, 5, NODE)),
-    ROW("left has come", 5, BEHIND, (4, 1, 1), (10, 5, NODE), (7, 2, 1), (COME), (4, 0, 1), (10, 5, 1, 0)),
-    ROW("left, empty part", 5, BEHIND, (4, 0, 1), (10, 5, NODE), (7, 0, 1), (COME), (4, 0, 1), (10, 5, 1, 0)),
+        (4, 1, 0), (10, 5, NODE), 1, 0),
+    ROW("left has come", 5, BEHIND, (4, 1, 1), (10, 5, NODE), (7, 2, 1), (COME), (4, 0, 1), (10, 5, 1, 0), 1, 1),
+    ROW("left, empty part", 5, BEHIND, (4, 0, 1), (10, 5, NODE), (7, 0, 1), (COME), (4, 0, 1), (10, 5, 1, 0), 0, 1),
     ROW("right, the other has come", 6, BEHIND, (4, 1, 1), (10, 6, NODE), (7, 2, 1), (AWAITED),
-        (4, 0, 1), (10, 6, NODE)),
-    ROW("right has come", 6, BEHIND, (4, 1, 1), (10, 6, NODE), (7, 1, 2), (COME), (4, 1, 0), (10, 6, 1, 0)),
-    ROW("right, empty part", 6, BEHIND, (4, 1, 0), (10, 6, NODE), (7, 1, 0), (COME), (4, 1, 0), (10, 6, 1, 0)),
-    ROW("first, empty", 7, BEHIND, (3, 1, 1), (10, 7, NODE), (5, 1), (AWAITED), (3, 1, 1), (10, 7, NODE)),
-    ROW("first has come", 7, BEHIND, (3, 1, 1), (10, 7, NODE), (5, 2), (COME), (3, 0, 1), (10, 7, 1, 0)),
-    ROW("first is crossed", 7, BEHIND, (3, 1, 1), (10, 7, NODE), (6, 2, 1), (COME), (1), (10, 1, 0, 1, 0)),
-    ROW("first, empty part", 7, BEHIND, (3, 0, 1), (10, 7, NODE), (5, 0), (COME), (3, 0, 1), (10, 7, 1, 0)),
-    ROW("second, the first has come", 8, BEHIND, (3, 1, 1), (10, 8, NODE), (5, 2), (AWAITED), (3, 0, 1), (10, 8, NODE)),
-    ROW("second, crossed", 8, BEHIND, (3, 1, 1), (10, 8, NODE), (6, 2, 1), (AWAITED), (1), (10, 0, NODE)),
-    ROW("second has come", 8, BEHIND, (3, 1, 1), (10, 8, NODE), (6, 2, 2), (COME), (0), (10, 0, 1, 0)),
-    ROW("second, empty part", 8, BEHIND, (3, 1, 0), (10, 8, NODE), (5, 1), (COME), (3, 1, 0), (10, 8, 1, 0)),
-    ROW("then, empty", 9, BEHIND, (3, 1, 1), (10, 9, 0, 0, NODE), (5, 1), (AWAITED), (3, 1, 1), (10, 9, 0, 0, NODE)),
-    ROW("then, come", 9, BEHIND, (3, 1, 1), (10, 9, 0, 0, NODE), (5, 2), (COME), (3, 0, 1), (10, 9, 0, 0, 1, 0)),
-    ROW("then, crossed", 9, BEHIND, (3, 1, 1), (10, 9, 0, 0, NODE), (6, 2, 1), (COME), (1), (10, 0, 1, 0)),
+        (4, 0, 1), (10, 6, NODE), 1, 0),
+    ROW("right has come", 6, BEHIND, (4, 1, 1), (10, 6, NODE), (7, 1, 2), (COME), (4, 1, 0), (10, 6, 1, 0), 1, 1),
+    ROW("right, empty part", 6, BEHIND, (4, 1, 0), (10, 6, NODE), (7, 1, 0), (COME), (4, 1, 0), (10, 6, 1, 0), 0, 1),
+    ROW("first, empty", 7, BEHIND, (3, 1, 1), (10, 7, NODE), (5, 1), (AWAITED), (3, 1, 1), (10, 7, NODE), 0, 0),
+    ROW("first has come", 7, BEHIND, (3, 1, 1), (10, 7, NODE), (5, 2), (COME), (3, 0, 1), (10, 7, 1, 0), 1, 1),
+    ROW("first is crossed", 7, BEHIND, (3, 1, 1), (10, 7, NODE), (6, 2, 1), (COME), (1), (10, 1, 0, 1, 0), 1, 1),
+    ROW("first, empty part", 7, BEHIND, (3, 0, 1), (10, 7, NODE), (5, 0), (COME), (3, 0, 1), (10, 7, 1, 0), 0, 1),
+    ROW("second, the first has come", 8, BEHIND, (3, 1, 1), (10, 8, NODE), (5, 2), (AWAITED),
+        (3, 0, 1), (10, 8, NODE), 1, 0),
+    ROW("second, crossed", 8, BEHIND, (3, 1, 1), (10, 8, NODE), (6, 2, 1), (AWAITED), (1), (10, 0, NODE), 1, 0),
+    ROW("second has come", 8, BEHIND, (3, 1, 1), (10, 8, NODE), (6, 2, 2), (COME), (0), (10, 0, 1, 0), 2, 1),
+    ROW("second, empty part", 8, BEHIND, (3, 1, 0), (10, 8, NODE), (5, 1), (COME), (3, 1, 0), (10, 8, 1, 0), 0, 1),
+    ROW("then, empty", 9, BEHIND, (3, 1, 1), (10, 9, 0, 0, NODE), (5, 1), (AWAITED),
+        (3, 1, 1), (10, 9, 0, 0, NODE), 0, 0),
+    ROW("then, come", 9, BEHIND, (3, 1, 1), (10, 9, 0, 0, NODE), (5, 2), (COME), (3, 0, 1), (10, 9, 0, 0, 1, 0), 1, 1),
+    ROW("then, crossed", 9, BEHIND, (3, 1, 1), (10, 9, 0, 0, NODE), (6, 2, 1), (COME), (1), (10, 0, 1, 0), 1, 1),
     ROW("then of silents owes its crossing", 9, BEHIND, (3, 1, 1), (10, 9, 1, 0, 1, 0, NODE), (5, 2), (AWAITED),
-        (3, 0, 1), (10, 9, 1, 0, 1, 0, NODE)),
+        (3, 0, 1), (10, 9, 1, 0, 1, 0, NODE), 1, 0),
     ROW("then of silents, crossed", 9, BEHIND, (3, 1, 1), (10, 9, 1, 0, 1, 0, NODE), (6, 2, 1), (COME),
-        (1), (10, 1, 0, 1, 0)),
-    ROW("chain, empty", 10, BEHIND, (1), (10, 10, 0, 0, NODE), (1), (AWAITED), (1), (10, 10, 0, 0, NODE)),
-    ROW("chain, come", 10, BEHIND, (1), (10, 10, 0, 0, NODE), (2), (COME), (0), (10, 10, 0, 0, 1, 0)),
+        (1), (10, 1, 0, 1, 0), 1, 1),
+    ROW("chain, empty", 10, BEHIND, (1), (10, 10, 0, 0, NODE), (1), (AWAITED), (1), (10, 10, 0, 0, NODE), 0, 0),
+    ROW("chain, come", 10, BEHIND, (1), (10, 10, 0, 0, NODE), (2), (COME), (0), (10, 10, 0, 0, 1, 0), 1, 1),
     ROW("regroup right, empty", 11, BEHIND, (3, 3, 1, 1, 1), (10, 11, NODE), (5, 5, 1), (AWAITED),
-        (3, 3, 1, 1, 1), (10, 11, NODE)),
+        (3, 3, 1, 1, 1), (10, 11, NODE), 0, 0),
     ROW("regroup right, come", 11, BEHIND, (3, 3, 1, 1, 1), (10, 11, NODE), (5, 5, 2), (COME),
-        (3, 3, 0, 1, 1), (10, 11, 1, 0)),
+        (3, 3, 0, 1, 1), (10, 11, 1, 0), 1, 1),
     ROW("regroup right, a crossing alone", 11, BEHIND, (3, 3, 0, 1, 1), (10, 11, NODE), (5, 6, 0, 1), (COME),
-        (3, 1, 1), (10, 0, 1, 0)),
+        (3, 1, 1), (10, 0, 1, 0), 0, 1),
     ROW("regroup left, empty", 12, BEHIND, (3, 1, 3, 1, 1), (10, 12, NODE), (5, 1), (AWAITED),
-        (3, 1, 3, 1, 1), (10, 12, NODE)),
+        (3, 1, 3, 1, 1), (10, 12, NODE), 0, 0),
     ROW("regroup left, come", 12, BEHIND, (3, 1, 3, 1, 1), (10, 12, NODE), (5, 2), (COME),
-        (3, 0, 3, 1, 1), (10, 12, 1, 0)),
+        (3, 0, 3, 1, 1), (10, 12, 1, 0), 1, 1),
     ROW("regroup left, a crossing alone", 12, BEHIND, (3, 0, 3, 1, 1), (10, 12, NODE), (6, 0, 5, 1), (COME),
-        (3, 1, 1), (10, 0, 1, 0)),
+        (3, 1, 1), (10, 0, 1, 0), 0, 1),
     ROW("spread, empty", 13, BEHIND, (3, 1, 4, 1, 1), (10, 13, NODE), (5, 1), (AWAITED),
-        (3, 1, 4, 1, 1), (10, 13, NODE)),
-    ROW("spread, come", 13, BEHIND, (3, 1, 4, 1, 1), (10, 13, NODE), (5, 2), (COME), (3, 0, 4, 1, 1), (10, 13, 1, 0)),
+        (3, 1, 4, 1, 1), (10, 13, NODE), 0, 0),
+    ROW("spread, come", 13, BEHIND, (3, 1, 4, 1, 1), (10, 13, NODE), (5, 2), (COME),
+        (3, 0, 4, 1, 1), (10, 13, 1, 0), 1, 1),
     ROW("spread, a crossing alone", 13, BEHIND, (3, 0, 4, 1, 1), (10, 13, NODE), (6, 0, 7, 1, 1), (COME),
-        (4, 1, 1), (10, 0, 1, 0)),
-    ROW("front crosses at its first feed", 14, BEHIND, (1), (10, 14, NODE), (1), (COME), (1), (10, 0, 1, 0)),
+        (4, 1, 1), (10, 0, 1, 0), 0, 1),
+    ROW("front crosses at its first feed", 14, BEHIND, (1), (10, 14, NODE), (1), (COME), (1), (10, 0, 1, 0), 0, 1),
     ROW("choose, none chosen", 15, BEHIND, (5, 1, 1), (10, 15, 0, 0, NODE), (8), (AWAITED),
-        (5, 1, 1), (10, 15, 0, 0, NODE)),
-    ROW("choose, chosen", 15, BEHIND, (5, 1, 1), (10, 15, 0, 0, NODE), (9, 1), (AWAITED), (1), (10, 0, NODE)),
-    ROW("choose, chosen and come", 15, BEHIND, (5, 1, 1), (10, 15, 0, 0, NODE), (10, 2), (COME), (0), (10, 0, 1, 0)),
+        (5, 1, 1), (10, 15, 0, 0, NODE), 0, 0),
+    ROW("choose, chosen", 15, BEHIND, (5, 1, 1), (10, 15, 0, 0, NODE), (9, 1), (AWAITED), (1), (10, 0, NODE), 0, 0),
+    ROW("choose, chosen and come", 15, BEHIND, (5, 1, 1), (10, 15, 0, 0, NODE), (10, 2), (COME),
+        (0), (10, 0, 1, 0), 1, 1),
     ROW("choose of silents", 15, BEHIND, (5, 1, 2), (10, 15, 1, 0, 1, 0, NODE), (8), (COME),
-        (5, 1, 2), (10, 15, 1, 0, 1, 0, 1, 0)),
-    ROW("mark first marks at its first feed", 16, BEHIND, (1), (10, 16, 2, NODE), (1), (COME), (1), (10, 0, 1, 0)),
-    ROW("mark second marks at its first feed", 17, BEHIND, (1), (10, 17, 2, NODE), (1), (COME), (1), (10, 0, 1, 0)),
+        (5, 1, 2), (10, 15, 1, 0, 1, 0, 1, 0), 0, 1),
+    ROW("mark first marks at its first feed", 16, BEHIND, (1), (10, 16, 2, NODE), (1), (COME),
+        (1), (10, 0, 1, 0), 0, 1),
+    ROW("mark second marks at its first feed", 17, BEHIND, (1), (10, 17, 2, NODE), (1), (COME),
+        (1), (10, 0, 1, 0), 0, 1),
 
-    ROW("in both, empty", 4, FIRST_PART, (1), (4, NODE, 0), (1), (7, AWAITED, 1), (1), (4, NODE, 0)),
-    ROW("in both, come", 4, FIRST_PART, (1), (4, NODE, 0), (2), (7, COME, 2), (0), (4, 1, 0, 0)),
-    ROW("on the right of both, empty", 4, SECOND_PART, (1), (4, 0, NODE), (1), (7, 1, AWAITED), (1), (4, 0, NODE)),
-    ROW("on the right of both, come", 4, SECOND_PART, (1), (4, 0, NODE), (2), (7, 2, COME), (0), (4, 0, 1, 0)),
-    ROW("on both sides", 4, SECOND_PART, (1), (4, NODE, NODE), (2), (7, COME, COME), (0), (4, 1, 0, 1, 0)),
+    ROW("in both, empty", 4, FIRST_PART, (1), (4, NODE, 0), (1), (7, AWAITED, 1), (1), (4, NODE, 0), 0, 0),
+    ROW("in both, come", 4, FIRST_PART, (1), (4, NODE, 0), (2), (7, COME, 2), (0), (4, 1, 0, 0), 1, 2),
+    ROW("on the right of both, empty", 4, SECOND_PART, (1), (4, 0, NODE), (1), (7, 1, AWAITED),
+        (1), (4, 0, NODE), 0, 0),
+    ROW("on the right of both, come", 4, SECOND_PART, (1), (4, 0, NODE), (2), (7, 2, COME), (0), (4, 0, 1, 0), 1, 2),
+    ROW("on both sides", 4, SECOND_PART, (1), (4, NODE, NODE), (2), (7, COME, COME), (0), (4, 1, 0, 1, 0), 1, 2),
     ROW("one waits, one does not", 4, FIRST_PART, (1), (4, NODE, 10, 1, 0, NODE), (1), (7, AWAITED, COME),
-        (1), (4, NODE, 10, 1, 0, 1, 0)),
-    ROW("first of then, empty", 9, FIRST_PART, (3, 1, 1), (9, NODE, 0), (5, 1), (5, AWAITED), (3, 1, 1), (9, NODE, 0)),
-    ROW("first of then, come", 9, FIRST_PART, (3, 1, 1), (9, NODE, 0), (5, 2), (5, COME), (3, 0, 1), (9, 1, 0, 0)),
-    ROW("first of then, crossed", 9, FIRST_PART, (3, 1, 1), (9, NODE, 0), (6, 2, 1), (6, COME, 1), (1), (0)),
+        (1), (4, NODE, 10, 1, 0, 1, 0), 0, 1),
+    ROW("first of then, empty", 9, FIRST_PART, (3, 1, 1), (9, NODE, 0), (5, 1), (5, AWAITED),
+        (3, 1, 1), (9, NODE, 0), 0, 0),
+    ROW("first of then, come", 9, FIRST_PART, (3, 1, 1), (9, NODE, 0), (5, 2), (5, COME),
+        (3, 0, 1), (9, 1, 0, 0), 1, 1),
+    ROW("first of then, crossed", 9, FIRST_PART, (3, 1, 1), (9, NODE, 0), (6, 2, 1), (6, COME, 1), (1), (0), 1, 1),
     ROW("first of then, empty part", 9, FIRST_PART, (3, 0, 1), (9, NODE, 0), (5, 0), (5, COME),
-        (3, 0, 1), (9, 1, 0, 0)),
-    ROW("prepend", 9, FIRST_PART, (1), (10, 14, 9, NODE, 0), (1), (6, COME, 1), (1), (10, 0, 0)),
+        (3, 0, 1), (9, 1, 0, 0), 0, 1),
+    ROW("prepend", 9, FIRST_PART, (1), (10, 14, 9, NODE, 0), (1), (6, COME, 1), (1), (10, 0, 0), 0, 1),
     ROW("prepend in two steps", 9, FIRST_PART, (1), (10, 14, 9, NODE, 10, 14, 9, NODE, 0), (1), (6, COME, 6, COME, 1),
-        (1), (10, 0, 10, 0, 0)),
-    ROW("second of then is not fed", 9, SECOND_PART, (3, 1, 1), (9, 0, NODE), (5, 2), (5, 2), (3, 0, 1), (9, 0, NODE)),
-    ROW("second of then, crossed", 9, SECOND_PART, (3, 1, 1), (9, 0, NODE), (6, 2, 1), (6, 2, AWAITED), (1), (NODE)),
-    ROW("second of then, come", 9, SECOND_PART, (3, 1, 1), (9, 0, NODE), (6, 2, 2), (6, 2, COME), (0), (1, 0)),
-    ROW("second of then, empty part", 9, SECOND_PART, (3, 1, 0), (9, 0, NODE), (6, 2, 0), (6, 2, COME), (0), (1, 0)),
-    ROW("first of chain, empty", 10, FIRST_PART, (1), (10, NODE, 0), (1), (AWAITED), (1), (10, NODE, 0)),
-    ROW("first of chain, come", 10, FIRST_PART, (1), (10, NODE, 0), (2), (COME), (0), (10, 1, 0, 0)),
-    ROW("front behind it crosses", 10, FIRST_PART, (1), (10, NODE, 14), (1), (6, 0, AWAITED), (1), (10, NODE, 0)),
-    ROW("second of chain, empty", 10, SECOND_PART, (2), (10, 0, NODE), (3), (AWAITED), (2), (10, 0, NODE)),
+        (1), (10, 0, 10, 0, 0), 0, 2),
+    ROW("second of then is not fed", 9, SECOND_PART, (3, 1, 1), (9, 0, NODE), (5, 2), (5, 2),
+        (3, 0, 1), (9, 0, NODE), 1, 1),
+    ROW("second of then, crossed", 9, SECOND_PART, (3, 1, 1), (9, 0, NODE), (6, 2, 1), (6, 2, AWAITED),
+        (1), (NODE), 1, 1),
+    ROW("second of then, come", 9, SECOND_PART, (3, 1, 1), (9, 0, NODE), (6, 2, 2), (6, 2, COME), (0), (1, 0), 2, 2),
+    ROW("second of then, empty part", 9, SECOND_PART, (3, 1, 0), (9, 0, NODE), (6, 2, 0), (6, 2, COME),
+        (0), (1, 0), 1, 2),
+    ROW("first of chain, empty", 10, FIRST_PART, (1), (10, NODE, 0), (1), (AWAITED), (1), (10, NODE, 0), 0, 0),
+    ROW("first of chain, come", 10, FIRST_PART, (1), (10, NODE, 0), (2), (COME), (0), (10, 1, 0, 0), 1, 1),
+    ROW("front behind it crosses", 10, FIRST_PART, (1), (10, NODE, 14), (1), (6, 0, AWAITED), (1), (10, NODE, 0), 0, 0),
+    ROW("second of chain, empty", 10, SECOND_PART, (2), (10, 0, NODE), (3), (AWAITED), (2), (10, 0, NODE), 0, 0),
     ROW("second of chain, level 0 come", 10, SECOND_PART, (4, 1, 2), (10, 0, NODE), (7, 1, 4, 0, 0), (COME),
-        (4, 1, 0), (10, 0, 1, 0)),
+        (4, 1, 0), (10, 0, 1, 0), 1, 1),
     ROW("first of choose, none", 15, FIRST_PART, (5, 1, LANE), (15, NODE, 0), (8), (AWAITED),
-        (5, 1, LANE), (15, NODE, 0)),
-    ROW("first of choose, chosen", 15, FIRST_PART, (5, 1, LANE), (15, NODE, 0), (9, 1), (AWAITED), (1), (NODE)),
-    ROW("first of choose, come", 15, FIRST_PART, (5, 1, LANE), (15, NODE, 0), (9, 2), (COME), (0), (1, 0)),
-    ROW("first of choose, empty part", 15, FIRST_PART, (5, 0, LANE), (15, NODE, 0), (9, 0), (COME), (0), (1, 0)),
-    ROW("the other of choose", 15, FIRST_PART, (5, 1, LANE), (15, NODE, 0), (10, AWAITED), (AWAITED), (LANE), (0)),
+        (5, 1, LANE), (15, NODE, 0), 0, 0),
+    ROW("first of choose, chosen", 15, FIRST_PART, (5, 1, LANE), (15, NODE, 0), (9, 1), (AWAITED), (1), (NODE), 0, 0),
+    ROW("first of choose, come", 15, FIRST_PART, (5, 1, LANE), (15, NODE, 0), (9, 2), (COME), (0), (1, 0), 1, 1),
+    ROW("first of choose, empty part", 15, FIRST_PART, (5, 0, LANE), (15, NODE, 0), (9, 0), (COME), (0), (1, 0), 0, 1),
+    ROW("the other of choose", 15, FIRST_PART, (5, 1, LANE), (15, NODE, 0), (10, AWAITED), (AWAITED),
+        (LANE), (0), 0, 0),
     ROW("second of choose, none", 15, SECOND_PART, (5, LANE, 1), (15, 0, NODE), (8), (AWAITED),
-        (5, LANE, 1), (15, 0, NODE)),
-    ROW("second of choose, chosen", 15, SECOND_PART, (5, LANE, 1), (15, 0, NODE), (10, 1), (AWAITED), (1), (NODE)),
-    ROW("second of choose, come", 15, SECOND_PART, (5, LANE, 1), (15, 0, NODE), (10, 2), (COME), (0), (1, 0)),
+        (5, LANE, 1), (15, 0, NODE), 0, 0),
+    ROW("second of choose, chosen", 15, SECOND_PART, (5, LANE, 1), (15, 0, NODE), (10, 1), (AWAITED),
+        (1), (NODE), 0, 0),
+    ROW("second of choose, come", 15, SECOND_PART, (5, LANE, 1), (15, 0, NODE), (10, 2), (COME), (0), (1, 0), 1, 1),
 };
 
-/* A feed of a run: what comes, what is sent, and what is left. */
+/* A feed of a run: what comes, what is sent, what is left, and the counts. */
 struct step {
     struct bytes slice, output, type_left, nodes_left;
+    struct counts counts;
 };
 
-/* A run that begins with empty slices, in which the patch stays as it is; then the steps. */
+/* A run that begins with empty slices, in which the patch stays as it is and nothing is counted; then the steps. */
 struct run {
     const char *name;
     struct bytes type, nodes, empty, output;
@@ -158,33 +176,37 @@ struct run {
     struct step steps[STEPS_MAX];
 };
 
-#define STEP(slice, output, type_left, nodes_left) {RAW slice, RAW output, RAW type_left, RAW nodes_left}
+#define STEP(slice, output, type_left, nodes_left, arrived, sent) \
+    {RAW slice, RAW output, RAW type_left, RAW nodes_left, {arrived, sent}}
 
 static const struct run runs[] = {
     {"a cue, sent once", RAW(1), RAW(NODE), RAW(1), RAW(AWAITED), 2,
-     {STEP((2), (COME), (0), (1, 0)), STEP((0), (0), (0), (1, 0))}},
+     {STEP((2), (COME), (0), (1, 0), 1, 1), STEP((0), (0), (0), (1, 0), 0, 0)}},
     {"the house fills", RAW(4, 1, 2), RAW(4, NODE, 0), RAW(7, 1, 3), RAW(7, AWAITED, 7, 1, 3), 3,
-     {STEP((7, 2, 3), (7, COME, 7, 2, 3), (4, 0, 2), (4, 1, 0, 0)),
-      STEP((7, 0, 3), (7, 0, 7, 0, 3), (4, 0, 2), (4, 1, 0, 0)),
-      STEP((7, 0, 4, 1, 44), (7, 0, 7, 0, 4, 1, 44), (4, 0, 0), (4, 1, 0, 0))}},
-    {"level 0 is the first arrival", RAW(4, 1, 2), RAW(NODE), RAW(7, 1, 3), RAW(AWAITED), 2,
-     {STEP((7, 1, 4, 0, 0), (COME), (4, 1, 0), (1, 0)), STEP((7, 2, 0), (0), (4, 0, 0), (1, 0))}},
-    {"a crossing is the first arrival", RAW(3, 0, 1), RAW(NODE), RAW(5, 0), RAW(AWAITED), 3,
-     {STEP((6, 0, 1), (COME), (1), (1, 0)), STEP((1), (0), (1), (1, 0)), STEP((2), (0), (0), (1, 0))}},
-    {"a choice is the first arrival", RAW(5, 1, 2), RAW(NODE), RAW(8), RAW(AWAITED), 2,
-     {STEP((10, 3), (COME), (2), (1, 0)), STEP((4, 0, 5), (0), (0), (1, 0))}},
+     {STEP((7, 2, 3), (7, COME, 7, 2, 3), (4, 0, 2), (4, 1, 0, 0), 1, 2),
+      STEP((7, 0, 3), (7, 0, 7, 0, 3), (4, 0, 2), (4, 1, 0, 0), 0, 0),
+      STEP((7, 0, 4, 1, 44), (7, 0, 7, 0, 4, 1, 44), (4, 0, 0), (4, 1, 0, 0), 1, 1)}},
+    {"level 0 opens it", RAW(4, 1, 2), RAW(NODE), RAW(7, 1, 3), RAW(AWAITED), 2,
+     {STEP((7, 1, 4, 0, 0), (COME), (4, 1, 0), (1, 0), 1, 1), STEP((7, 2, 0), (0), (4, 0, 0), (1, 0), 1, 0)}},
+    {"a crossing opens it", RAW(3, 0, 1), RAW(NODE), RAW(5, 0), RAW(AWAITED), 3,
+     {STEP((6, 0, 1), (COME), (1), (1, 0), 0, 1), STEP((1), (0), (1), (1, 0), 0, 0),
+      STEP((2), (0), (0), (1, 0), 1, 0)}},
+    {"a choice opens it", RAW(5, 1, 2), RAW(NODE), RAW(8), RAW(AWAITED), 2,
+     {STEP((10, 3), (COME), (2), (1, 0), 0, 1), STEP((4, 0, 5), (0), (0), (1, 0), 1, 0)}},
     {"the first part comes, then the crossing", RAW(3, 1, 1), RAW(NODE), RAW(5, 1), RAW(AWAITED), 2,
-     {STEP((5, 2), (COME), (3, 0, 1), (1, 0)), STEP((6, 0, 1), (0), (1), (1, 0))}},
+     {STEP((5, 2), (COME), (3, 0, 1), (1, 0), 1, 1), STEP((6, 0, 1), (0), (1), (1, 0), 0, 0)}},
     {"one side comes, then the other", RAW(4, 1, 1), RAW(NODE), RAW(7, 1, 1), RAW(AWAITED), 2,
-     {STEP((7, 2, 1), (COME), (4, 0, 1), (1, 0)), STEP((7, 0, 2), (0), (4, 0, 0), (1, 0))}},
+     {STEP((7, 2, 1), (COME), (4, 0, 1), (1, 0), 1, 1), STEP((7, 0, 2), (0), (4, 0, 0), (1, 0), 1, 0)}},
     {"the crossing comes, then what it waits for", RAW(3, 1, 1), RAW(9, 0, NODE), RAW(5, 1), RAW(5, 1), 3,
-     {STEP((6, 2, 1), (6, 2, AWAITED), (1), (NODE)), STEP((1), (AWAITED), (1), (NODE)),
-      STEP((2), (COME), (0), (1, 0))}},
+     {STEP((6, 2, 1), (6, 2, AWAITED), (1), (NODE), 1, 1), STEP((1), (AWAITED), (1), (NODE), 0, 0),
+      STEP((2), (COME), (0), (1, 0), 1, 1)}},
     {"the choice comes, then what it waits for", RAW(5, 1, LANE), RAW(15, NODE, 0), RAW(8), RAW(AWAITED), 3,
-     {STEP((9, 1), (AWAITED), (1), (NODE)), STEP((1), (AWAITED), (1), (NODE)), STEP((2), (COME), (0), (1, 0))}},
+     {STEP((9, 1), (AWAITED), (1), (NODE), 0, 0), STEP((1), (AWAITED), (1), (NODE), 0, 0),
+      STEP((2), (COME), (0), (1, 0), 1, 1)}},
     {"the other side comes first", RAW(4, 1, 1), RAW(10, 5, NODE), RAW(7, 1, 1), RAW(AWAITED), 3,
-     {STEP((7, 1, 2), (AWAITED), (4, 1, 0), (10, 5, NODE)), STEP((7, 1, 0), (AWAITED), (4, 1, 0), (10, 5, NODE)),
-      STEP((7, 2, 0), (COME), (4, 0, 0), (10, 5, 1, 0))}},
+     {STEP((7, 1, 2), (AWAITED), (4, 1, 0), (10, 5, NODE), 1, 0),
+      STEP((7, 1, 0), (AWAITED), (4, 1, 0), (10, 5, NODE), 0, 0),
+      STEP((7, 2, 0), (COME), (4, 0, 0), (10, 5, 1, 0), 1, 1)}},
 };
 /* clang-format on */
 
@@ -232,6 +254,7 @@ static void check_row(const struct row *row, const struct form *form)
     struct small_file output = slice_in(row->output, form), left = patch_in(row->type_left, row->nodes_left, form);
     struct answer answer = feed(file_at(&patch), file_at(&slice));
     bool right = same(file_at(&answer.output), file_at(&output)) && same(file_at(&answer.left), file_at(&left));
+    right = right && same_counts(answer.counts, row->counts);
     snprintf(name, sizeof name, "%s, %s", row->name, form->name);
     count(right, "Feed", name, row->kind);
 }
@@ -249,9 +272,10 @@ static void check_rows(void)
     }
 }
 
-/* A run so far: the patch, and all that has come and was sent as one slice each. */
+/* A run so far: the patch, all that has come and was sent as one slice each, and the counts of all feeds together. */
 struct so_far {
     struct small_file start, input_type, output_type, patch, come, sent;
+    struct counts counts;
 };
 
 static struct so_far begin_run(const struct run *run, const struct form *form)
@@ -265,34 +289,39 @@ static struct so_far begin_run(const struct run *run, const struct form *form)
     return so_far;
 }
 
-/* Feeds a slice to the patch so far: it sends this, and leaves that. */
-static bool goes_on(struct so_far *so_far, struct bytes slice, struct bytes output, struct bytes left)
+/* Feeds a slice to the patch so far: it sends this, leaves that, and counts so much. */
+static bool goes_on(struct so_far *so_far, struct bytes slice, struct bytes output, struct bytes left,
+                    struct counts counts)
 {
     struct answer answer = feed(file_at(&so_far->patch), slice);
+    so_far->counts = sum_of(so_far->counts, answer.counts);
     so_far->patch = answer.left;
     so_far->come = joined(file_at(&so_far->input_type), file_at(&so_far->come), slice);
     so_far->sent = joined(file_at(&so_far->output_type), file_at(&so_far->sent), file_at(&answer.output));
-    return same(file_at(&answer.output), output) && same(file_at(&answer.left), left);
+    return same(file_at(&answer.output), output) && same(file_at(&answer.left), left) &&
+           same_counts(answer.counts, counts);
 }
 
-/* Empty slices, then the steps; then all of it as one slice, fed to the patch at the start. */
+/* Empty slices, then the steps; then all of it as one slice, fed to the patch at the start, with the same counts. */
 static void check_run(const struct run *run, const struct form *form)
 {
     struct so_far so_far = begin_run(run, form);
     struct small_file empty = so_far.come, waiting = so_far.sent;
     bool stays = so_far.output_type.count > 0;
     for (size_t feeds = 0; feeds < EMPTY_FEEDS; feeds++) {
-        stays = goes_on(&so_far, file_at(&empty), file_at(&waiting), file_at(&so_far.start)) && stays;
+        stays = goes_on(&so_far, file_at(&empty), file_at(&waiting), file_at(&so_far.start), nothing_counted) && stays;
     }
     count(stays, "empty slices leave the patch as it is", run->name, EMPTY_FEEDS);
     for (size_t index = 0; index < run->number; index++) {
         const struct step *step = &run->steps[index];
         struct small_file slice = slice_in(step->slice, form), output = slice_in(step->output, form);
         struct small_file left = patch_in(step->type_left, step->nodes_left, form);
-        count(goes_on(&so_far, file_at(&slice), file_at(&output), file_at(&left)), form->name, run->name, index);
+        bool right = goes_on(&so_far, file_at(&slice), file_at(&output), file_at(&left), step->counts);
+        count(right, form->name, run->name, index);
     }
     struct answer whole = feed(file_at(&so_far.start), file_at(&so_far.come));
     bool right = same(file_at(&whole.output), file_at(&so_far.sent)) && whole.output.count > 0;
+    right = right && same_counts(whole.counts, so_far.counts);
     count(right && same(file_at(&whole.left), file_at(&so_far.patch)), "fed as one", run->name, run->number);
 }
 

@@ -5,7 +5,8 @@
  * crossing, and it is a slice that leaves the type as it is. Admit says whether a slice is complete. A cue or level
  * sends on a slice that is not the empty one or is complete; on any other it sends that its own cue or level is awaited
  * and the patch left is the patch fed, byte for byte. Cut in two, every slice opens the node once or not at all, as it
- * does whole. In a chain the slice that counts is the one that the node before it sends.
+ * does whole. In a chain the slice that counts is the one that the node before it sends. What it sends is counted, with
+ * what came (M-104): cut in two, the counts are those of the whole.
  */
 #include "small_feeds.h"
 #include "small_types.h"
@@ -27,18 +28,6 @@ static const struct waiting_node waiting_nodes[] = {
 enum { WAITING_NODES = sizeof waiting_nodes / sizeof waiting_nodes[0] };
 
 static const struct bytes spent_node = RAW(1, 0);
-
-/* The empty slice of a type: what second sends of a cue and then that type, before the crossing. */
-static struct small_file empty_slice_of(struct bytes type)
-{
-    const struct bytes second = RAW(8), none = NONE, not_crossed = FILE_OF(5, 1);
-    const struct small_file sequence = {{0, (uint8_t)type.count, 3, 1}, 4};
-    struct small_file input = sequence;
-    append(input.bytes + input.count, (struct bytes){type.at + 2, type.count - 2});
-    input.count += type.count - 2;
-    struct small_file patch = patch_with(file_at(&input), none, second);
-    return feed(file_at(&patch), not_crossed).output;
-}
 
 /* What a slice is for a node that waits; all but the first of these open it. */
 enum meeting { EMPTY_AND_OWED, EMPTY_AND_COMPLETE, CROSSING_ALONE, CHOICE_ALONE, SOMETHING_COME, COMPLETE, MEETINGS };
@@ -84,12 +73,12 @@ struct judged {
     struct small_file empty;
 };
 
-static void judge_slice(void *context, const struct growing *slice, bool complete)
+static void judge_slice(void *context, const struct growing *slice, wosthile_admitted seen)
 {
     const struct judged *judged = context;
     const struct bytes none = NONE;
     struct bytes given = growing_file(slice), type = judged->type;
-    enum meeting meeting = meeting_of(slice, same(given, file_at(&judged->empty)), complete);
+    enum meeting meeting = meeting_of(slice, same(given, file_at(&judged->empty)), seen.complete);
     struct small_file type_left = left_of(type, given);
     met[meeting]++;
     for (size_t which = 0; which < WAITING_NODES; which++) {
@@ -101,6 +90,7 @@ static void judge_slice(void *context, const struct growing *slice, bool complet
         bool right = same(file_at(&answer.output), opens ? waiting->sent : waiting->awaited);
         right = right && same(file_at(&answer.left), file_at(&left));
         right = right && (opens || same(file_at(&answer.left), file_at(&patch)));
+        right = right && answer.counts.arrived == seen.arrived && answer.counts.sent == (opens ? 1 : 0);
         count(right, waiting->name, type_name(type), slice->count);
     }
 }
@@ -125,12 +115,11 @@ struct cut {
 
 static size_t opened_by_first, opened_by_second, not_opened;
 
-static void try_second(void *context, const struct growing *second, bool complete)
+static void try_second(void *context, const struct growing *second, wosthile_admitted seen)
 {
     const struct cut *cut = context;
     const struct waiting_node *waiting = cut->waiting;
     struct bytes next = growing_file(second), first_sent = file_at(&cut->answer.output);
-    (void)complete;
     struct small_file slice = joined(cut->type, growing_file(&cut->first), next);
     struct answer answer = feed(file_at(&cut->answer.left), next), whole = feed(file_at(&cut->patch), file_at(&slice));
     struct small_file sent = joined(waiting->own_type, first_sent, file_at(&answer.output));
@@ -140,13 +129,15 @@ static void try_second(void *context, const struct growing *second, bool complet
     not_opened += !by_first && !by_second;
     bool right = sent.count > 0 && same(file_at(&sent), file_at(&whole.output));
     right = right && same(file_at(&answer.left), file_at(&whole.left)) && !(by_first && by_second);
+    right = right && answer.counts.arrived == seen.arrived && answer.counts.sent == by_second;
+    right = right && same_counts(sum_of(cut->answer.counts, answer.counts), whole.counts);
     count(right, "cut in two", type_name(cut->type), slice.count);
 }
 
-static void cut_slice(void *context, const struct growing *slice, bool complete)
+static void cut_slice(void *context, const struct growing *slice, wosthile_admitted seen)
 {
     const struct bytes *type = context, none = NONE;
-    (void)complete;
+    (void)seen;
     for (size_t which = 0; which < WAITING_NODES; which++) {
         const struct waiting_node *waiting = &waiting_nodes[which];
         struct cut cut = {.type = *type, .waiting = waiting, .patch = patch_with(*type, none, waiting->node)};
@@ -156,24 +147,6 @@ static void cut_slice(void *context, const struct growing *slice, bool complete)
     }
 }
 
-/* Nodes that stand before the one that waits, each with its kind as its first byte; those with parts have some each. */
-static const struct bytes first_nodes[] = {
-    RAW(0),          RAW(1, 0),
-    RAW(1, 4, 0, 0), RAW(2),
-    RAW(3, 1, 44),   RAW(4, 0, 0),
-    RAW(4, 5, 6),    RAW(5),
-    RAW(6),          RAW(7),
-    RAW(8),          RAW(9, 0, 0),
-    RAW(9, 2, 0),    RAW(9, 1, 0, 1, 0),
-    RAW(11),         RAW(12),
-    RAW(13),         RAW(14),
-    RAW(10, 0, 0),   RAW(10, 5, 2),
-    RAW(10, 14, 8),  RAW(15, 0, 0),
-    RAW(15, 2, 2),   RAW(15, 1, 0, 1, 0),
-    RAW(16, 2),      RAW(17, 2),
-};
-enum { FIRST_NODES = sizeof first_nodes / sizeof first_nodes[0] };
-
 static size_t waited_behind[NODE_KINDS], opened_behind[NODE_KINDS];
 
 /* A node before the one that waits, on an input type; it is not tried if the library does not take it. */
@@ -182,13 +155,12 @@ struct chained {
     struct small_file first_alone, between; /* its patch, and the file of the type that it gives */
 };
 
-static void chain_slice(void *context, const struct growing *slice, bool complete)
+static void chain_slice(void *context, const struct growing *slice, wosthile_admitted seen)
 {
     const struct chained *chained = context;
     const struct bytes none = NONE;
     struct answer first = feed(file_at(&chained->first_alone), growing_file(slice));
     uint8_t kind = chained->first.at[0];
-    (void)complete;
     for (size_t which = 0; which < WAITING_NODES; which++) {
         const struct waiting_node *waiting = &waiting_nodes[which];
         struct small_file front = {{WOSTHILE_NODE_CHAIN}, 1}, front_left = front;
@@ -203,6 +175,7 @@ static void chain_slice(void *context, const struct growing *slice, bool complet
         waited_behind[kind] += waits;
         opened_behind[kind] += !waits;
         bool right = same(file_at(&answer.output), file_at(&second.output)) && answer.output.count > 0;
+        right = right && answer.counts.arrived == seen.arrived && answer.counts.sent == !waits;
         count(right && same(file_at(&answer.left), file_at(&left)), waiting->name, type_name(chained->type), kind);
     }
 }
@@ -211,8 +184,8 @@ static void try_few_nodes(struct bytes type)
 {
     const struct bytes none = NONE;
     every_slice(&(struct slices){type, 0, cut_slice, &type});
-    for (size_t which = 0; which < FIRST_NODES; which++) {
-        struct chained chained = {.type = type, .first = first_nodes[which]};
+    for (size_t which = 0; which < SMALL_NODES; which++) {
+        struct chained chained = {.type = type, .first = small_nodes[which].nodes};
         chained.first_alone = patch_with(type, none, chained.first);
         chained.between.count =
             wosthile_check(chained.first_alone.bytes, chained.first_alone.count, chained.between.bytes, ROOM).written;
