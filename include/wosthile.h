@@ -305,8 +305,8 @@ wosthile_written wosthile_join(const uint8_t *type, size_t type_len, const uint8
  *
  * The arrivals of the slice fed are in arrived, whatever the patch does with them, and those of the slice sent in sent:
  * both and spread can send an arrival twice, left may send none of them, and a cue or level node sends one of its own,
- * once. What goes from one node to another inside the patch is not sent. A slice with no arrival may make the patch send
- * some.
+ * once. What goes from one node to another inside the patch is not sent. A slice with no arrival may make the patch
+ * send some.
  *
  * What a node sends and leaves; b and c are complete, and p, q and r are any slices.
  *
