@@ -14,15 +14,17 @@ title "Explained: the patch of $name as a person reads it, the first and the las
 target/explain "$show" >"target/$name.explained"
 head -n 16 "target/$name.explained"
 echo "  .. ($(wc -l <"target/$name.explained") lines in target/$name.explained)"
-tail -n 6 "target/$name.explained"
+tail -n 7 "target/$name.explained"
 
 title "A refusal: a slice of a cue and a level side by side that says that a cue comes where the level is due."
 target/explain --slice '0 3 4 1 2' '0 3 7 2 2' && exit 1
 
-title "$name at 60 frames a second. Slices are late (seed $seed), so that two or three come as one:"
+title "$name at 60 frames a second. Slices are late (seed $seed), so that two or three come as one.
+   Behind each second, how many cues and levels arrived and were sent in it:"
 target/frame_loop "$show" --seed "$seed"
 
-title "Rehearsed: the recording is cut anew a thousand times, and every joined output and last patch is compared."
+title "Rehearsed: the recording is cut anew a thousand times. Every joined output and last patch is compared, and how much
+   arrived and was sent in all."
 target/rehearsal "$show" 1000 "$seed"
 
 title "Drawn: the show as it was recorded and as seed $seed cuts it, and its patch."

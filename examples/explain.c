@@ -1,6 +1,7 @@
 /*
  * Explains a show, a patch, or a type with a slice: what its bytes say and, if it is refused, where and why.
  */
+#include "counts.h"
 #include "given_bytes.h"
 #include "listing.h"
 #include "opening.h"
@@ -15,13 +16,19 @@ static const char help[] =
     "Prints what is in a file as a person reads it. PATCH, TYPE and SLICE are each a file, or its bytes in decimal as\n"
     "one word: explain --slice \"0 3 3 1 2\" \"0 2 5 2\".\n"
     "\n"
-    "  SHOW      a show file: its patch; then frame by frame what comes and what is sent for it; how it ends. Lanes\n"
+    "  SHOW      a show file: its patch; then frame by frame what comes and what is sent for it, with how many cues\n"
+    "            and levels these are; how it ends, and how many cues and levels arrived and were sent in all. Lanes\n"
     "            have the names in X.lanes beside X.show. With --all also every slice byte by byte.\n"
     "  --patch   a patch: the type of its input, its nodes with the types that each takes and gives, its output type,\n"
-    "            and the longest slice of its input and of its output. Of a cue or level node it says what it waits\n"
-    "            for, or that it sends at its first feed\n"
-    "  --type    a type, and its longest slice byte by byte\n"
-    "  --slice   a slice of a type, whether it is complete, and what it leaves of the type\n"
+    "            and for its input and its output the longest slice and the most cues and levels. Of a cue or level\n"
+    "            node it says what it waits for, or that it sends at its first feed\n"
+    "  --type    a type, the most cues and levels of it, and its longest slice byte by byte\n"
+    "  --slice   a slice of a type, how many cues and levels come in it, whether it is complete, and what it leaves\n"
+    "            of the type\n"
+    "\n"
+    "Cues and levels are counted by the library, in every slice that comes and every slice that is sent; crossings\n"
+    "and choices are not counted. The most cues and levels of a type are those that a stream of it can have from its\n"
+    "first slice to its last: of two parts of which one is chosen, those of the part that has more.\n"
     "\n"
     "The longest slice of a type is for whoever sizes the packets of a link: it is told in bytes of a slice file, and\n"
     "no slice of a stream of that type, be it the first or a later one, makes a longer file.\n"
@@ -58,6 +65,12 @@ static void print_longest(const char *which, struct file type, bool with_bytes)
     }
 }
 
+/* How many cues and levels can come of an accepted type in all: what the counts of a whole show reach at most. */
+static void print_most(const char *which, struct file type)
+{
+    printf("Most cues and levels of %s: %zu\n", which, type_arrivals_max(section_of(type), 0));
+}
+
 static enum status explain_type(struct file type)
 {
     struct listed listed = {.file = type};
@@ -74,16 +87,17 @@ static enum status explain_type(struct file type)
     return STATUS_REFUSED;
 }
 
-/* What an admitted slice leaves of its type. */
-static void print_left(struct file type, struct file slice)
+/* What has come in an admitted slice, and what it leaves of its type. */
+static void print_admitted(struct file type, struct file slice)
 {
     struct type left;
     char line[TYPE_TEXT_BYTES];
+    wosthile_admitted admitted = wosthile_admit(type.bytes, type.length, slice.bytes, slice.length);
     left.length =
         wosthile_left(type.bytes, type.length, slice.bytes, slice.length, left.bytes, sizeof left.bytes).written;
     type_text(line, section_of(type_file(&left)));
-    bool complete = wosthile_admit(type.bytes, type.length, slice.bytes, slice.length).complete != 0;
-    printf("The slice is %scomplete. It leaves: %s\n", complete ? "" : "not ", line);
+    printf("Cues and levels that come in it: %u\n", admitted.arrived);
+    printf("The slice is %scomplete. It leaves: %s\n", admitted.complete != 0 ? "" : "not ", line);
 }
 
 static enum status explain_slice(struct file type, struct file slice)
@@ -99,7 +113,7 @@ static enum status explain_slice(struct file type, struct file slice)
         list_slice(&listed, &lanes, slice_front(type, slice));
     }
     if (fault.number == WOSTHILE_ACCEPTED) {
-        print_left(type, slice);
+        print_admitted(type, slice);
         return STATUS_DONE;
     }
     char place[MESSAGE_BYTES];
@@ -131,9 +145,12 @@ static enum status explain_patch(const struct listed *listed, const struct side_
     struct fault fault = patch_fault(listed->file, tree);
     list_patch(listed, tree, fault);
     if (fault.number == WOSTHILE_ACCEPTED) {
+        struct file input = {listed->file.bytes, 2 + section_of(listed->file).length};
         struct listed output = {.file = type_file(&tree->nodes[0].output), .names = out};
         explain_type_section(&output, "Output type, a file that Check writes", output.file.length, true);
-        print_longest("the input type", (struct file){listed->file.bytes, 2 + section_of(listed->file).length}, false);
+        print_most("the input type", input);
+        print_most("the output type", output.file);
+        print_longest("the input type", input, false);
         print_longest("the output type", output.file, false);
     } else {
         char place[MESSAGE_BYTES];
@@ -152,12 +169,15 @@ struct playing {
     struct patch patch;
     struct lanes in, out;
     size_t bringing, refused;
+    struct counts counts;
 };
 
-static void print_events(const char *what, const struct lane_events *events, const struct side_names *names)
+/* What came, or was sent, with the library's count of it: crossings and choices are among the events alone. */
+static void print_events(const char *what, uint32_t counted, const struct lane_events *events,
+                         const struct side_names *names)
 {
     if (events->count > 0) {
-        printf("  %s\n", what);
+        printf("  %s (cues and levels: %u)\n", what, counted);
     }
     for (size_t index = 0; index < events->count; index++) {
         lane_event_print(&events->list[index], names);
@@ -203,12 +223,13 @@ static void explain_frame(struct playing *playing, size_t index)
     }
     lanes_follow(&playing->in, slice, &come);
     lanes_follow(&playing->out, (struct file){output, fed.output}, &sent);
+    counts_add(&playing->counts, &fed);
     playing->bringing += come.count > 0;
     if (!playing->all && (come.count > 0 || sent.count > 0)) {
         print_frame(playing, index);
     }
-    print_events("comes", &come, &playing->names->in);
-    print_events("is sent", &sent, &playing->names->out);
+    print_events("comes", fed.arrived, &come, &playing->names->in);
+    print_events("is sent", fed.sent, &sent, &playing->names->out);
 }
 
 /* Tells the slice in which the show file ends, if it ends in one. */
@@ -228,6 +249,7 @@ static enum status explain_end(const struct playing *playing)
     printf("%zu %s: %zu %s something, %zu %s nothing, %zu %s refused.\n", show->count,
            plural(show->count, "slice", "slices"), playing->bringing, plural(playing->bringing, "brings", "bring"),
            empty, plural(empty, "brings", "bring"), playing->refused, plural(playing->refused, "is", "are"));
+    counts_print("Cues and levels: ", &playing->counts, ".\n");
     lanes_print_owed(&playing->in, &playing->names->in);
     if (playing->refused > 1) {
         printf("%s\n", first_refusal_first);
@@ -293,6 +315,7 @@ static enum status explain_words(int count, char **words)
     }
     enum status status = explain_type(listed.file);
     if (status == STATUS_DONE) {
+        print_most("this type", listed.file);
         print_longest("this type", listed.file, true);
     }
     return status;

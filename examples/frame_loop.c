@@ -1,10 +1,11 @@
 /*
  * A frame loop: it takes what has come in since the frame before, feeds it to the patch, and sends on what the patch
  * sends. Here a second thread plays the part of the outside: it delivers the slices of a recorded show, some of them
- * late, and what the loop sends is printed.
+ * late, and what the loop sends is printed, and once a second how much came and was sent.
  */
 #define _POSIX_C_SOURCE 200809L /* for clock_nanosleep */
-#include "arrivals.h"
+#include "counts.h"
+#include "deliveries.h"
 #include "faults.h"
 #include "opening.h"
 
@@ -21,14 +22,19 @@ static const char help[] =
     "Plays a show file and prints what is sent on in each frame, in the words of its lanes, and before it what is\n"
     "chosen in the input.\n"
     "\n"
+    "Behind every second it tells how many cues and levels arrived in it, in how many slices, and how many were sent.\n"
+    "A second in which nothing arrived is told too, and one in which no slice was fed: so it is seen whether the\n"
+    "stream is alive. At the end it tells how many arrived and were sent in all. Crossings and choices do not count.\n"
+    "\n"
     "  --seed N               slices are late as the number N says, 0 to 18446744073709551615; with 0, and without\n"
     "                         this word, none is late\n"
-    "  --frames-per-second N  1 to 1000; 60 without this word\n"
+    "  --frames-per-second N  1 to 1000; 60 without this word. So many frames are a second\n"
     "  --fast                 as fast as can be, in place of a number of frames a second: the seed alone decides how\n"
-    "                         the stream is cut\n"
+    "                         the stream is cut; 60 frames are a second\n"
     "\n"
     "At 60 frames a second, or another number, slices are delivered half a frame ahead. A thread that is held up for\n"
-    "longer cuts the stream in another way than the seed says. The same is sent all the same.\n"
+    "longer cuts the stream in another way than the seed says. The same is sent all the same, and as much in all; a\n"
+    "late slice can count in the next second.\n"
     "\n"
     "A slice that is refused, and a last slice in which the file ends, are told on the error stream and left out; the\n"
     "show goes on. Status: 0 the show was played, 1 its patch is refused, 2 the words or the file cannot be used, or\n"
@@ -53,16 +59,17 @@ struct mailbox {
 /* How the two threads keep time. */
 struct pace {
     bool lock_step;
-    long nanoseconds; /* between frames, unless in lock step */
+    size_t frames_a_second; /* in lock step they only say which frames are a second of the show */
+    long nanoseconds;       /* between frames, unless in lock step */
 };
 
 /*
- * The producer reads the show, the arrivals and the names, and until its thread has ended has `delivered` and `refused`
- * for itself; the patch and the lanes of the opened show are the frame loop's.
+ * The producer reads the show, the deliveries and the names, and until its thread has ended has `delivered` and
+ * `refused` for itself; the patch and the lanes of the opened show are the frame loop's.
  */
 struct player {
     struct opened_show *opened;
-    const size_t *arrivals;
+    const size_t *deliveries; /* for each recorded slice the frame */
     struct pace pace;
     struct timespec start; /* of the show, by the clock that both threads go by */
     struct mailbox mailbox;
@@ -193,7 +200,7 @@ static void deliver(struct player *player, size_t frame, size_t index)
     player->refused++;
 }
 
-/* The outside: delivers each slice in the frame in which it arrives. */
+/* The outside: delivers each slice in its frame. */
 static void *produce(void *argument)
 {
     struct player *player = argument;
@@ -205,7 +212,7 @@ static void *produce(void *argument)
         } else {
             await_frame(&due, player->pace);
         }
-        for (; next < count && player->arrivals[next] <= frame; next++) {
+        for (; next < count && player->deliveries[next] <= frame; next++) {
             deliver(player, frame, next);
         }
         mailbox_finish_frame(&player->mailbox, frame, next == count);
@@ -258,20 +265,79 @@ static void send_on(struct opened_show *opened, size_t frame, const struct joine
     program_flush();
 }
 
-struct tally {
-    size_t frames, feeds, refused;
+/* What was fed in a second; cues and levels as the library counts them. */
+struct second {
+    size_t frames, slices;
+    struct counts counts;
 };
 
+struct tally {
+    size_t frames, feeds, refused;
+    struct counts counts;
+    struct second second; /* the one that runs */
+};
+
+/* Feeds what was taken in a frame. A refused feed is as if the slice had not come: the patch stays. */
+static void feed_frame(struct opened_show *opened, size_t frame, const struct joined *taken, struct tally *tally)
+{
+    uint8_t output[WOSTHILE_SLICE_FILE_MAX];
+    wosthile_fed fed = patch_feed(&opened->patch, joined_file(taken), output);
+    if (fed.number != WOSTHILE_ACCEPTED) {
+        tell("frame %zu: the feed is refused with %u, and the patch stays: %s", frame, fed.number,
+             wosthile_sentence(fed.number));
+        tally->refused++;
+        return;
+    }
+    tally->feeds++;
+    tally->second.slices += taken->count;
+    counts_add(&tally->second.counts, &fed);
+    counts_add(&tally->counts, &fed);
+    send_on(opened, frame, taken, (struct file){output, fed.output});
+}
+
+/* None is a word, so that it is seen among the numbers. */
+static void print_count(const char *before, size_t count, const char *behind)
+{
+    if (count == 0) {
+        printf("%snothing %s", before, behind);
+    } else {
+        printf("%s%zu %s", before, count, behind);
+    }
+}
+
 /*
- * The frame loop. Whatever is fed here was admitted on delivery, so no feed is refused. In a loop that does not try its
- * slices before, a refused feed is as if the slice had not come: the patch stays, and the show goes on.
+ * Tells how much came and was sent in the second that ends, and begins the next. A second in which nothing arrived is
+ * told like any other: whoever looks whether a lane is alive has to see that too. Slices that bring nothing say that
+ * the outside is there; without any, it may not be. All this is printed between the frames, by the thread that prints
+ * these.
+ */
+static void end_second(struct tally *tally, size_t frames_a_second)
+{
+    const struct second *second = &tally->second;
+    printf("second %zu", (tally->frames - 1) / frames_a_second + 1);
+    if (second->frames < frames_a_second) {
+        printf(", only %zu %s", second->frames, plural(second->frames, "frame", "frames"));
+    }
+    if (second->slices == 0) {
+        printf(": no slice was fed\n");
+    } else {
+        print_count(": ", second->counts.arrived, "arrived");
+        printf(" in %zu %s", second->slices, plural(second->slices, "slice", "slices"));
+        print_count(", ", second->counts.sent, "sent\n");
+    }
+    tally->second = (struct second){0};
+    program_flush();
+}
+
+/*
+ * The frame loop. Whatever is fed here was admitted on delivery, so no feed is refused; in a loop that does not try its
+ * slices before, one can be, and the show goes on.
  */
 static struct tally draw_frames(struct player *player)
 {
-    struct opened_show *opened = player->opened;
     struct tally tally = {0};
     struct joined taken;
-    uint8_t output[WOSTHILE_SLICE_FILE_MAX];
+    size_t frames_a_second = player->pace.frames_a_second;
     struct timespec due = later(player->start, player->pace.nanoseconds / 2);
     for (size_t frame = 1;; frame++) {
         if (player->pace.lock_step) {
@@ -280,22 +346,21 @@ static struct tally draw_frames(struct player *player)
             await_frame(&due, player->pace);
         }
         if (!mailbox_take(&player->mailbox, frame, &taken)) {
-            return tally;
+            break;
         }
         tally.frames++;
-        if (taken.count == 0) {
-            continue;
+        tally.second.frames++;
+        if (taken.count > 0) {
+            feed_frame(player->opened, frame, &taken, &tally);
         }
-        wosthile_fed fed = patch_feed(&opened->patch, joined_file(&taken), output);
-        if (fed.number != WOSTHILE_ACCEPTED) {
-            tell("frame %zu: the feed is refused with %u, and the patch stays: %s", frame, fed.number,
-                 wosthile_sentence(fed.number));
-            tally.refused++;
-            continue;
+        if (tally.second.frames == frames_a_second) {
+            end_second(&tally, frames_a_second);
         }
-        tally.feeds++;
-        send_on(opened, frame, &taken, (struct file){output, fed.output});
     }
+    if (tally.second.frames > 0) {
+        end_second(&tally, frames_a_second);
+    }
+    return tally;
 }
 
 /* The refusals were told on the error stream, so what to look at is told there too. */
@@ -305,6 +370,7 @@ static void print_end(const struct opened_show *opened, struct tally tally, size
     printf("The show is over: %zu %s, %zu %s, %zu %s, %zu refused.\n", tally.frames,
            plural(tally.frames, "frame", "frames"), slices, plural(slices, "slice", "slices"), tally.feeds,
            plural(tally.feeds, "feed", "feeds"), refused);
+    counts_print("Cues and levels: ", &tally.counts, ".\n");
     lanes_print_owed(&opened->in, &opened->names.in);
     program_flush();
     if (refused > 1) {
@@ -332,11 +398,11 @@ static void play(struct player *player)
 /* Plays an opened show, its slices late as the seed says. */
 static void play_late(struct opened_show *opened, uint64_t seed, struct pace pace)
 {
-    size_t *arrivals = memory(opened->show.count + 1, sizeof *arrivals);
-    show_arrivals(seed, opened->show.count, arrivals);
-    struct player player = {.opened = opened, .arrivals = arrivals, .pace = pace, .delivered = opened->in};
+    size_t *deliveries = memory(opened->show.count + 1, sizeof *deliveries);
+    show_deliveries(seed, opened->show.count, deliveries);
+    struct player player = {.opened = opened, .deliveries = deliveries, .pace = pace, .delivered = opened->in};
     play(&player);
-    free(arrivals);
+    free(deliveries);
 }
 
 struct words {
@@ -383,8 +449,8 @@ static struct words read_words(int count, char **list)
 
 static struct pace pace_of(const struct words *words)
 {
-    uint64_t frames_per_second = words->frames_per_second == 0 ? 60 : words->frames_per_second;
-    return (struct pace){words->fast, 1000000000 / (long)frames_per_second};
+    size_t frames = words->frames_per_second == 0 ? FRAMES_A_SECOND : words->frames_per_second;
+    return (struct pace){words->fast, frames, 1000000000 / (long)frames};
 }
 
 int main(int count, char **list)

@@ -1,12 +1,14 @@
 /*
  * A rehearsal that tells something about the next show: it feeds a recorded stream as it was recorded, then cuts it
- * anew, many times at random, and compares what is sent and which patch is left, byte for byte.
+ * anew, many times at random, and compares what is sent and which patch is left, byte for byte, and how many cues and
+ * levels the library counts.
  *
  * A cut is a list of groups: each group of neighbouring slices is joined and fed as one. The first cut takes all slices
  * as one group; for each other one it is drawn anew how readily neighbours are joined.
  */
 #define _POSIX_C_SOURCE 200809L /* for clock_gettime and isatty */
-#include "arrivals.h"
+#include "counts.h"
+#include "deliveries.h"
 #include "faults.h"
 #include "opening.h"
 
@@ -22,6 +24,8 @@ static const char help[] =
     "Feeds a show file as it was recorded, then cuts the recording anew and feeds each cut: neighbouring slices are\n"
     "joined and fed as one. All that is sent, joined, and the patch left at the end have to be the same, byte for "
     "byte.\n"
+    "So have the numbers of cues and levels that arrived and that were sent, and they have to be what Admit counts in\n"
+    "all slices joined, and in all that is sent.\n"
     "\n"
     "  CUTS  how many cuts are tried, at least 1; 1000 without this word. The first takes all slices as one\n"
     "  SEED  the number that the other cuts are drawn by, 0 to 18446744073709551615; 1 without this word\n"
@@ -29,14 +33,15 @@ static const char help[] =
     "A slice that is refused as recorded, and a last slice in which the file ends, are told on the error stream and\n"
     "left out of all cuts; the answer ends with how many were refused.\n"
     "\n"
-    "Status: 0 no cut made a difference; 1 one did, or the patch is refused; 2 the words or the file cannot be used,\n"
-    "nothing could be compared, or the answer cannot be written.\n";
+    "Status: 0 no cut made a difference; 1 one did, or Feed and Admit do not count the same, or the patch is refused;\n"
+    "2 the words or the file cannot be used, nothing could be compared, or the answer cannot be written.\n";
 
-/* A patch that is being fed, from its start, and all that it has sent so far. */
+/* A patch that is being fed, from its start, all that it has sent so far, and what its feeds have counted. */
 struct run {
     struct patch patch;
     struct type output_type; /* at the start */
     struct joined sent;
+    struct counts counts;
 };
 
 /* Where a call was refused, if one was. */
@@ -81,6 +86,7 @@ static struct refusal feed_group(struct run *run, const struct file *slices, siz
     if (fed.number != WOSTHILE_ACCEPTED) {
         return (struct refusal){FEEDING, fed.number};
     }
+    counts_add(&run->counts, &fed);
     uint32_t number = joined_add(&run->sent, type_file(&run->output_type), (struct file){output, fed.output});
     return number == WOSTHILE_ACCEPTED ? none : (struct refusal){JOINING_OUTPUTS, number};
 }
@@ -93,7 +99,7 @@ static bool same_file(struct file one, struct file other)
 static bool same_state(const struct run *one, const struct run *other)
 {
     return same_file(joined_file(&one->sent), joined_file(&other->sent)) &&
-           same_file(patch_file(&one->patch), patch_file(&other->patch));
+           same_file(patch_file(&one->patch), patch_file(&other->patch)) && counts_same(&one->counts, &other->counts);
 }
 
 /* Tells that a recorded slice is left out, and why. */
@@ -127,6 +133,38 @@ static struct slices feed_as_recorded(struct run *run, struct opened_show *opene
         }
     }
     return accepted;
+}
+
+/* How many cues and levels Admit counts in slices that are joined to one of a type. */
+static size_t arrivals_of(struct file type, const struct joined *joined)
+{
+    return wosthile_admit(type.bytes, type.length, joined->bytes, joined->length).arrived;
+}
+
+/* What Admit counts in all accepted slices joined, and in all that was sent for them, joined. */
+static struct counts counts_of_joined(const struct run *start, const struct run *recorded, const struct slices *slices)
+{
+    struct joined come = {.count = 0};
+    struct file type = patch_input_type(&start->patch);
+    for (size_t index = 0; index < slices->count; index++) {
+        if (joined_add(&come, type, slices->list[index]) != WOSTHILE_ACCEPTED) {
+            break; /* the first cut finds this, and tells it */
+        }
+    }
+    return (struct counts){arrivals_of(type, &come), arrivals_of(type_file(&start->output_type), &recorded->sent)};
+}
+
+/* Joining slices adds their counts, so the sums of the feeds are the counts of all that was joined. */
+static bool counts_hold(const struct run *start, const struct run *recorded, const struct slices *slices)
+{
+    struct counts joined = counts_of_joined(start, recorded, slices);
+    if (counts_same(&recorded->counts, &joined)) {
+        return true;
+    }
+    printf("Feed and Admit do not count the same.\n");
+    counts_print("  cues and levels by Feed, slice by slice: ", &recorded->counts, "\n");
+    counts_print("  cues and levels by Admit, in all slices joined: ", &joined, "\n");
+    return false;
 }
 
 /* Draws a cut: neighbours are joined with a chance that is drawn first. */
@@ -232,6 +270,7 @@ static void print_state(const char *whose, const struct run *run)
     printf("%s\n", whose);
     print_file("sent so far, joined", joined_file(&run->sent));
     print_file("patch left", patch_file(&run->patch));
+    counts_print("  cues and levels so far: ", &run->counts, "\n");
 }
 
 /* Feeds the slices of a group one by one; they were all accepted so before. */
@@ -333,6 +372,17 @@ static void print_left_out(const struct slices *slices)
     }
 }
 
+/* The answer if no cut made a difference. */
+static void report_same(const struct run *recorded, const struct slices *slices, size_t cuts, struct tally tally,
+                        double seconds)
+{
+    printf("All joined outputs and all final patches are the same, byte for byte: %zu %s of %zu %s, %zu %s in all, "
+           "the largest of %zu joined, in %.2f seconds.\n",
+           cuts, plural(cuts, "cut", "cuts"), slices->count, plural(slices->count, "slice", "slices"), tally.feeds,
+           plural(tally.feeds, "feed", "feeds"), tally.largest, seconds);
+    counts_print("Cues and levels, in every cut: ", &recorded->counts, ".\n");
+}
+
 /* Compares cuts with the recording and reports. */
 static enum status compare(const struct run *start, const struct run *recorded, const struct slices *slices,
                            size_t cuts, uint64_t seed)
@@ -346,19 +396,17 @@ static enum status compare(const struct run *start, const struct run *recorded, 
         printf("Cut %zu of %zu makes a difference.\n", same + 1, cuts);
         report_difference(start, recorded, slices, &cut);
     } else {
-        printf("All joined outputs and all final patches are the same, byte for byte: %zu %s of %zu %s, %zu %s in all, "
-               "the largest of %zu joined, in %.2f seconds.\n",
-               cuts, plural(cuts, "cut", "cuts"), slices->count, plural(slices->count, "slice", "slices"), tally.feeds,
-               plural(tally.feeds, "feed", "feeds"), tally.largest, seconds_now() - began);
+        report_same(recorded, slices, cuts, tally, seconds_now() - began);
     }
+    bool hold = counts_hold(start, recorded, slices);
     print_left_out(slices);
     free(cut.joins);
-    return same < cuts ? STATUS_REFUSED : STATUS_DONE;
+    return same < cuts || !hold ? STATUS_REFUSED : STATUS_DONE;
 }
 
 static enum status rehearse(struct opened_show *opened, size_t cuts, uint64_t seed)
 {
-    struct run start = {.patch = opened->patch, .output_type = opened->output_type, .sent = {.count = 0}};
+    struct run start = {.patch = opened->patch, .output_type = opened->output_type};
     struct run recorded = start;
     struct slices slices = feed_as_recorded(&recorded, opened);
     if (slices.left_out > 1) {

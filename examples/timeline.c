@@ -17,22 +17,27 @@ static const char help[] =
     "slices are put in words below the panels; so is a show file that ends inside a slice. A pointer on the line of a\n"
     "choice shows what was chosen.\n"
     "\n"
+    "Above the lanes a row counts the cues and levels that arrive in each frame, and another those that are sent: a\n"
+    "bar with its number. Beside the row is how many there are in all; with --frames, how many of these are drawn. A\n"
+    "pointer on a bar shows its frame; in a long show a bar has several frames.\n"
+    "\n"
     "Exit status: 0 drawn, even if slices are refused; 1 the patch is refused; 2 words or files that cannot be used.\n";
 
 /* All lengths are in pixels. */
 enum { PAGE_WIDTH_MIN = 900, MARGIN = SVG_MARGIN, NAMES_WIDTH_MAX = 420, PLOT_WIDTH_MIN = 640 };
 enum { HEADER_HEIGHT = 112, TITLE_HEIGHT = 24, STRIP_HEIGHT = 30, FAULTS_HEIGHT = 26, HEADING_HEIGHT = 22 };
-enum { AXIS_HEIGHT = 58, LIST_LINE_HEIGHT = 16, LEGEND_ROW_HEIGHT = 22 };
+enum { COUNTS_HEIGHT = 25, AXIS_HEIGHT = 58, LIST_LINE_HEIGHT = 16, LEGEND_ROW_HEIGHT = 22 };
 
 /* Before the first frame there is room for the arrow of a crossing that comes in it. */
 enum { ROOM_BEFORE_FRAMES = 14 };
 
-enum { PANELS_MAX = 16, LISTED_MAX = 12, LISTED_LINES_MAX = 48, FRAMES_A_SECOND = 60 };
+enum { PANELS_MAX = 16, LISTED_MAX = 12, LISTED_LINES_MAX = 48 };
 enum { WORDS_BYTES = MESSAGE_BYTES + 64, COLUMN_WORDS_BYTES = WORDS_BYTES + 128, LABEL_BYTES = 48 };
 
 #define LANE_COLOUR "#e9eff6"
 #define OFFERED_COLOUR "#dff3ec" /* of a lane that may be chosen */
 #define JOINED_COLOUR "#ffd23f"
+#define COUNT_COLOUR "#3e5c76"
 
 /* The part of the show that is drawn. Of a show without frames it has none: from 1 to 0. */
 struct window {
@@ -49,16 +54,18 @@ struct drawing {
     double left, right; /* of the lanes */
     double frames_left; /* where the first frame begins */
     double frame_width, lane_height;
-    bool faults;      /* is there a row for refused slices? */
-    bool choices;     /* is there a choice on either side? */
-    bool empty_lanes; /* is there a lane in which nothing ever comes? */
+    unsigned greatest_count; /* of cues and levels in a column of any panel */
+    bool faults;             /* is there a row for refused slices? */
+    bool choices;            /* is there a choice on either side? */
+    bool empty_lanes;        /* is there a lane in which nothing ever comes? */
 };
 
 /* One of the two sides of a panel on the page. */
 struct rows {
     const struct side *side, *recorded;
     const struct side_names *names;
-    double top;
+    const char *done; /* what its cues and levels have done */
+    double top;       /* of its lanes; the counts are above them */
 };
 
 /*
@@ -398,15 +405,34 @@ static void draw_marks(const struct drawing *drawing, const struct rows *rows)
     }
 }
 
-/* The most slices that came as one in the frames of a column of the strip. */
-static unsigned most_slices(const struct drawing *drawing, const struct panel *panel, size_t column, size_t columns)
+static unsigned larger(unsigned one, unsigned other) { return one > other ? one : other; }
+
+/* How many columns the frames have in the rows above the lanes: one each, as long as there are pixels for that. */
+static size_t columns_in(const struct drawing *drawing)
 {
-    size_t frames = frames_in(drawing->window);
-    size_t from = drawing->window.first + column * frames / columns;
-    size_t behind = drawing->window.first + (column + 1) * frames / columns;
+    return earlier(frames_in(drawing->window), (size_t)(drawing->right - drawing->frames_left));
+}
+
+/* The frames of a column, and where its middle is. */
+struct column {
+    struct window frames;
+    double x, width;
+};
+
+static struct column column_at(const struct drawing *drawing, size_t index)
+{
+    size_t frames = frames_in(drawing->window), columns = columns_in(drawing), first = drawing->window.first;
+    double width = (drawing->right - drawing->frames_left) / (double)columns;
+    struct window window = {first + index * frames / columns, first + (index + 1) * frames / columns - 1};
+    return (struct column){window, drawing->frames_left + ((double)index + 0.5) * width, width};
+}
+
+/* The most slices that came as one in the frames of a column. */
+static unsigned most_slices(const struct panel *panel, struct window frames)
+{
     unsigned most = 0;
-    for (size_t frame = from; frame < behind && frame <= panel->frames; frame++) {
-        most = panel->slices[frame] > most ? panel->slices[frame] : most;
+    for (size_t frame = frames.first; frame <= frames.last && frame <= panel->frames; frame++) {
+        most = larger(most, panel->slices[frame]);
     }
     return most;
 }
@@ -414,22 +440,105 @@ static unsigned most_slices(const struct drawing *drawing, const struct panel *p
 /* How many slices came in each frame, as a row of small bars; where there is none, nothing was fed. */
 static void draw_strip(const struct drawing *drawing, const struct panel *panel, double bottom)
 {
-    double room = drawing->right - drawing->frames_left;
-    size_t frames = frames_in(drawing->window);
-    size_t columns = frames < (size_t)room ? frames : (size_t)room;
+    size_t columns = columns_in(drawing);
     svg_text(drawing->left - 8, bottom - 2, TEXT_ENDS, TEXT_SMALL, "slices in a frame");
     if (columns == 0) {
         return;
     }
-    double width = room / (double)columns;
-    svg_bars_begin(GREY_COLOUR, width * 0.8);
-    for (size_t column = 0; column < columns; column++) {
-        unsigned slices = most_slices(drawing, panel, column, columns);
+    svg_bars_begin(GREY_COLOUR, column_at(drawing, 0).width * 0.8);
+    for (size_t index = 0; index < columns; index++) {
+        struct column column = column_at(drawing, index);
+        unsigned slices = most_slices(panel, column.frames);
         if (slices > 0) {
-            svg_bar(drawing->frames_left + ((double)column + 0.5) * width, bottom, slices * 4);
+            svg_bar(column.x, bottom, slices * 4);
         }
     }
     svg_bars_end();
+}
+
+/* How many cues and levels a side has in some frames, as the library counted them. */
+static unsigned counted_in(const struct side *side, const struct panel *panel, struct window frames)
+{
+    unsigned count = 0;
+    for (size_t frame = frames.first; frame <= frames.last && frame <= panel->frames; frame++) {
+        count += side->counted[frame];
+    }
+    return count;
+}
+
+/* The greatest count of a column in any panel. It has the highest bar, so that bars can be compared on the page. */
+static unsigned greatest_count(const struct drawing *drawing, struct panel *const *panels, size_t count)
+{
+    unsigned greatest = 2; /* a single cue has no bar of full height */
+    for (size_t index = 0; index < count * columns_in(drawing); index++) {
+        const struct panel *panel = panels[index % count];
+        struct window frames = column_at(drawing, index / count).frames;
+        greatest = larger(greatest, counted_in(&panel->in, panel, frames));
+        greatest = larger(greatest, counted_in(&panel->out, panel, frames));
+    }
+    return greatest;
+}
+
+/* What is written at the row of counts: how many cues and levels are drawn and, if they are not all, of how many. */
+static void counts_label(char label[LABEL_BYTES], size_t drawn, size_t total)
+{
+    int length = snprintf(label, LABEL_BYTES, "cues and levels: %zu", drawn);
+    if (drawn < total) {
+        snprintf(label + length, LABEL_BYTES - (size_t)length, " of %zu", total);
+    }
+}
+
+/* What a pointer shows on a count. */
+static void count_words(char words[WORDS_BYTES], struct window frames, unsigned count, const char *done)
+{
+    if (frames.first == frames.last) {
+        snprintf(words, WORDS_BYTES, "frame %zu: %u %s", frames.first, count, done);
+    } else {
+        snprintf(words, WORDS_BYTES, "frames %zu to %zu: %u %s", frames.first, frames.last, count, done);
+    }
+}
+
+/*
+ * The bar of a column with its number, unless that would meet the one before it, which ends at label_end. The answer is
+ * where the last number ends now.
+ */
+static double draw_count(struct column column, unsigned count, unsigned greatest, double bottom, double label_end)
+{
+    const double room = 12, least = 2.5, gap = 4; /* two numbers are not to be taken for one */
+    double width = column.width * 0.8 < 4 ? 4 : column.width * 0.8 > 8 ? 8 : column.width * 0.8;
+    double height = least + (room - least) * count / greatest;
+    char label[LABEL_BYTES];
+    snprintf(label, sizeof label, "%u", count);
+    double half = svg_text_width(TEXT_COUNT, label) / 2;
+    svg_rectangle(column.x - width / 2, bottom - height, width, height, COUNT_COLOUR, 1);
+    if (column.x - half < label_end) {
+        return label_end;
+    }
+    svg_text(column.x, bottom - room - 1.5, TEXT_CENTRED, TEXT_COUNT, "%s", label);
+    return column.x + half + gap;
+}
+
+/*
+ * How many cues and levels came, or were sent, in each frame, as a row of bars with numbers above the lanes. It shows
+ * where the stream is alive; how many there are in all is the same in every panel.
+ */
+static void draw_counts(const struct drawing *drawing, const struct panel *panel, const struct rows *rows)
+{
+    double bottom = rows->top - 3, label_end = drawing->left;
+    char label[LABEL_BYTES], words[WORDS_BYTES];
+    counts_label(label, counted_in(rows->side, panel, drawing->window), rows->side->total);
+    svg_text(drawing->left - 8, bottom - 1, TEXT_ENDS, TEXT_SMALL, "%s", label);
+    svg_line(drawing->left, bottom, drawing->right, bottom, GREY_COLOUR, 0.5);
+    for (size_t index = 0; index < columns_in(drawing); index++) {
+        struct column column = column_at(drawing, index);
+        unsigned count = counted_in(rows->side, panel, column.frames);
+        if (count > 0) {
+            count_words(words, column.frames, count, rows->done);
+            svg_group_begin("counted", words);
+            label_end = draw_count(column, count, drawing->greatest_count, bottom, label_end);
+            svg_group_end();
+        }
+    }
 }
 
 static void refusal_words(char words[WORDS_BYTES], const struct refusal *refusal, size_t frame)
@@ -615,25 +724,29 @@ static void draw_panel_title(const struct panel *panel, struct window window, do
 static double panel_height(const struct drawing *drawing)
 {
     unsigned lanes = drawing->opened->in.count + drawing->opened->out.count;
-    return TITLE_HEIGHT + STRIP_HEIGHT + (drawing->faults ? FAULTS_HEIGHT : 0) + 2 * HEADING_HEIGHT +
+    return TITLE_HEIGHT + STRIP_HEIGHT + (drawing->faults ? FAULTS_HEIGHT : 0) + 2 * (HEADING_HEIGHT + COUNTS_HEIGHT) +
            lanes * drawing->lane_height + AXIS_HEIGHT;
 }
 
 static void draw_panel(const struct drawing *drawing, const struct panel *panel, double top)
 {
+    enum { ABOVE_LANES = HEADING_HEIGHT + COUNTS_HEIGHT };
     double strip = top + TITLE_HEIGHT + STRIP_HEIGHT, head = strip + (drawing->faults ? FAULTS_HEIGHT : 0);
-    struct rows in = {&panel->in, &drawing->recorded->in, &drawing->opened->names.in, head + HEADING_HEIGHT};
+    const struct lane_names *names = &drawing->opened->names;
+    struct rows in = {&panel->in, &drawing->recorded->in, &names->in, "arrived", head + ABOVE_LANES};
     double in_end = top_of(drawing, &in, panel->in.lanes.count + 1);
-    struct rows out = {&panel->out, &drawing->recorded->out, &drawing->opened->names.out, in_end + HEADING_HEIGHT};
+    struct rows out = {&panel->out, &drawing->recorded->out, &names->out, "sent", in_end + ABOVE_LANES};
     double bottom = top_of(drawing, &out, panel->out.lanes.count + 1);
     draw_panel_title(panel, drawing->window, top + 16);
     draw_axis(drawing, strip, bottom);
     draw_strip(drawing, panel, strip);
-    svg_text(MARGIN, in.top - 5, TEXT_STARTS, TEXT_HEADING, "What comes in");
-    svg_text(MARGIN, out.top - 5, TEXT_STARTS, TEXT_HEADING, "What is sent on");
+    svg_text(MARGIN, in.top - COUNTS_HEIGHT - 5, TEXT_STARTS, TEXT_HEADING, "What comes in");
+    svg_text(MARGIN, out.top - COUNTS_HEIGHT - 5, TEXT_STARTS, TEXT_HEADING, "What is sent on");
     draw_lanes(drawing, &in);
     draw_lanes(drawing, &out);
     draw_bands(drawing, panel, strip - STRIP_HEIGHT + 16, bottom);
+    draw_counts(drawing, panel, &in);
+    draw_counts(drawing, panel, &out);
     draw_marks(drawing, &in);
     draw_marks(drawing, &out);
     if (drawing->faults) {
@@ -779,25 +892,33 @@ static void draw_list(const struct fault_list *list, double top)
     }
 }
 
-/* The room that the names of a side need with the bands beside them. */
-static double names_width(const struct lanes *lanes, const struct side_names *names)
+static double wider(double one, double other) { return one > other ? one : other; }
+
+/* The room that the names of the rows above the lanes need, if not all of a side's cues and levels are drawn. */
+static double labels_width(size_t total)
+{
+    char label[LABEL_BYTES];
+    counts_label(label, total, total + 1);
+    return wider(svg_text_width(TEXT_SMALL, "slices in a frame"), svg_text_width(TEXT_SMALL, label));
+}
+
+/* The room that the names of a side need, those of its lanes with the bands beside them. */
+static double names_width(const struct side *side, const struct side_names *names)
 {
     struct numbered_parts parts;
-    double widest = svg_text_width(TEXT_SMALL, "slices in a frame");
-    parts_find(&parts, lanes);
-    for (unsigned lane = 1; lane <= lanes->count; lane++) {
-        double width = svg_text_width(TEXT_PLAIN, names->of[lane]);
-        widest = width > widest ? width : widest;
+    double widest = 0;
+    parts_find(&parts, &side->lanes);
+    for (unsigned lane = 1; lane <= side->lanes.count; lane++) {
+        widest = wider(widest, svg_text_width(TEXT_PLAIN, names->of[lane]));
     }
-    return (widest < NAMES_WIDTH_MAX ? widest : NAMES_WIDTH_MAX) + parts_width(&parts) + 8;
+    double lanes = (widest < NAMES_WIDTH_MAX ? widest : NAMES_WIDTH_MAX) + parts_width(&parts);
+    return wider(lanes, labels_width(side->total)) + 8;
 }
 
 static struct drawing lay_out(const struct opened_show *opened, const struct panel *recorded, struct window window)
 {
-    double in = names_width(&opened->in, &opened->names.in);
-    double out = names_width(&opened->out, &opened->names.out);
-    double left = MARGIN + (in > out ? in : out), right = left + PLOT_WIDTH_MIN;
-    right = right < PAGE_WIDTH_MIN - MARGIN ? PAGE_WIDTH_MIN - MARGIN : right;
+    double in = names_width(&recorded->in, &opened->names.in), out = names_width(&recorded->out, &opened->names.out);
+    double left = MARGIN + wider(in, out), right = wider(left + PLOT_WIDTH_MIN, PAGE_WIDTH_MIN - MARGIN);
     size_t frames = frames_in(window);
     return (struct drawing){
         .opened = opened,
@@ -917,6 +1038,7 @@ static void play_and_draw(const struct opened_show *opened, const struct words *
     }
     struct window window = choose_window(words, recorded->frames, last_frame(panels, words->count));
     struct drawing drawing = lay_out(opened, recorded, window);
+    drawing.greatest_count = greatest_count(&drawing, panels, words->count);
     draw(words->path, &drawing, panels, words->count);
     for (size_t index = 0; index < words->count; index++) {
         panel_release(panels[index]);

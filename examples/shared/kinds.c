@@ -102,6 +102,24 @@ size_t type_part(struct file section, size_t place, unsigned part)
     return within(section, place);
 }
 
+size_t type_arrivals_max(struct file section, size_t place)
+{
+    size_t first = 0, second = 0;
+    if (type_kind(section.bytes[place])->parts == 2) {
+        first = type_arrivals_max(section, type_part(section, place, 0));
+        second = type_arrivals_max(section, type_part(section, place, 1));
+    }
+    switch (section.bytes[place]) {
+    case WOSTHILE_TYPE_CUE:
+    case WOSTHILE_TYPE_LEVEL:
+        return 1;
+    case WOSTHILE_TYPE_EITHER:
+        return first > second ? first : second;
+    default:
+        return first + second;
+    }
+}
+
 unsigned value_at(struct file section, size_t place, unsigned value_bytes)
 {
     unsigned value = 0;

@@ -48,7 +48,7 @@ struct node_kind {
     const char *name;
     unsigned value_bytes;
     bool carries_type;
-    bool waits; /* for the first arrival in its input, if anything is owed there */
+    bool waits; /* until something comes in its input, be it a crossing or a choice, if anything is owed there */
     unsigned parts;
     enum part_input input[PARTS_MAX];
     struct file takes; /* the shape of its input, a type without its count in which an empty part is any type */
@@ -64,6 +64,12 @@ size_t type_end(struct file section, size_t place);
 
 /* The place of a part of the type's node at a place; part 0 is the first one. */
 size_t type_part(struct file section, size_t place, unsigned part);
+
+/*
+ * The most arrivals, which are cues and levels, that a stream can bring of the type's node at a place, from its first
+ * slice to its last: of an either those of the part that has more. The type is whole.
+ */
+size_t type_arrivals_max(struct file section, size_t place);
 
 /* The value of so many bytes from a place on, the high byte first. */
 unsigned value_at(struct file section, size_t place, unsigned value_bytes);

@@ -22,7 +22,7 @@ struct patch_node {
     struct type output;     /* length 0 where the node is refused */
     uint32_t number;        /* what wosthile_check answers for the node on its input; 0 if its input is open */
     bool takes_input;       /* its input has the shape, and what it carries is allowed; its parts apart */
-    bool waits;             /* a cue or level, for the first arrival in its input; others send at their first feed */
+    bool waits;             /* a cue or level, until something comes in its input; others send at their first feed */
 };
 
 struct patch_tree {

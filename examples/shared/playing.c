@@ -1,6 +1,6 @@
 #include "playing.h"
 
-#include "arrivals.h"
+#include "deliveries.h"
 #include "faults.h"
 
 #include <stdlib.h>
@@ -18,6 +18,13 @@ static void keep(struct side *side, size_t frame, struct file slice)
     }
 }
 
+/* Keeps how many cues and levels came, or were sent, in a frame; they are WOSTHILE_ARRIVALS_MAX at most. */
+static void keep_count(struct side *side, size_t frame, uint32_t count)
+{
+    side->counted[frame] = (uint8_t)count;
+    side->total += count;
+}
+
 /* Feeds what came in a frame. */
 static void play_frame(struct panel *panel, struct patch *patch, size_t frame, const struct joined *waiting)
 {
@@ -27,6 +34,8 @@ static void play_frame(struct panel *panel, struct patch *patch, size_t frame, c
         stop("frame %zu: slices that were admitted are refused with %u when they are fed", frame, fed.number);
     }
     panel->slices[frame] = (uint8_t)waiting->count;
+    keep_count(&panel->in, frame, fed.arrived);
+    keep_count(&panel->out, frame, fed.sent);
     keep(&panel->out, frame, (struct file){output, fed.output});
 }
 
@@ -58,8 +67,8 @@ static void keep_refusal(struct panel *panel, struct refusal refusal, const stru
     panel->refusals[panel->refused++] = refusal;
 }
 
-/* Plays the slices as they arrive: those of one frame are joined, without the refused ones. */
-static void play_slices(struct panel *panel, const struct opened_show *opened, const size_t *arrivals)
+/* Plays the slices as they are delivered: those of one frame are joined, without the refused ones. */
+static void play_slices(struct panel *panel, const struct opened_show *opened, const size_t *deliveries)
 {
     const struct show *show = &opened->show;
     struct patch patch = opened->patch;
@@ -68,14 +77,14 @@ static void play_slices(struct panel *panel, const struct opened_show *opened, c
         struct file slice = show->slices[index];
         uint32_t number = joined_add(&waiting, patch_input_type(&patch), slice);
         if (number == WOSTHILE_ACCEPTED) {
-            keep(&panel->in, arrivals[index], slice);
+            keep(&panel->in, deliveries[index], slice);
         } else {
-            struct refusal refusal = {.frame = arrivals[index], .recorded = index + 1, .number = number};
+            struct refusal refusal = {.frame = deliveries[index], .recorded = index + 1, .number = number};
             keep_refusal(panel, refusal, opened);
         }
-        bool last = index + 1 == show->count || arrivals[index + 1] != arrivals[index];
+        bool last = index + 1 == show->count || deliveries[index + 1] != deliveries[index];
         if (last && waiting.count > 0) {
-            play_frame(panel, &patch, arrivals[index], &waiting);
+            play_frame(panel, &patch, deliveries[index], &waiting);
             waiting.count = 0;
         }
     }
@@ -84,18 +93,20 @@ static void play_slices(struct panel *panel, const struct opened_show *opened, c
 struct panel *panel_play(const struct opened_show *opened, uint64_t seed)
 {
     const struct show *show = &opened->show;
-    size_t arriving = show->count + (show->unfinished.frame > 0);
+    size_t slices = show->count + (show->unfinished.frame > 0);
     struct panel *panel = memory(1, sizeof *panel);
-    size_t *arrivals = memory(arriving + 1, sizeof *arrivals);
-    show_arrivals(seed, arriving, arrivals);
+    size_t *deliveries = memory(slices + 1, sizeof *deliveries);
+    show_deliveries(seed, slices, deliveries);
     panel->seed = seed;
     panel->in.lanes = opened->in;
     panel->out.lanes = opened->out;
-    panel->frames = arriving == 0 ? 0 : arrivals[arriving - 1];
-    panel->broken_off = arriving > show->count ? panel->frames : 0;
+    panel->frames = slices == 0 ? 0 : deliveries[slices - 1];
+    panel->broken_off = slices > show->count ? panel->frames : 0;
     panel->slices = memory(panel->frames + 1, 1);
-    play_slices(panel, opened, arrivals);
-    free(arrivals);
+    panel->in.counted = memory(panel->frames + 1, 1);
+    panel->out.counted = memory(panel->frames + 1, 1);
+    play_slices(panel, opened, deliveries);
+    free(deliveries);
     return panel;
 }
 
@@ -105,6 +116,8 @@ void panel_release(struct panel *panel)
         free(panel->refusals[index].words);
     }
     free(panel->slices);
+    free(panel->in.counted);
+    free(panel->out.counted);
     free(panel->refusals);
     free(panel);
 }

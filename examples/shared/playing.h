@@ -18,6 +18,8 @@ struct side {
     struct lanes lanes;
     struct mark marks[WOSTHILE_TYPE_NODES_MAX];
     size_t count;
+    uint8_t *counted; /* the cues and levels in each frame, counted from 1, as the library tells their number */
+    size_t total;     /* of all frames */
 };
 
 /* A slice that was refused, and left out. To find the place of a fault takes long, so only the first ones have words.

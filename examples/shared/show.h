@@ -8,6 +8,9 @@
 #include <stddef.h>
 #include <stdint.h>
 
+/* How fast a show is recorded, and played unless somebody asks for another pace. */
+enum { FRAMES_A_SECOND = 60 };
+
 /* The bytes of a file that lies in somebody else's memory. */
 struct file {
     const uint8_t *bytes;

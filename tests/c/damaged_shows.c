@@ -1,6 +1,6 @@
 /*
- * Shows that are cut at every byte, and damaged at random: every refusal has a place in its file, and a show that ends
- * inside a slice is told so.
+ * Shows that are cut at every byte, and damaged at random: every refusal has a place in its file and counts no cue or
+ * level, and a show that ends inside a slice is told so.
  *
  *   damaged_shows FILE SHOW..
  */
@@ -16,9 +16,11 @@ static size_t try_slices(const struct show *show, struct patch *patch, struct la
         char text[MESSAGE_BYTES];
         struct lane_events events;
         uint8_t output[WOSTHILE_SLICE_FILE_MAX];
-        bool accepted = patch_feed(patch, show->slices[index], output).number == WOSTHILE_ACCEPTED;
+        wosthile_fed fed = patch_feed(patch, show->slices[index], output);
+        bool accepted = fed.number == WOSTHILE_ACCEPTED;
         slice_fault_text(text, sizeof text, lanes, show->slices[index], NULL, show);
         expect(accepted == (text[0] == '\0'), "the feed and the text disagree", show->slices[index]);
+        expect(accepted || (fed.arrived == 0 && fed.sent == 0), "a refused feed counts", show->slices[index]);
         if (accepted) {
             lanes_follow(lanes, show->slices[index], &events);
         } else {

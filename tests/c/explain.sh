@@ -24,7 +24,27 @@ explains() {
 explains_as_stored() {
     local show=$1 status=0
     [ "$(basename "$show")" = damaged.show ] && status=1
-    explains "$status" "$show" && diff "${show%.show}.explained" "$folder/out"
+    explains "$status" "$show" && diff "${show%.show}.explained" "$folder/out" && counts_what_it_lists
+}
+
+# In each frame as many cues and levels are counted as are listed below the count, and all of them at the end; no type
+# has fewer.
+counts_what_it_lists() {
+    awk '
+        function close_list() { if (listed != counted) { print "frame " frame ": " listed " of " counted; failed = 1 } }
+        /^(frame|[0-9]+ slices?: )/ { close_list(); listed = counted = 0; frame = $2 }
+        /^  (comes|is sent) \(cues and levels: [0-9]+\)$/ {
+            close_list()
+            listed = 0
+            counted = $NF + 0
+            sum[$1] += counted
+        }
+        /^    .*: (cue|level [0-9]+)$/ { listed++ }
+        /^Most cues and levels of the (input|output) type: / { most[$7] = $NF }
+        /^Cues and levels: / {
+            told = $4 == sum["comes"] + 0 && $6 == sum["is"] + 0 && $4 <= most["input"] + 0 && $6 <= most["output"] + 0
+        }
+        END { exit failed || !told }' "$folder/out"
 }
 
 # With --all every slice is listed, and nothing else changes.
@@ -35,7 +55,7 @@ explains_all_slices() {
         [ "$(grep -c '^frame [0-9]*, the slice' "$folder/out")" -eq "$3" ]
 }
 
-# A refusal with its number and its place in words, and with no longest slice: refused NUMBER PLACE WORDS
+# A refusal with its number and its place in words, with no longest slice and no count: refused NUMBER PLACE WORDS
 refused() {
     local number=$1 place=$2
     shift 2
@@ -46,7 +66,7 @@ refused() {
         echo "explain $*: not refused with $number at '$place'"
         return 1
     fi
-    tells_no_longest
+    tells_no_longest && ! grep -i 'cues and levels' "$folder/out"
 }
 
 tells_no_longest() {
@@ -188,6 +208,42 @@ explains_what_is_accepted() {
         explains 0 --patch "$folder/patch" && diff "$folder/by-bytes" "$folder/out"
 }
 
+# How many cues and levels a slice brings: brings COUNT TYPE SLICE
+brings() {
+    explains 0 --slice "$2" "$3" && grep -qx "Cues and levels that come in it: $1" "$folder/out" && return 0
+    cat "$folder/out"
+    echo "explain --slice '$2' '$3': $1 is due"
+    return 1
+}
+
+# The two bytes of a value are no kinds; a crossing, a choice and what came before are not counted.
+explains_arrivals() {
+    brings 0 '0 1 0' '0 1 0' && brings 0 '0 1 1' '0 1 1' && brings 1 '0 1 1' '0 1 2' && brings 0 '0 1 2' '0 1 3' &&
+        brings 1 '0 1 2' '0 3 4 2 4' && brings 2 '0 5 3 1 3 2 1' '0 6 6 2 5 4 2 4' &&
+        brings 0 '0 3 3 0 1' '0 3 6 0 1' && brings 0 '0 3 5 1 2' '0 1 8' && brings 0 '0 3 5 1 2' '0 2 9 1' &&
+        brings 1 '0 3 5 1 2' '0 4 10 4 2 2' && brings 2 '0 5 4 1 4 0 2' '0 7 7 2 7 0 4 0 2' &&
+        brings 128 "0 255 $(times 127 '4 2') 2" "1 255 $(times 127 '7 4 2 4')4 4 2"
+}
+
+# The most cues and levels of a type: most COUNT TYPE
+most() {
+    explains 0 --type "$2" && grep -qx "Most cues and levels of this type: $1" "$folder/out" && return 0
+    cat "$folder/out"
+    echo "explain --type '$2': $1 is due"
+    return 1
+}
+
+# Of an either the part that has more counts, which need not be that of the longest slice. A patch has a number for its
+# input and one for its output.
+explains_most() {
+    most 0 '0 1 0' && most 1 '0 1 1' && most 1 '0 1 2' && most 3 '0 5 4 1 3 2 1' && most 1 '0 3 5 1 2' &&
+        most 2 '0 5 5 2 4 1 1' && most 1 '0 5 5 4 0 0 2' && most 3 '0 7 3 5 3 1 1 0 2' && most 128 "0 255 $(times 127 '4 2') 2" &&
+        explains 0 --patch '0 5 3 4 1 2 1 0 3 4 0 8' && diff - <(grep 'cues and levels' "$folder/out") <<'END'
+Most cues and levels of the input type: 3
+Most cues and levels of the output type: 4
+END
+}
+
 # What is told of the cues and levels of a patch, from the first to the last: moments 'waits sends' PATCH
 moments() {
     local told
@@ -314,6 +370,8 @@ holds "counts that promise too much" explains_unread_sections
 holds "each number" explains_each_number
 holds "wrong lengths in a show" explains_wrong_lengths
 holds "what is accepted" explains_what_is_accepted
+holds "cues and levels that come in a slice" explains_arrivals
+holds "the most cues and levels" explains_most
 holds "cues and levels that wait" explains_waiting
 holds "longest slices of types" explains_longest_types
 holds "longest slices of patches" explains_longest_of_patches

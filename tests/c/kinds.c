@@ -1,6 +1,7 @@
 /*
  * The tables of kinds are held to the library: it accepts a tree with exactly the parts, the values, the carried types
  * and the shapes that a row lists, and has no kind that lacks a row. The nodes that wait are those whose row says so.
+ * The most arrivals of a type are what the library counts in the longest slices of what is left of it by some choices.
  */
 #include "made.h"
 
@@ -123,7 +124,7 @@ static bool stays(const uint8_t *nodes, size_t count, uint8_t slice_kind)
            memcmp(left.bytes + BEHIND_TYPE, patch.bytes + BEHIND_TYPE, patch.length - BEHIND_TYPE) == 0;
 }
 
-/* A node that takes every input waits for an arrival if an empty slice leaves it as it is, and an arrival does not. */
+/* A node that takes every input waits if an empty slice leaves it as it is, and one in which a cue comes does not. */
 static void try_waiting(uint8_t kind)
 {
     uint8_t nodes[16];
@@ -160,6 +161,61 @@ static void try_slice_on_types(uint8_t kind)
     }
 }
 
+/* Draws a type of a number of leaves to the end of a section's contents. */
+static void draw_type(struct made *made, unsigned leaves)
+{
+    if (leaves == 1) {
+        made->bytes[made->length++] = (uint8_t)draw(WOSTHILE_TYPE_SEQUENCE);
+        return;
+    }
+    unsigned first = 1 + draw(leaves - 1);
+    made->bytes[made->length++] = (uint8_t)(WOSTHILE_TYPE_SEQUENCE + draw(3));
+    draw_type(made, first);
+    draw_type(made, leaves - first);
+}
+
+/* The type with one of the two parts in the place of the either that begins at a place. */
+static struct made chosen(const struct made *type, size_t place, unsigned part)
+{
+    struct file section = file_of(type);
+    size_t begin = type_part(section, place, part), end = type_end(section, begin), behind = type_end(section, place);
+    struct made made = {.length = place};
+    memcpy(made.bytes, type->bytes, place);
+    memcpy(made.bytes + place, type->bytes + begin, end - begin);
+    made.length += end - begin;
+    memcpy(made.bytes + made.length, type->bytes + behind, type->length - behind);
+    made.length += type->length - behind;
+    return made;
+}
+
+/* The most that the library counts in a slice of a type, given as contents, by trying both parts of each either. */
+static size_t most_counted(const struct made *type)
+{
+    size_t place = 0;
+    while (place < type->length && type->bytes[place] != WOSTHILE_TYPE_EITHER) {
+        place++;
+    }
+    if (place < type->length) {
+        struct made one = chosen(type, place, 0), other = chosen(type, place, 1);
+        size_t first = most_counted(&one), second = most_counted(&other);
+        return first > second ? first : second;
+    }
+    struct made file = section(type->bytes, type->length);
+    uint8_t slice[WOSTHILE_SLICE_FILE_MAX];
+    size_t length = wosthile_longest(file.bytes, file.length, slice, sizeof slice).written;
+    return wosthile_admit(file.bytes, file.length, slice, length).arrived;
+}
+
+static void try_arrivals_max(void)
+{
+    for (unsigned time = 0; time < 2000; time++) {
+        struct made type = {.length = 0};
+        draw_type(&type, 1 + draw(16));
+        expect(type_arrivals_max(file_of(&type), 0) == most_counted(&type), "the most arrivals of a type",
+               file_of(&type));
+    }
+}
+
 static void try_tables(void)
 {
     for (unsigned kind = 0; kind < 256; kind++) {
@@ -173,5 +229,6 @@ int main(int count, char **words)
 {
     program_begin("kinds\n\nTries the tables of kinds.\n", count, words);
     try_tables();
+    try_arrivals_max();
     return end_test("the tables of kinds");
 }

@@ -1,11 +1,14 @@
 /*
- * Feeds that are wrong when slices come as one, to try that the rehearsal finds them. Linked with
+ * Feeds that are wrong, most of them when slices come as one, to try that the rehearsal finds them. Linked with
  * -Wl,--wrap=wosthile_feed, they take the place of the feed of the library. The environment variable LOSING says which:
  *
  *   crossing   the interpreter of old: a slice that crosses, and brings something before that, is not crossed
  *   behind     what is behind a crossing, in a slice that brings something before it, has not come
  *   choice     what comes in one slice with the choice of its part has not come
  *   patch      sends all, but after such a slice leaves a patch with two nodes more
+ *   arrived    does all, but of several cues and levels that came in a slice counts one
+ *   sent       does all, but of several cues and levels that it sends counts one
+ *   steps      does all, but counts crossings and choices with the cues and levels that came, however they come
  *
  * Without it the feed is that of the library.
  */
@@ -19,7 +22,7 @@ wosthile_fed __real_wosthile_feed(const uint8_t *patch, size_t patch_len, const 
 wosthile_fed __wrap_wosthile_feed(const uint8_t *patch, size_t patch_len, const uint8_t *slice, size_t slice_len,
                                   uint8_t *output, size_t output_len, uint8_t *left, size_t left_len);
 
-enum loss { NOTHING, CROSSING, BEHIND, CHOICE, PATCH };
+enum loss { NOTHING, CROSSING, BEHIND, CHOICE, PATCH, ARRIVED, SENT, STEPS };
 
 /* An accepted slice as it is read, and as it is written anew. */
 struct copy {
@@ -104,13 +107,42 @@ static bool copy_slice(struct copy *copy, bool emptied)
 static enum loss chosen_loss(void)
 {
     static const char *const words[] = {
-        [CROSSING] = "crossing", [BEHIND] = "behind", [CHOICE] = "choice", [PATCH] = "patch"};
+        [CROSSING] = "crossing", [BEHIND] = "behind", [CHOICE] = "choice", [PATCH] = "patch",
+        [ARRIVED] = "arrived",   [SENT] = "sent",     [STEPS] = "steps"};
     const char *word = getenv("LOSING");
     enum loss loss = word == NULL ? NOTHING : CROSSING;
-    while (loss != NOTHING && loss < PATCH && strcmp(word, words[loss]) != 0) {
+    while (loss != NOTHING && loss < STEPS && strcmp(word, words[loss]) != 0) {
         loss++;
     }
     return loss;
+}
+
+/* How many crossings and choices are in an accepted slice. */
+static uint32_t count_steps(const uint8_t *slice, size_t length)
+{
+    uint32_t steps = 0;
+    for (size_t place = 2; place < length; place++) {
+        uint8_t kind = slice[place];
+        steps += kind == WOSTHILE_SLICE_CROSSED || kind == WOSTHILE_SLICE_FIRST_CHOSEN ||
+                 kind == WOSTHILE_SLICE_SECOND_CHOSEN;
+        place += kind == WOSTHILE_SLICE_LEVEL_COME ? 2 : 0;
+    }
+    return steps;
+}
+
+/* The answer of a feed that counts in a wrong way. */
+static wosthile_fed miscounted(wosthile_fed fed, enum loss loss, const uint8_t *slice, size_t slice_len)
+{
+    if (loss == ARRIVED && fed.arrived > 1) {
+        fed.arrived = 1;
+    }
+    if (loss == SENT && fed.sent > 1) {
+        fed.sent = 1;
+    }
+    if (loss == STEPS) {
+        fed.arrived += count_steps(slice, slice_len);
+    }
+    return fed;
 }
 
 /* Puts `chain pass` before the nodes of a patch: it sends the same, and is another patch. */
@@ -133,6 +165,9 @@ wosthile_fed __wrap_wosthile_feed(const uint8_t *patch, size_t patch_len, const 
     wosthile_fed fed = __real_wosthile_feed(patch, patch_len, slice, slice_len, output, output_len, left, left_len);
     if (copy.loss == NOTHING || fed.number != WOSTHILE_ACCEPTED) {
         return fed;
+    }
+    if (copy.loss == ARRIVED || copy.loss == SENT || copy.loss == STEPS) {
+        return miscounted(fed, copy.loss, slice, slice_len);
     }
     copy_slice(&copy, false);
     if (!copy.lost) {

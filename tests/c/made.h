@@ -5,7 +5,7 @@
 #ifndef MADE_H
 #define MADE_H
 
-#include "arrivals.h"
+#include "deliveries.h"
 #include "faults.h"
 #include "program.h"
 
@@ -61,9 +61,13 @@ static inline struct made section(const uint8_t *bytes, size_t count)
     return made;
 }
 
+/* The number of a slice; a refused one is not complete and has no arrivals. */
 static inline uint32_t slice_number(struct file type, struct file slice)
 {
-    return wosthile_admit(type.bytes, type.length, slice.bytes, slice.length).number;
+    wosthile_admitted seen = wosthile_admit(type.bytes, type.length, slice.bytes, slice.length);
+    bool nothing = seen.complete == 0 && seen.arrived == 0;
+    expect(seen.number == WOSTHILE_ACCEPTED || nothing, "a refused slice", slice);
+    return seen.number;
 }
 
 static inline uint32_t patch_number(struct file patch)

@@ -1,8 +1,9 @@
 #!/usr/bin/env python3
-"""Draws shows and looks at the pictures: tests/c/pictures.py FOLDER, where timeline and diagram are in the folder.
+"""Draws shows and looks at the pictures: tests/c/pictures.py FOLDER, where timeline, diagram and frame_loop are in the
+folder.
 
-Every picture is read as XML. What it should show is taken from the show file, from the score of the shipped shows, or
-from a show made here for the purpose.
+Every picture is read as XML. What it should show is taken from the show file, from the score of the shipped shows, from
+what the frame loop counts, or from a show made here for the purpose.
 """
 import collections
 import itertools
@@ -225,8 +226,9 @@ def show_without_slices_has_no_frames():
     show = write_show("no_slices", [CUE], [0])
     picture = draw("timeline", show, 0, 7)
     assert panels(picture) == ["The show has no frames: nothing comes in"] * 2
-    small = words_of(picture, "small")
+    small = [words for words in words_of(picture, "small") if words != "cues and levels: 0"]
     assert small[0] == "no frames" and not any(re.search(r"\d", words) for words in small), small
+    assert not groups(picture, "counted")
     no_overlap(picture)
     assert "the show has 0 frames: there is no frame 1" in run("timeline", show, "--frames", 1, 1, status=2)[1]
     assert panels(draw("timeline", write_show("no_slices", [CUE], [0], [[1]]))) == ["As recorded: no slice is late"]
@@ -257,11 +259,113 @@ def empty_lanes_have_no_band():
     dashes = [path.get("d") for path in picture.iter(SVG + "path") if path.get("stroke-dasharray")]
     ends = [tuple(map(float, re.fullmatch(r"M([\d.]+) [\d.]+H([\d.]+)", dash).groups())) for dash in dashes][1:]
     left, crossed, right = bands[0][0], sum(bands[0]), float(picture.get("width")) - 16
-    assert len(bands) == 2 and ends == [(crossed, right), (left, right)] * 2, (len(bands), ends)
+    expected = [(crossed, right), (left, right)] * 2
+    assert len(bands) == 2 and len(ends) == 4, (len(bands), ends)
+    assert all(abs(met - due) < 0.2 for met, due in zip(sum(ends, ()), sum(expected, ()))), (ends, expected)
     assert words_of(picture, "small").count(words) == 1 and "that is no empty part" in words_of(picture, "plain")[0]
     no_overlap(picture)
     other = draw("timeline", "examples/shows/comet_to_saturn.show")
     assert words not in words_of(other, "small") and "empty" not in words_of(other, "plain")[0]
+
+
+def counts(picture):
+    """What the rows of counts tell of one panel, arrived and sent: for each bar its first frame, and how many."""
+    told = re.compile(r"frames? (\d+)(?: to \d+)?: (\d+) (arrived|sent)")
+    found = [told.fullmatch(words).groups() for words in titles(picture, "counted")]
+    return [{int(frame): int(count) for frame, count, row in found if row == done} for done in ("arrived", "sent")]
+
+
+def arrivals_in(slices):
+    """How many cues and levels come in each slice, by frame: its kinds 2 and 4. Behind a 4 are two bytes of a value."""
+    arrivals = {}
+    for frame, contents in enumerate(slices, 1):
+        kinds = re.sub(rb"\x04..", b"\x04", bytes(contents), flags=re.S)
+        arrivals[frame] = kinds.count(2) + kinds.count(4)
+    return {frame: count for frame, count in arrivals.items() if count > 0}
+
+
+def slices_of(show):
+    stream, slices = show.read_bytes(), []
+    place = 2 + stream[0] * 256 + stream[1]
+    while place + 2 <= len(stream):
+        length = stream[place] * 256 + stream[place + 1]
+        slices.append(stream[place + 4:place + 2 + length])
+        place += 2 + length
+    return slices
+
+
+def counts_are_those_of_the_slices():
+    """As recorded, what arrives is what the slices have. The damaged show's refused ones and its end bring nothing."""
+    for show in SHOWS:
+        slices = slices_of(show)
+        if show.name == "damaged.show":
+            slices = [[] if frame in (10, 14, 18, 22, 26, 48) else contents for frame, contents in enumerate(slices, 1)]
+        assert counts(draw("timeline", show))[0] == arrivals_in(slices), show
+
+
+def counts_are_those_of_the_lanes():
+    """In every frame there are as many marks of cues and levels as are counted, on both sides together, and there."""
+    for show, seed in itertools.product(SHOWS, [0, 19]):
+        picture = draw("timeline", show, seed)
+        marks = collections.Counter(int(re.search(r" in frame (\d+)", words)[1]) for words in titles(picture, "moment"))
+        arrived, sent = counts(picture)
+        assert marks == collections.Counter(arrived) + collections.Counter(sent), (show, seed)
+        middles = {float(bar.get("x")) + float(bar.get("width")) / 2 for group in groups(picture, "counted")
+                   for bar in group.iter(SVG + "rect")}
+        for shape in (path.get("d") for group in groups(picture, "moment") for path in group.iter(SVG + "path")):
+            x = float(re.match(r"M([\d.]+) ", shape)[1])
+            assert any(abs(x - middle) < 0.2 for middle in middles), (show, shape)
+
+
+def counts_are_those_of_the_frame_loop():
+    """In each second, and in all; the totals stand at the rows, the same in every panel."""
+    told = re.compile(r"^second \d+.*: (nothing|\d+) arrived in \d+ slices?, (nothing|\d+) sent$", re.M)
+    for show, seed in itertools.product(SHOWS, [0, 7, 19]):
+        played = run("frame_loop", show, "--fast", "--seed", seed)[0].decode()
+        seconds = [[0 if count == "nothing" else int(count) for count in line] for line in told.findall(played)]
+        drawn = [collections.Counter(), collections.Counter()]
+        for row, frames in zip(drawn, counts(draw("timeline", show, seed))):
+            for frame, count in frames.items():
+                row[(frame - 1) // 60] += count
+        assert [[row[second] for row in drawn] for second in range(len(seconds))] == seconds, (show, seed)
+        arrived, sent = re.search(r"^Cues and levels: (\d+) arrived, (\d+) sent\.$", played, re.M).groups()
+        small = words_of(draw("timeline", show, 0, 7, 19), "small")
+        labels = [words for words in small if words.startswith("cues and levels")]
+        assert labels == [f"cues and levels: {arrived}", f"cues and levels: {sent}"] * 3, labels
+
+
+def counts_can_be_read():
+    """Of 1, 2, 5 and 120 levels in a frame: a bar each, higher for more, with its number."""
+    due, slices, come = {40: 1, 80: 2, 120: 5, 160: 120}, [], 0
+    for frame in range(1, 201):
+        count = due.get(frame, 0)
+        parts = [[0] if lane < come else [4, 4, 2] if lane < come + count else [3] for lane in range(128)]
+        slices.append([byte for part in parts[:-1] for byte in [7] + part] + parts[-1])
+        come += count
+    show = write_show("counted", [BESIDE, LEVEL] * 127 + [LEVEL], [0], slices)
+    picture = draw("timeline", show)
+    assert counts(picture) == [due] * 2
+    for side in groups(picture, "counted")[:4], groups(picture, "counted")[4:]:
+        heights = [float(bar.get("height")) for group in side for bar in group.iter(SVG + "rect")]
+        assert heights == sorted(heights) and heights[0] >= 2 and heights[-1] == 12, heights
+        assert [words_of(group, "count") for group in side] == [["1"], ["2"], ["5"], ["120"]]
+    no_overlap(picture)
+    part = draw("timeline", show, "--frames", 100, 140)
+    assert counts(part) == [{120: 5}] * 2 and words_of(part, "small").count("cues and levels: 5 of 128") == 2
+    no_overlap(part)
+
+
+def counts_of_long_shows_are_added():
+    """Of 100,000 frames many share a bar. A cue comes in frame 50,001, a level in the next, and a cue at the end."""
+    slices = [[7, 1, 7, 3, 1]] * 50_000 + [[7, 2, 7, 3, 1], [7, 0, 7, 4, 0, 2, 1]]
+    slices += [[7, 0, 7, 0, 1]] * 49_997 + [[7, 0, 7, 0, 2]]
+    show = write_show("long_counted", [BESIDE, CUE, BESIDE, LEVEL, CUE], [0], slices)
+    told = re.compile(r"frames (\d+) to (\d+): (\d+) (?:arrived|sent)")
+    bars = [tuple(map(int, told.fullmatch(words).groups())) for words in titles(draw("timeline", show), "counted")]
+    assert [count for _, _, count in bars] == [2, 1] * 2, bars
+    assert all(first <= 50_001 and 50_002 <= last and last - first < 200 for first, last, _ in bars[::2]), bars
+    assert all(first < last == 100_000 for first, last, _ in bars[1::2]), bars
+    assert counts(draw("timeline", show, "--frames", 50_001, 50_010)) == [{50_001: 1, 50_002: 1}] * 2
 
 
 def lateness_is_told():
@@ -571,8 +675,9 @@ def main():
     failed = 0
     for test in [every_show_is_drawn, seconds_are_beside_frames, damage_is_marked, broken_length_is_marked,
                  many_refusals_are_marked, pictures_of_long_shows_are_small, frames_asked_for_are_drawn,
-                 show_without_slices_has_no_frames, low_levels_are_seen, empty_lanes_have_no_band, lateness_is_told,
-                 lateness_is_in_its_lane,
+                 show_without_slices_has_no_frames, low_levels_are_seen, empty_lanes_have_no_band,
+                 counts_are_those_of_the_slices, counts_are_those_of_the_lanes, counts_are_those_of_the_frame_loop,
+                 counts_can_be_read, counts_of_long_shows_are_added, lateness_is_told, lateness_is_in_its_lane,
                  late_crossings_are_told_from_lanes, choices_are_marked, open_choices_are_offered,
                  arrows_are_seen_beside_cues, long_names_are_whole, nodes_are_boxes, lanes_lead_to_their_names,
                  chosen_parts_meet, patch_alone_is_drawn, every_kind_is_drawn, largest_patches_are_drawn,

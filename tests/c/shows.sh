@@ -36,19 +36,97 @@ prints_as_stored() {
         diff "$stored" - && diff "$messages" "$folder/messages"
 }
 
-# However the show is cut, the same things are sent, and the same is owed at the end.
+# However the show is cut, the same is sent, as many arrive and are sent in all, and the same is owed at the end.
 sends_the_same() {
     local show=$1 seed
     sent "$show" --fast >"$folder/recorded"
-    grep -q '^The input is' "$folder/recorded" || return 1
+    grep -q '^The input is' "$folder/recorded" && grep -q '^Cues and levels: ' "$folder/recorded" || return 1
     for seed in 1 2 3 19 1000003; do
         sent "$show" --fast --seed "$seed" | diff "$folder/recorded" - || return 1
     done
 }
 
-# What the frame loop sends and what is owed at the end. In one frame the lanes decide the order, so it is left out.
+# What the frame loop sends, how much arrived and was sent in all, and what is owed at the end. In one frame the lanes
+# decide the order, so it is left out; so are the counts of each second, which a late slice changes.
 sent() {
-    timeout 60 "$folder/frame_loop" "$@" | grep -E '^(    |The input)' | sort
+    timeout 60 "$folder/frame_loop" "$@" | grep -E '^(    |The input|Cues and levels)' | sort
+}
+
+# What the frame loop has printed is on standard input: there is a line for each second, in order, of so many frames; it
+# has as many sent as are printed in it; and the sums are those at the end: adds_up FRAMES
+adds_up() {
+    awk -v per_second="$1" '
+        function wrong(why) { print why ": " $0; failed = 1 }
+        /^frame / { if (int(($2 - 1) / per_second) != seconds) wrong("in another second") }
+        /^    / && !/^    (came in, |crossing: |first chosen: |second chosen: )/ { printed++ }
+        /^second / {
+            if ($2 + 0 != ++seconds) wrong("out of turn")
+            frames += $3 == "only" ? $4 : per_second
+            line = $0
+            sub(/^[^:]*: /, "", line)
+            if (line == "no slice was fed") line = "nothing arrived in 0 slices, nothing sent"
+            if (line !~ /^(nothing|[0-9]+) arrived in [0-9]+ slices?, (nothing|[0-9]+) sent$/) wrong("no counts")
+            split(line, word, " ")
+            if (word[6] + 0 != printed) wrong(printed + 0 " were printed")
+            arrived += word[1]
+            sent += word[6]
+            printed = 0
+        }
+        /^The show is over: / { if ($5 != frames + 0) wrong(frames + 0 " frames are in the seconds") }
+        /^Cues and levels: / {
+            if ($4 != arrived + 0 || $6 != sent + 0) wrong(arrived + 0 " and " sent + 0 " are in the seconds")
+            told = 1
+        }
+        END { exit failed || !told }'
+}
+
+# However the show is cut, the seconds add up.
+counts_every_second() {
+    local show=$1 seed
+    for seed in 0 1 2 3 19 1000003; do
+        "$folder/frame_loop" "$show" --fast --seed "$seed" >"$folder/sent" && adds_up 60 <"$folder/sent" || return 1
+    done
+}
+
+# As recorded, in each second arrives what the score has in its frames.
+counts_the_score() {
+    local show=$1
+    awk '/^frames / { frames = $2 }
+         frames && /^ +[0-9]+ (cue|level) / { arrive[int(($1 - 1) / 60)]++ }
+         END { for (second = 0; second * 60 < frames; second++) print second + 1, arrive[second] + 0 }' \
+        "${show%.show}.score" >"$folder/due" &&
+        "$folder/frame_loop" "$show" --fast |
+        sed -n 's/: nothing arrived/: 0 arrived/; s/^second \([0-9]*\).*: \([0-9]*\) arrived .*/\1 \2/p' | diff "$folder/due" -
+}
+
+# A second in which nothing comes is seen, and so is one without a slice: in the second one all slices are refused. The
+# patch sends twice what arrives.
+tells_dead_seconds() {
+    {
+        printf 'type cue "call" patch both pass pass frames 181\n'
+        printf '%d bytes 0 1 9\n' $(seq 61 120)
+        printf '150 cue 1\n'
+    } >"$folder/dead.score"
+    "$folder/make_show" "$folder/dead.score" &&
+        "$folder/frame_loop" "$folder/dead.show" --fast >"$folder/sent" 2>"$folder/messages" &&
+        adds_up 60 <"$folder/sent" && diff - <(grep -v '^    \|^frame' "$folder/sent") <<'END'
+second 1: nothing arrived in 60 slices, nothing sent
+second 2: no slice was fed
+second 3: 1 arrived in 60 slices, 2 sent
+second 4, only 1 frame: nothing arrived in 1 slice, nothing sent
+The show is over: 181 frames, 181 slices, 121 feeds, 60 refused.
+Cues and levels: 1 arrived, 2 sent.
+The input is complete: nothing is owed.
+END
+}
+
+# Of one show three programs tell the same counts, and the rehearsal those of every cut.
+counts_the_same() {
+    local show=$1
+    "$folder/frame_loop" "$show" --fast | grep '^Cues and levels: ' >"$folder/told" &&
+        "$folder/explain" "$show" | grep '^Cues and levels: ' | diff "$folder/told" - &&
+        "$folder/rehearsal" "$show" 3 | sed -n 's/^Cues and levels, in every cut:/Cues and levels:/p' |
+        diff "$folder/told" -
 }
 
 # The two recordings of choose_a_sky have one patch, and are played one way and the other.
@@ -139,6 +217,12 @@ plays_in_time() {
         sent examples/shows/damaged.show --seed 3 --frames-per-second 1000 | diff "$folder/recorded" -
 }
 
+# A second has as many frames as are asked for.
+counts_seconds_in_time() {
+    timeout 60 "$folder/frame_loop" examples/shows/damaged.show --frames-per-second 40 >"$folder/sent" 2>"$folder/messages" &&
+        adds_up 40 <"$folder/sent" && grep -q '^second 2, only [1-9][0-9]* frames\?: ' "$folder/sent"
+}
+
 # A show without slices, whose only lane has no name; the rehearsal has nothing to compare.
 ends_by_itself() {
     printf '\0\6\0\1\1\0\1\0' >"$folder/empty.show"
@@ -195,23 +279,28 @@ tells_counts() {
         return 1
     done <<'END'
 1|frame_loop SHOW --fast|The show is over: 1 frame, 1 slice, 1 feed, 0 refused.
+1|frame_loop SHOW --fast|second 1, only 1 frame: 1 arrived in 1 slice, 1 sent
+2|frame_loop SHOW --fast|Cues and levels: 1 arrived, 1 sent.
 2|frame_loop SHOW --fast|The show is over: 2 frames, 2 slices, 1 feed, 1 refused.
 3|frame_loop SHOW --fast|The show is over: 3 frames, 3 slices, 1 feed, 2 refused.
 2|rehearsal SHOW 1|1 of 2 recorded slices was refused and left out.
 2|rehearsal SHOW 1|: 1 cut of 1 slice, 1 feed in all, the largest of 1 joined
 4|rehearsal SHOW 2|3 of 4 recorded slices were refused and left out.
+4|rehearsal SHOW 2|Cues and levels, in every cut: 1 arrived, 1 sent.
 1|explain SHOW|1 slice: 1 brings something, 0 bring nothing, 0 are refused.
 2|explain SHOW|2 slices: 1 brings something, 0 bring nothing, 1 is refused.
 3|explain SHOW|3 slices: 1 brings something, 0 bring nothing, 2 are refused.
+3|explain SHOW|Cues and levels: 1 arrived, 1 sent.
 END
 }
 
-# The rehearsal's answer ends with the slices that it is not about; if there are none, with what it compared.
+# The rehearsal's answer ends with the slices that it is not about; if there are none, with what it counted.
 answers_for_all_slices() {
     "$folder/rehearsal" examples/shows/damaged.show 3 2>"$folder/messages" | tail -n 1 |
         grep -qx '5 of 47 recorded slices were refused and left out\.' &&
-        "$folder/rehearsal" examples/shows/lamp_fade.show 3 2>"$folder/messages" | tail -n 1 |
-        grep -q '^All joined outputs and all final patches are the same'
+        "$folder/rehearsal" examples/shows/lamp_fade.show 3 2>"$folder/messages" | tail -n 2 >"$folder/answer" &&
+        head -n 1 "$folder/answer" | grep -q '^All joined outputs and all final patches are the same' &&
+        tail -n 1 "$folder/answer" | grep -qx 'Cues and levels, in every cut: 8 arrived, 10 sent\.'
 }
 
 # For each place at which a show file can be cut: the place, the frame loop's exit status, and what has to be told.
@@ -327,12 +416,16 @@ for stored in examples/shows/*.expected; do
 done
 for show in examples/shows/*.show; do
     holds "$show is sent the same however it is cut" sends_the_same "$show"
+    holds "$show is counted second by second" counts_every_second "$show"
+    holds "$show is counted as its score has it" counts_the_score "$show"
+    holds "$show is counted the same by all" counts_the_same "$show"
     holds "$show rehearsed" "$folder/rehearsal" "$show" 200
     holds "$show damaged" survives_damage "$show"
 done
 holds "choose_a_sky is played both ways" chooses_both_ways
 holds "house_fills opens with the greeting" opens_with_the_greeting
 holds "house_fills in the README" readme_plays_house_fills
+holds "seconds in which nothing comes" tells_dead_seconds
 holds "what is owed" tells_owed
 holds "damaged.show says what is wrong with it" tells_all_six
 holds "a refused patch" tells_refused_patch_alone
@@ -346,6 +439,7 @@ holds "10 lines that name no lane" tells_ten_lines 10 ''
 holds "11 lines that name no lane" tells_ten_lines 11 'frame_loop: many.lanes: and 1 more line'
 holds "10000 lines that name no lane" tells_ten_lines 10000 'frame_loop: many.lanes: and 9990 more lines'
 holds "60 frames a second" plays_in_time
+holds "40 frames a second, counted" counts_seconds_in_time
 holds "no slices" ends_by_itself
 [ "$failed" -eq 0 ] && echo "the example programs and the shows, $compiler ${words[*]}: all held"
 exit "$failed"

@@ -1,4 +1,4 @@
-#include "arrivals.h"
+#include "deliveries.h"
 
 /* Splitmix64: every state gives another number, and neighbouring seeds give unlike ones. */
 uint64_t next_random(uint64_t *state)
@@ -17,7 +17,7 @@ static size_t lateness(uint64_t random)
     return frames[random % 8];
 }
 
-void show_arrivals(uint64_t seed, size_t count, size_t *arrivals)
+void show_deliveries(uint64_t seed, size_t count, size_t *deliveries)
 {
     uint64_t state = seed;
     size_t latest = 0;
@@ -27,6 +27,6 @@ void show_arrivals(uint64_t seed, size_t count, size_t *arrivals)
             frame += lateness(next_random(&state));
         }
         latest = frame > latest ? frame : latest;
-        arrivals[index] = latest;
+        deliveries[index] = latest;
     }
 }
