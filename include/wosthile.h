@@ -11,13 +11,14 @@
  *   wosthile_left      what the slice leaves of the type: what is still to come
  *   wosthile_join      two slices, the second of what the first leaves, as one slice
  *   wosthile_feed      what the patch sends for a slice, the patch that is left for the next slice, and how much came
- *                      and was sent
+ *                      and was sent; the patch keeps the totals
  *   wosthile_longest   the longest slice of a type, by which the packets of a link are sized
  *
  * Files. A section is a count of two bytes, the high byte first, and then that many bytes. They hold one tree in
  * preorder: the root, then its parts from left to right. Each node of a tree begins with the byte of its kind
  * (enum wosthile_type_kind, wosthile_slice_kind and wosthile_node_kind). A type file and a slice file are one section;
- * a patch file is two, the type of its input and then its nodes. All values below are decimal.
+ * a patch file is three, the type of its input, then its nodes, then its totals, which are eight bytes and no tree. All
+ * values below are decimal.
  *
  * A type is nullable if it is 0, or a 4 with both parts nullable; a sequence and an either never are. A type has at
  * most 255 nodes, wherever it arises, and a patch at most 63; the nodes of a type that a node carries count for that
@@ -38,6 +39,13 @@
  * fed and those of the slice that it sends. A slice of a type of n nodes has at most (n + 1) / 2, and so no slice more
  * than WOSTHILE_ARRIVALS_MAX. Joining two slices adds their arrivals. So however a stream is cut, the sums over its
  * accepted feeds are the same, of what arrived and of what was sent.
+ *
+ * Totals say how much has arrived and how much was sent in the whole show: the third section of a patch file is both as
+ * numbers of four bytes, what arrived first, the high byte first. A patch that was never fed has eight zeros there.
+ * wosthile_feed adds the arrivals of the slice fed and of the slice sent, and writes the sums into the patch left. So
+ * the totals go wherever the patch file goes: a show that is moved to another box goes on counting there, and however
+ * its stream was cut, its totals are the same. wosthile_totals_of reads them. Each goes up to WOSTHILE_TOTAL_MAX; a
+ * slice with which one would pass it is refused with 31.
  *
  * In a frame loop. Keep the type file that wosthile_check writes, and two patch buffers. The first slice is one of the
  * patch's input type, and every later one is a slice of what the slices before it leave of that type. This is always
@@ -85,19 +93,20 @@
 #include <stdint.h>
 
 /*
- * The release, for people. Since 1.4.0 wosthile_admit and wosthile_feed count arrivals, in fields behind those that
- * their answers had. Since 1.3.0 a cue or level node sends only when its own slice is not empty or is complete, where
- * before it sent at its first feed, whatever that brought.
+ * The release, for people. Since 1.5.0 a patch file has a third section, the totals; a file of before, with two, is
+ * refused with 1, and 0 8 0 0 0 0 0 0 0 0 behind its last byte makes it one of now. Since 1.4.0 wosthile_admit and
+ * wosthile_feed count arrivals, in fields behind those that their answers had. Since 1.3.0 a cue or level node sends
+ * only when its own slice is not empty or is complete, where before it sent at its first feed, whatever that brought.
  */
-#define WOSTHILE_RELEASE "1.4.0"
+#define WOSTHILE_RELEASE "1.5.0"
 
-/* The binary interface: changes whenever a struct or a function below asks for compiling again. See wosthile_abi. */
-#define WOSTHILE_ABI 2
+/* The binary interface: changes whenever a struct, a function or a size asks for compiling again. See wosthile_abi. */
+#define WOSTHILE_ABI 3
 
 /* The greatest sizes of accepted files, in bytes. A lent buffer of that size is long enough for every answer. */
 #define WOSTHILE_TYPE_FILE_MAX 257
 #define WOSTHILE_SLICE_FILE_MAX 513
-#define WOSTHILE_PATCH_FILE_MAX 8482
+#define WOSTHILE_PATCH_FILE_MAX 8492
 
 /* The most nodes of a type, and of a patch. */
 #define WOSTHILE_TYPE_NODES_MAX 255
@@ -105,6 +114,10 @@
 
 /* The most cues and levels that can come in one slice, or be sent in one: the leaves of a type of 255 nodes. */
 #define WOSTHILE_ARRIVALS_MAX 128
+
+/* The greatest total of a patch, and the bytes of its third section: the count, 0 8, and both totals. */
+#define WOSTHILE_TOTAL_MAX 4294967295u
+#define WOSTHILE_TOTALS_SECTION 10
 
 /* A thread that makes these calls needs so many bytes of stack beside its own; the deepest patches take most. */
 #define WOSTHILE_STACK_MAX 61440
@@ -161,10 +174,11 @@ enum wosthile_node_kind {
 };
 
 /*
- * The number in every answer: 0, or that of a fault. 1 to 4 speak of a type or a patch, 5 to 7 and 30 of a patch alone,
- * 11 to 14 of a slice, 20 of a lent buffer. Where one place has several faults, 4 and 5 come before 1 and 1 before 2;
- * in a slice 11 comes before 12 and 12 before 14. What each says is in wosthile_sentence. The program explain finds the
- * byte at which a file is wrong; examples/shared/faults.h does it in C, with these calls alone.
+ * The number in every answer: 0, or that of a fault. 1 to 4 speak of a type or a patch, 5 to 7 and 30 of a patch
+ * alone, 11 to 14 of a slice, 31 of the totals that a slice would leave, 20 of a lent buffer. Where one place has
+ * several faults, 4 and 5 come before 1 and 1 before 2; in a slice 11 comes before 12 and 12 before 14. What each says
+ * is in wosthile_sentence. The program explain finds the byte at which a file is wrong; examples/shared/faults.h does
+ * it in C, with these calls alone.
  */
 enum wosthile_number {
     WOSTHILE_ACCEPTED = 0,
@@ -180,7 +194,8 @@ enum wosthile_number {
     WOSTHILE_FAULT_SLICE_LEFT_OVER = 13,
     WOSTHILE_FAULT_SLICE_MISPLACED = 14,
     WOSTHILE_FAULT_NO_ROOM = 20,
-    WOSTHILE_FAULT_OUTPUTS_DIFFER = 30
+    WOSTHILE_FAULT_OUTPUTS_DIFFER = 30,
+    WOSTHILE_FAULT_TOTAL_TOO_LARGE = 31
 };
 
 /* The sentence of a number, for a log or a screen. */
@@ -190,11 +205,11 @@ static inline const char *wosthile_sentence(uint32_t number)
     case WOSTHILE_ACCEPTED:
         return "The call was accepted.";
     case WOSTHILE_FAULT_CUT_SHORT:
-        return "A section is longer than the bytes that remain, or a tree needs a byte past its section.";
+        return "A section is longer than the bytes that remain, or what it holds needs a byte past it.";
     case WOSTHILE_FAULT_UNLISTED:
         return "A kind byte is not listed.";
     case WOSTHILE_FAULT_LEFT_OVER:
-        return "Bytes follow a whole tree in its section, or follow the last section.";
+        return "Bytes follow a whole tree, or the totals, in its section, or follow the last section.";
     case WOSTHILE_FAULT_TYPE_TOO_LARGE:
         return "A type needs a 256th node.";
     case WOSTHILE_FAULT_TOO_MANY_NODES:
@@ -216,6 +231,8 @@ static inline const char *wosthile_sentence(uint32_t number)
         return "The lent buffer, or either of two, is too short for this answer; one of the greatest size never is.";
     case WOSTHILE_FAULT_OUTPUTS_DIFFER:
         return "The two nodes of choose give different types.";
+    case WOSTHILE_FAULT_TOTAL_TOO_LARGE:
+        return "A total of the patch would pass 4,294,967,295.";
     default:
         return "No operation answers this number.";
     }
@@ -243,13 +260,33 @@ typedef struct {
     uint32_t sent;    /* how many cues and levels are in the slice sent; 0 on a refusal */
 } wosthile_fed;
 
+/* The totals of a patch: how many cues and levels arrived, and how many were sent, in all feeds that led to it. */
+typedef struct {
+    uint32_t arrived;
+    uint32_t sent;
+} wosthile_totals;
+
+/* A number of four bytes, the high byte first. */
+static inline uint32_t wosthile_four_bytes(const uint8_t *bytes)
+{
+    return (uint32_t)bytes[0] << 24 | (uint32_t)bytes[1] << 16 | (uint32_t)bytes[2] << 8 | bytes[3];
+}
+
+/* Reads the totals of a patch file that an operation accepted or wrote: its last eight bytes. */
+static inline wosthile_totals wosthile_totals_of(const uint8_t *patch, size_t patch_len)
+{
+    wosthile_totals totals = {wosthile_four_bytes(patch + patch_len - 8), wosthile_four_bytes(patch + patch_len - 4)};
+    return totals;
+}
+
 /*
  * Writes to type the file of the type that the patch gives, at most WOSTHILE_TYPE_FILE_MAX bytes; the patch file may be
  * shorter than that. Refuses the patch with 1 to 7 or 30, then with 20.
  *
- * The whole file is read first, from left to right, and refused with 1 to 5. Then the nodes are tried in preorder: at a
- * node 7, then 6, then the faults of its parts, then 30 if it is choose and its two nodes give different types, then 4
- * if the type that it gives needs a 256th node.
+ * The whole file is read first, from left to right, and refused with 1 to 5: a third section of another length than
+ * eight with 1 if it is shorter or not whole, with 3 if it is longer, a missing one with 1. Then the nodes are tried
+ * in preorder: at a node 7, then 6, then the faults of its parts, then 30 if it is choose and its two nodes give
+ * different types, then 4 if the type that it gives needs a 256th node.
  */
 wosthile_written wosthile_check(const uint8_t *patch, size_t patch_len, uint8_t *type, size_t type_len);
 
@@ -294,14 +331,16 @@ wosthile_written wosthile_join(const uint8_t *type, size_t type_len, const uint8
 /*
  * Feeds the slice to the patch. Writes to output the file of the slice that the patch sends, at most
  * WOSTHILE_SLICE_FILE_MAX bytes, and to left the file of the patch left, at most WOSTHILE_PATCH_FILE_MAX bytes. The
- * patch left is a patch that wosthile_check accepts: its input type, the first section, is what the slice leaves of the
- * input type, and it gives what the output leaves of the type that the patch gave. It can be longer than the patch fed:
- * the six bytes 0 1 1 0 1 2, a cue node on a cue, fed 0 1 2 leave the seven 0 1 0 0 2 1 0. Only a buffer of
+ * patch left is a patch that wosthile_check accepts: its input type, the first section, is what the slice leaves of
+ * the input type, and it gives what the output leaves of the type that the patch gave. Its totals are those of the
+ * patch fed and the arrivals of the two slices. It can be longer than the patch fed: with the totals behind them, the
+ * six bytes 0 1 1 0 1 2, a cue node on a cue, fed 0 1 2 leave the seven 0 1 0 0 2 1 0. Only a buffer of
  * WOSTHILE_PATCH_FILE_MAX bytes is always long enough.
  *
  * Refuses the patch as wosthile_check does, with 1 to 7 or 30; then the slice with 11 to 14, against the input type of
- * the patch; then with 20 if either buffer is too short. A refusal alters neither buffer, so the next feed is handed
- * the patch that this one was handed.
+ * the patch; then with 31 if a total would pass WOSTHILE_TOTAL_MAX; then with 20 if either buffer is too short. A
+ * refusal alters neither buffer, so the next feed is handed the patch that this one was handed. A slice without
+ * arrivals, for which nothing is sent, is accepted whatever the totals are.
  *
  * The arrivals of the slice fed are in arrived, whatever the patch does with them, and those of the slice sent in sent:
  * both and spread can send an arrival twice, left may send none of them, and a cue or level node sends one of its own,

@@ -4,10 +4,12 @@ use mathlib.Core.Path.{_≡_}
 use Prim.Native.Nat.{ℕ}
 use Rattle.stream.specs.Types.{Ty, empty, seq, par, either}
 use Rattle.stream.specs.Prefixes.{Prefix, nothing, cue-awaited, cue-come, level-awaited, level-come, in-first, crossed, beside, none-chosen, first-chosen, second-chosen, empty-prefix, Opens, derivative}
+use Rattle.node.specs.Totals.{added, Held}
 use Rattle.node.specs.Nodes.{Node, pass, silent, emit-cue, emit-level, both, left-side, right-side, first, second, then, chain, regroup-right, regroup-left, spread, front, choose, mark-first, mark-second, Takes, Patch}
 pub mod Functions
 pub mod Laws
 pub mod Lists
+pub mod Patches
 pub mod Examples
 
 -- Feeds s n p o n′: fed the prefix p of s, the node n sends o and leaves n′.
@@ -67,7 +69,12 @@ pub data Feeds : Ty → Node → Prefix → Prefix → Node → Type 0 where
   feeds-mark-second : {s t : Ty} {p : Prefix} → Feeds s (mark-second t) p (second-chosen p) pass
 
 -- FeedsPatch a p o b: fed p, the patch a sends o and leaves the patch b. "The patch left has as its input type what the slice
--- leaves."
+-- leaves", and "Feed adds its two counts" (M-105).
 pub record FeedsPatch (a : Patch) (p o : Prefix) (b : Patch) : Type 0 where
   pub by-node : Feeds (a .input) (a .node) p o (b .node)
   pub input-left : b .input ≡ derivative (a .input) p
+  pub totals-left : b .totals ≡ added (a .totals) p o
+
+-- The limits of Feed (M-105): "31, a total would pass 4,294,967,295", of the patch that the rules leave.
+pub record Within (a : Patch) (p : Prefix) : Type 0 where
+  pub totals : (o : Prefix) (b : Patch) → FeedsPatch a p o b → Held (b .totals)

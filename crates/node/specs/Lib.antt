@@ -1,3 +1,4 @@
+pub mod Totals
 pub mod Nodes
 pub mod Feeding
 pub mod Checking

@@ -3,6 +3,7 @@
 use Prim.Native.Nat.{ℕ, suc, _+_, _<_, _≤_}
 use Rattle.stream.specs.Types.{Ty, empty, cue, level, seq, par, either, Nullable, Small}
 use Rattle.stream.specs.Levels.{level-limit}
+use Rattle.node.specs.Totals.{Totals}
 pub mod Functions
 pub mod Kinds
 pub mod Laws
@@ -99,10 +100,11 @@ pub record Allowed (s : Ty) (n : Node) (t : Ty) : Type 0 where
   pub few : Few n
   pub each-small : (u : Ty) → Arises s n u → Small u
 
--- A patch: "the input type and then the nodes".
+-- A patch: "the input type and then the nodes", and its totals (M-105).
 pub record Patch : Type 0 where
   pub input : Ty
   pub node : Node
+  pub totals : Totals
 
-abbrev pub patch-of : Ty → Node → Patch
-patch-of s n = record { input = s; node = n }
+abbrev pub patch-of : Ty → Node → Totals → Patch
+patch-of s n c = record { input = s; node = n; totals = c }

@@ -1,5 +1,5 @@
 -- Patch files: their bytes, and Check's two passes over them with refusals 1 to 7 and 30 (document 01, Files and Operations;
--- document 02, M-100).
+-- document 02, M-100 and M-105).
 use mathlib.Core.List.{List, [], _∷_}
 use mathlib.Core.Path.{_≡_}
 use Prim.Native.Nat.{ℕ}
@@ -9,6 +9,7 @@ use Rattle.stream.specs.Types.{Ty}
 use Rattle.stream.specs.Levels.{value-width}
 use Rattle.stream.specs.Reading.{Reading, read, fault, Result, accepted, read-on, go-on, whole, next-byte, number-bytes, read-number, section-bytes, section, Root, tree, leaf, two-parts}
 use Rattle.stream.specs.TypeFiles.{type-bytes, read-type, type-section}
+use Rattle.node.specs.Totals.{Held, totals-bytes, totals-section}
 use Rattle.node.specs.Nodes.{Node, pass, silent, emit-cue, emit-level, both, left-side, right-side, first, second, then, chain, regroup-right, regroup-left, spread, front, choose, mark-first, mark-second, node-limit, Allowed, Patch}
 use Rattle.node.specs.Checking.{typing}
 pub mod Laws
@@ -35,15 +36,17 @@ node-bytes (choose n m) r = 15 ∷ node-bytes n (node-bytes m r)
 node-bytes (mark-first t) r = 16 ∷ type-bytes t r
 node-bytes (mark-second t) r = 17 ∷ type-bytes t r
 
--- "A patch file is two [sections], the input type and then the nodes."
+-- "A patch file is two [sections], the input type and then the nodes." "Each patch file gets a third section of eight bytes."
 unfoldable pub patch-file-bytes : Patch → List ℕ
-patch-file-bytes p = section-bytes (type-bytes (p .input) []) (section-bytes (node-bytes (p .node) []) [])
+patch-file-bytes p =
+    section-bytes (type-bytes (p .input) []) (section-bytes (node-bytes (p .node) []) (section-bytes (totals-bytes (p .totals) []) []))
 
--- The bytes that are a patch file: those of trees that the rules and the limits allow.
+-- The bytes that are a patch file: those of trees that the rules and the limits allow, and of totals.
 pub record PatchFile (file : List ℕ) : Type 0 where
   pub trees : Patch
   pub output : Ty
   pub allowed : Allowed (trees .input) (trees .node) output
+  pub held : Held (trees .totals)
   pub bytes : patch-file-bytes trees ≡ file
 
 -- What each kind byte begins, by its number.
@@ -86,7 +89,8 @@ pub record Checked : Type 0 where
 -- "First pass, left to right .. the type section ends before the next begins."
 unfoldable pub patch-sections : List ℕ → Reading Patch
 patch-sections s =
-    read-on (type-section s) (λ t r. read-on (node-section r) (λ n rest. read (record { input = t; node = n }) rest))
+    read-on (type-section s) (λ t r. read-on (node-section r) (λ n x. read-on (totals-section x) (λ c rest.
+    read (record { input = t; node = n; totals = c }) rest)))
 
 unfoldable pub first-pass : List ℕ → Result Patch
 first-pass s = whole LeftOver (patch-sections s)

@@ -23,9 +23,10 @@ arrivals-limit = 128
 abbrev pub twice-node-bytes : ℕ → ℕ
 twice-node-bytes c = 257 * c + 255
 
--- The nodes of a patch, and a patch file: both counts, and a type of 255 nodes. "No file is longer than 8,482 bytes."
+-- The nodes of a patch, and a patch file: three counts, a type of 255 nodes, and eight bytes of totals. "A patch file may now have
+-- 8,492 bytes" (document 02, M-105).
 abbrev pub node-bytes-limit : ℕ
 node-bytes-limit = 8223
 
 abbrev pub patch-file-limit : ℕ
-patch-file-limit = 8482
+patch-file-limit = 8492

@@ -5,7 +5,7 @@ use mathlib.Core.Path.{_≡_}
 use Prim.Native.Nat.{ℕ}
 use lib.Dec.{eqb}
 use Rattle.stream.specs.declared.Fault.{Fault}
-use Rattle.stream.specs.declared.Fault.the-variants.{CutShort, Unlisted, LeftOver, TypeTooLarge, TooManyNodes, NotNullable, WrongShape, SliceCutShort, SliceUnlisted, SliceLeftOver, SliceMisplaced, NoRoom, OutputsDiffer}
+use Rattle.stream.specs.declared.Fault.the-variants.{CutShort, Unlisted, LeftOver, TypeTooLarge, TooManyNodes, NotNullable, WrongShape, SliceCutShort, SliceUnlisted, SliceLeftOver, SliceMisplaced, NoRoom, OutputsDiffer, TotalTooLarge}
 
 abbrev pub number : Fault → ℕ
 number CutShort = 1  -- a section is longer than the bytes remain, or a tree needs a byte past its section
@@ -21,6 +21,7 @@ number SliceLeftOver = 13  -- bytes left over after a slice
 number SliceMisplaced = 14  -- a slice's kind that does not belong there
 number NoRoom = 20  -- a lent buffer is too short for the answer
 number OutputsDiffer = 30  -- choose's output types differ
+number TotalTooLarge = 31  -- a total would pass 4,294,967,295
 
 -- The numbers that the documents list for what is read: a type ("1 to 4"), a slice ("11 .. 14") and a patch ("1" to "7", and 30).
 abbrev pub type-numbers : List ℕ

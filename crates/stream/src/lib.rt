@@ -17,6 +17,7 @@ pub enum Fault {
     SliceMisplaced,
     NoRoom,
     OutputsDiffer,
+    TotalTooLarge,
 }
 
 // The number of a refusal, which a caller in another language is told.
@@ -37,5 +38,6 @@ pub fn number_of(fault: Fault) -> u32
         Fault::SliceMisplaced => 14,
         Fault::NoRoom => 20,
         Fault::OutputsDiffer => 30,
+        Fault::TotalTooLarge => 31,
     }
 }

@@ -6,6 +6,7 @@ use Rattle.stream.specs.Prefixes.{Prefix, nothing, cue-awaited, cue-come, level
 use Rattle.stream.specs.Prefixes.Functions.{opens, on-seq, on-par, on-either}
 use Rattle.node.specs.Nodes.{Node, pass, silent, emit-cue, emit-level, both, left-side, right-side, first, second, then, chain, regroup-right, regroup-left, spread, front, choose, mark-first, mark-second, Patch}
 use Rattle.node.specs.Nodes.Functions.{output-type}
+use Rattle.node.specs.Totals.{added}
 
 unfoldable pub sends : Ty → Node → Prefix → Prefix
 sends s pass p = p
@@ -59,4 +60,5 @@ leaves s (mark-first t) p = pass
 leaves s (mark-second t) p = pass
 
 abbrev pub patch-left : Patch → Prefix → Patch
-patch-left a p = record { input = derivative (a .input) p; node = leaves (a .input) (a .node) p }
+patch-left a p =
+    record { input = derivative (a .input) p; node = leaves (a .input) (a .node) p; totals = added (a .totals) p (sends (a .input) (a .node) p) }

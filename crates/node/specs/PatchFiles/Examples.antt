@@ -8,9 +8,12 @@ use Rattle.stream.specs.Reading.Examples.{verdict, section-of, copies, numbers,
 use Rattle.node.specs.PatchFiles.{Checked, patch-file}
 use Rattle.node.specs.Computing.{node-definitions}
 
--- The sections of a patch file.
+-- The sections of a patch file, with bytes of the third one's; and with totals of 0.
+abbrev pub with-totals : List ℕ → List ℕ → List ℕ → List ℕ
+with-totals input nodes totals = section-of input ++ section-of nodes ++ totals
+
 abbrev pub sections : List ℕ → List ℕ → List ℕ
-sections input nodes = section-of input ++ section-of nodes
+sections input nodes = with-totals input nodes (section-of (copies 8 (0 ∷ []) []))
 
 -- A type of 255 nodes, and 62 nodes that want one more.
 abbrev largest : List ℕ
@@ -32,6 +35,7 @@ table =
     ∷ ([], 1)
     ∷ (0 ∷ [], 1)
     ∷ (section-of (1 ∷ []), 1)
+    ∷ (section-of (1 ∷ []) ++ section-of (0 ∷ []), 1)
     ∷ (sections (1 ∷ []) (3 ∷ 7 ∷ []), 1)
     -- the type section ends before the next begins; the last section ends before the file does
     ∷ (0 ∷ 1 ∷ 77 ∷ 0 ∷ 9 ∷ [], 2)
@@ -39,7 +43,18 @@ table =
     ∷ (sections (1 ∷ 200 ∷ []) (0 ∷ []), 3)
     ∷ (sections (1 ∷ []) (77 ∷ []) ++ 5 ∷ [], 2)
     ∷ (sections (1 ∷ []) (0 ∷ 0 ∷ []), 3)
+    -- the third section: full, shorter, longer, not whole, of one byte; bytes behind it
+    ∷ (with-totals (1 ∷ []) (0 ∷ []) (section-of (copies 8 (255 ∷ []) [])), 0)
+    ∷ (with-totals (1 ∷ []) (0 ∷ []) (section-of []), 1)
+    ∷ (with-totals (1 ∷ []) (0 ∷ []) (section-of (copies 7 (0 ∷ []) [])), 1)
+    ∷ (with-totals (1 ∷ []) (0 ∷ []) (section-of (copies 9 (0 ∷ []) [])), 3)
+    ∷ (with-totals (1 ∷ []) (0 ∷ []) (0 ∷ 9 ∷ copies 8 (0 ∷ []) []), 1)
+    ∷ (with-totals (1 ∷ []) (0 ∷ []) (0 ∷ 7 ∷ copies 8 (0 ∷ []) []), 1)
+    ∷ (with-totals (1 ∷ []) (0 ∷ []) (0 ∷ 9 ∷ copies 10 (0 ∷ []) []), 3)
+    ∷ (with-totals (1 ∷ []) (0 ∷ []) (0 ∷ 8 ∷ copies 9 (0 ∷ []) []), 3)
+    ∷ (with-totals (1 ∷ []) (0 ∷ []) (0 ∷ []), 1)
     -- the first pass comes before the second
+    ∷ (with-totals (1 ∷ []) (5 ∷ []) (section-of (copies 7 (0 ∷ []) [])), 1)
     ∷ (sections (1 ∷ []) (5 ∷ []) ++ 0 ∷ [], 3)
     ∷ (sections (1 ∷ []) (10 ∷ 5 ∷ 99 ∷ []), 2)
     -- 7 and 6 at the node's own turn in preorder

@@ -1,10 +1,10 @@
 -- A patch file is accepted exactly if it is the file of a patch that the rules and the limits allow.
 use mathlib.Core.Path.{_≡_, refl}
 use mathlib.Core.Logic.{_↔_}
-use mathlib.Core.List.{List, [], _∷_, append-nil}
+use mathlib.Core.List.{List, [], _∷_}
 use Prim.Native.Nat.{ℕ, suc, _+_, _*_, _≤_, _<_}
 use native.Mathlib.Omega.{arith}
-use lib.ListN.{length, getD, length-append}
+use lib.ListN.{length, getD}
 use Rattle.stream.specs.declared.Fault.{Fault}
 use Rattle.stream.specs.declared.Fault.the-variants.{CutShort, Unlisted, LeftOver, TooManyNodes}
 use Rattle.stream.specs.Types.{Ty, type-limit, Small}
@@ -13,10 +13,12 @@ use Rattle.stream.specs.Faults.{type-numbers, patch-numbers, Listed}
 use Rattle.stream.specs.Levels.{level-limit, value-bytes, read-value}
 use Rattle.stream.specs.Levels.Laws.{value-length, value-is-bytes, value-reads, value-sound, value-faults}
 use Rattle.stream.specs.Reading.{Bytes, Reading, read, fault, accepted, IsAccepted, read-on, section-bytes, Root, leaf, two-parts}
-use Rattle.stream.specs.Reading.Laws.{Reads, reads-leaf, reads-two, tree-reads, RootIs, leaf-is, FoundContents, carried-is, two-is, tree-sound, section-reads, section-sound, whole-sound, _&_, past, every, bytes-tail, bytes-nil, bytes-cons, section-is-bytes, read-on-read, go-on-accepted}
+use Rattle.stream.specs.Reading.Laws.{Reads, reads-leaf, reads-two, tree-reads, RootIs, leaf-is, FoundContents, carried-is, two-is, tree-sound, section-reads, section-sound, section-length, whole-sound, _&_, past, every, bytes-tail, bytes-nil, bytes-cons, section-is-bytes, read-on-read, go-on-accepted}
 use Rattle.stream.specs.Reading.Refusals.{Faults, Refusals, read-on-faults, go-on-refusals, section-faults, tree-faults, whole-refusals, faults-too, listed-first}
 use Rattle.stream.specs.TypeFiles.{type-bytes, read-type, type-section}
 use Rattle.stream.specs.TypeFiles.Laws.{type-length, type-is-bytes, type-section-is-bytes, read-type-reads, read-type-sound, type-section-reads, type-section-sound, read-type-faults, type-section-faults}
+use Rattle.node.specs.Totals.{Totals, Held, totals-bytes, totals-section}
+use Rattle.node.specs.Totals.Laws.{totals-length, totals-section-is-bytes, totals-section-reads, totals-section-sound, totals-section-faults}
 use Rattle.node.specs.Nodes.{Node, pass, silent, emit-cue, emit-level, both, left-side, right-side, first, second, then, chain, regroup-right, regroup-left, spread, front, choose, mark-first, mark-second, count, node-limit, Allowed, Patch, patch-of, Few}
 use Rattle.node.specs.Nodes.Laws.{is-allowed, allowed-fits}
 use Rattle.node.specs.Checking.{typing}
@@ -52,12 +54,20 @@ pub nodes-length : (n : Node) → Carries n → Few n → length (node-bytes n [
 unfolding node-limit
 nodes-length n f h = omega (arith, node-length n [] f)
 
--- "No file is longer than 8,482 bytes."
-pub patch-file-length : {s t : Ty} {n : Node} → Allowed s n t → length (patch-file-bytes (patch-of s n)) ≤ patch-file-limit
-unfolding patch-file-bytes section-bytes type-limit
-patch-file-length {s} {t} {n} a =
-    rw (append-nil (node-bytes n []), length-append (type-bytes s []) _)
-    (omega (arith, type-length s [], nodes-length n (types-carries (a .types) (allowed-fits a)) (a .few), a .input-small))
+-- "A patch file may now have 8,492 bytes."
+pub patch-file-length : {s t : Ty} {n : Node} (c : Totals) → Allowed s n t → length (patch-file-bytes (patch-of s n c)) ≤ patch-file-limit
+unfolding patch-file-bytes type-limit
+patch-file-length {s} {t} {n} c a =
+    omega (
+      arith,
+      section-length (type-bytes s []) (section-bytes (node-bytes n []) (section-bytes (totals-bytes c []) [])),
+      section-length (node-bytes n []) (section-bytes (totals-bytes c []) []),
+      section-length (totals-bytes c []) [],
+      totals-length c [],
+      type-length s [],
+      nodes-length n (types-carries (a .types) (allowed-fits a)) (a .few),
+      a .input-small,
+    )
 
 -- What is written are bytes
 
@@ -82,12 +92,13 @@ node-is-bytes (choose n m) r f b = bytes-cons 15 (node-bytes n (node-bytes m r))
 node-is-bytes (mark-first t) r f b = bytes-cons 16 (type-bytes t r) (omega arith) (type-is-bytes t r b)
 node-is-bytes (mark-second t) r f b = bytes-cons 17 (type-bytes t r) (omega arith) (type-is-bytes t r b)
 
-pub patch-file-is-bytes : {s t : Ty} {n : Node} → Allowed s n t → Bytes (patch-file-bytes (patch-of s n))
+pub patch-file-is-bytes : {s t : Ty} {n : Node} (c : Totals) → Allowed s n t → Bytes (patch-file-bytes (patch-of s n c))
 unfolding patch-file-bytes
-patch-file-is-bytes {s} {t} {n} a =
+patch-file-is-bytes {s} {t} {n} c a =
     let f = types-carries (a .types) (allowed-fits a) in
-    type-section-is-bytes s (section-bytes (node-bytes n []) []) (a .input-small)
-    (section-is-bytes (node-bytes n []) [] (omega (arith, nodes-length n f (a .few))) (node-is-bytes n [] f bytes-nil) bytes-nil)
+    type-section-is-bytes s (section-bytes (node-bytes n []) (section-bytes (totals-bytes c []) [])) (a .input-small)
+    (section-is-bytes (node-bytes n []) (section-bytes (totals-bytes c []) []) (omega (arith, nodes-length n f (a .few)))
+    (node-is-bytes n [] f bytes-nil) (totals-section-is-bytes c [] bytes-nil))
 
 -- Reading what was written
 
@@ -121,12 +132,13 @@ unfolding node-section
 node-section-reads n r f h =
     section-reads CutShort LeftOver read-node (node-bytes n []) r n (read-node-reads n [] f h)
 
-pub patch-file-complete : {s t : Ty} {n : Node} → Allowed s n t
-    → patch-file (patch-file-bytes (patch-of s n)) ≡ accepted (record { patch = patch-of s n; output = t })
+pub patch-file-complete : {s t : Ty} {n : Node} {c : Totals} → Allowed s n t → Held c
+    → patch-file (patch-file-bytes (patch-of s n c)) ≡ accepted (record { patch = patch-of s n c; output = t })
 unfolding patch-file first-pass patch-sections second-pass patch-file-bytes
-patch-file-complete {s} {t} {n} a =
-    rw (type-section-reads s (section-bytes (node-bytes n []) []) (a .input-small))
-    (rw (node-section-reads n [] (types-carries (a .types) (allowed-fits a)) (a .few)) (rw (typing-complete (a .types) (allowed-fits a))))
+patch-file-complete {s} {t} {n} {c} a h =
+    rw (type-section-reads s (section-bytes (node-bytes n []) (section-bytes (totals-bytes c []) [])) (a .input-small))
+    (rw (node-section-reads n (section-bytes (totals-bytes c []) []) (types-carries (a .types) (allowed-fits a)) (a .few))
+    (rw (totals-section-reads c [] h) (rw (typing-complete (a .types) (allowed-fits a)))))
 
 -- What was read was written
 
@@ -189,38 +201,44 @@ record FoundNodes (s : List ℕ) (n : Node) (r : List ℕ) : Type 0 where
   bytes : section-bytes (node-bytes n []) r ≡ s
   carries : Carries n
   few : Few n
+  rest : Bytes r
 
 node-section-sound : (s : List ℕ) (n : Node) (r : List ℕ) → Bytes s → node-section s ≡ read n r → FoundNodes s n r
 unfolding node-section read-node
 node-section-sound s n r b e =
     let f = section-sound CutShort LeftOver read-node s n r b e in
     let g = tree-sound TooManyNodes node-root IsNode node-bytes count root-sound node-limit tt (f .body) n [] (f .body-bytes) (f .inside) in
-    record { bytes = rw (g .bytes) (f .bytes); carries = g .is; few = g .few }
+    record { bytes = rw (g .bytes) (f .bytes); carries = g .is; few = g .few; rest = f .rest }
 
 pub record FoundPatch (s : List ℕ) (p : Patch) : Type 0 where
   pub bytes : patch-file-bytes p ≡ s
   pub input-small : Small (p .input)
   pub carries : Carries (p .node)
   pub few : Few (p .node)
+  pub held : Held (p .totals)
 
 pub first-pass-sound : (s : List ℕ) (p : Patch) → Bytes s → first-pass s ≡ accepted p → FoundPatch s p
 unfolding first-pass patch-sections patch-file-bytes
 first-pass-sound s p b e =
     let w = whole-sound LeftOver (patch-sections s) p e in
-    let x = read-on-read (type-section s) (λ t r. read-on (node-section r) (λ n rest. read (record { input = t; node = n }) rest)) p [] w in
-    let y = read-on-read (node-section (x .1)) (λ n rest. read (record { input = x .0; node = n }) rest) p [] (x .3) in
+    let x = read-on-read (type-section s) (λ t r. read-on (node-section r) (λ n u. read-on (totals-section u) (λ c rest. read (patch-of t n c) rest))) p [] w in
+    let y = read-on-read (node-section (x .1)) (λ n u. read-on (totals-section u) (λ c rest. read (patch-of (x .0) n c) rest)) p [] (x .3) in
+    let z = read-on-read (totals-section (y .1)) (λ c rest. read (patch-of (x .0) (y .0) c) rest) p [] (y .3) in
     let f = type-section-sound s (x .0) (x .1) b (x .2) in
     let g = node-section-sound (x .1) (y .0) (y .1) (f .rest) (y .2) in
-    go (x .0) (y .0) (y .1) (let d = y .3 in cc) (let d = y .3 in cc) (rw (g .bytes) (f .bytes)) (f .within) (g .carries) (g .few)
+    let h = totals-section-sound (y .1) (z .0) (z .1) (g .rest) (z .2) in
+    go (x .0) (y .0) (z .0) (z .1) (let d = z .3 in cc) (let d = z .3 in cc) (rw (h .bytes, g .bytes) (f .bytes)) (f .within) (g .carries) (g .few) (h .held)
   where
-    go : (t : Ty) (n : Node) (r : List ℕ) → _≡_ {A = Patch} (record { input = t; node = n }) p → r ≡ []
-        → section-bytes (type-bytes t []) (section-bytes (node-bytes n []) r) ≡ s → Small t → Carries n → Few n → FoundPatch s p
-    go t n r h k e w v c = rw (← h) (record { bytes = rw k at e; input-small = w; carries = v; few = c })
+    go : (t : Ty) (n : Node) (c : Totals) (r : List ℕ) → patch-of t n c ≡ p → r ≡ []
+        → section-bytes (type-bytes t []) (section-bytes (node-bytes n []) (section-bytes (totals-bytes c []) r)) ≡ s
+        → Small t → Carries n → Few n → Held c → FoundPatch s p
+    go t n c r h k e w v l m = rw (← h) (record { bytes = rw k at e; input-small = w; carries = v; few = l; held = m })
 
 -- The trees of an accepted patch file, its bytes, and that they are allowed.
 pub record Accepted (s : List ℕ) (c : Checked) : Type 0 where
   pub bytes : patch-file-bytes (c .patch) ≡ s
   pub allowed : Allowed (c .patch .input) (c .patch .node) (c .output)
+  pub held : Held (c .patch .totals)
 
 pub patch-file-sound : (s : List ℕ) (c : Checked) → Bytes s → patch-file s ≡ accepted c → Accepted s c
 unfolding patch-file second-pass
@@ -230,19 +248,19 @@ patch-file-sound s c b e =
     let f = first-pass-sound s (x .0) b (x .1) in
     let g = typing-sound (x .0 .input) (x .0 .node) (y .0) (f .carries) (y .1) in
     go (x .0) (y .0) (let d = y .2 in cc) (f .bytes)
-    (is-allowed (g .types) (f .input-small) (f .few) (g .fits))
+    (is-allowed (g .types) (f .input-small) (f .few) (g .fits)) (f .held)
   where
     go : (p : Patch) (t : Ty) → _≡_ {A = Checked} (record { patch = p; output = t }) c → patch-file-bytes p ≡ s
-        → Allowed (p .input) (p .node) t → Accepted s c
-    go p t h e a = rw (← h) (record { bytes = e; allowed = a })
+        → Allowed (p .input) (p .node) t → Held (p .totals) → Accepted s c
+    go p t h e a l = rw (← h) (record { bytes = e; allowed = a; held = l })
 
 pub patch-file-accepted : (s : List ℕ) → Bytes s → IsAccepted (patch-file s) ↔ PatchFile s
 patch-file-accepted s b = (
   (λ a.
       let f = patch-file-sound s (a .0) b (a .1) in
       let c = a .0 in
-      record { trees = c .patch; output = c .output; allowed = f .allowed; bytes = f .bytes }),
-  (λ f. (_, rw (f .bytes) at (patch-file-complete (f .allowed)))),
+      record { trees = c .patch; output = c .output; allowed = f .allowed; held = f .held; bytes = f .bytes }),
+  (λ f. (_, rw (f .bytes) at (patch-file-complete (f .allowed) (f .held)))),
 )
 
 -- The refusals of a patch file are 1 to 7 and 30.
@@ -282,7 +300,8 @@ sections-faults : (s : List ℕ) → Faults PatchFault (patch-sections s)
 unfolding patch-sections node-section
 sections-faults s =
     read-on-faults PatchFault (type-section s) _ (faults-too type-fault (type-section s) (type-section-faults s))
-    (λ t r. read-on-faults PatchFault (node-section r) _ (section-faults PatchFault CutShort LeftOver read-node refl refl read-node-faults r) (λ n x. tt))
+    (λ t r. read-on-faults PatchFault (node-section r) _ (section-faults PatchFault CutShort LeftOver read-node refl refl read-node-faults r)
+    (λ n x. read-on-faults PatchFault (totals-section x) _ (totals-section-faults PatchFault refl refl x) (λ c rest. tt)))
 
 first-pass-refusals : (s : List ℕ) → Refusals PatchFault (first-pass s)
 unfolding first-pass

@@ -306,6 +306,10 @@ module _ {A : Type 0} (cut-short left-over : Fault) (contents : List ℕ → Rea
         rest = rw (← w .2) (bytes-drop (h * 256 + l) s c);
       }
 
+pub section-length : (body r : List ℕ) → length (section-bytes body r) ≡ 2 + length body + length r
+unfolding section-bytes
+section-length body r = omega (arith, length-append body r)
+
 -- A section of up to 65,535 bytes is bytes.
 pub section-is-bytes : (body r : List ℕ) → length body < 65536 → Bytes body → Bytes r → Bytes (section-bytes body r)
 unfolding section-bytes
