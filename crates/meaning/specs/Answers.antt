@@ -1,10 +1,10 @@
--- What each operation answers, from the bytes handed in (document 01, Operations; document 02, M-101 and M-104).
+-- What each operation answers, from the bytes handed in (document 01, Operations; document 02, M-101, M-104 and M-105).
 use mathlib.Core.Bool.{Bool, true, false, _&&_}
 use mathlib.Core.List.{List, [], _∷_, _++_}
 use Prim.Native.Nat.{ℕ, _+_, _*_}
 use lib.Dec.{leb}
 use lib.ListN.{length, take}
-use Rattle.stream.specs.declared.Fault.the-variants.{NoRoom}
+use Rattle.stream.specs.declared.Fault.the-variants.{NoRoom, TotalTooLarge}
 use Rattle.stream.specs.Faults.{number, type-numbers, slice-numbers, patch-numbers}
 use Rattle.stream.specs.Types.{Ty}
 use Rattle.stream.specs.Buffers.{at-front}
@@ -14,6 +14,7 @@ use Rattle.stream.specs.Reading.{Result, accepted, refused, go-on, require}
 use Rattle.stream.specs.TypeFiles.{type-file, type-file-bytes}
 use Rattle.stream.specs.SliceFiles.{slice-file, slice-file-bytes}
 use Rattle.stream.specs.Longest.{longest-prefix}
+use Rattle.node.specs.Totals.{held}
 use Rattle.node.specs.Feeding.Functions.{sends, patch-left}
 use Rattle.node.specs.PatchFiles.{patch-file, patch-file-bytes}
 use Rattle.meaning.specs.declared.Written.{Written}
@@ -32,8 +33,12 @@ on-slice type slice f = go-on (type-file type) (λ t. go-on (slice-file t slice)
 abbrev pub on-slices : {A : Type 0} → (type first second : List ℕ) → (Prefix → Prefix → Result A) → Result A
 on-slices type first second f = on-slice type first (λ t p. go-on (slice-file (derivative t p) second) (λ q. f p q))
 
+-- The slice that a patch takes: "31, a total would pass 4,294,967,295, after the slice's refusals and before 20. It is a limit of Feed."
+unfoldable pub takes-slice : Patch → List ℕ → Result Prefix
+takes-slice a slice = go-on (slice-file (a .input) slice) (λ p. require (held (patch-left a p .totals)) TotalTooLarge (accepted p))
+
 abbrev pub on-patch : {A : Type 0} → (patch slice : List ℕ) → (Patch → Prefix → Result A) → Result A
-on-patch patch slice f = go-on (patch-file patch) (λ c. go-on (slice-file (c .patch .input) slice) (λ p. f (c .patch) p))
+on-patch patch slice f = go-on (patch-file patch) (λ c. go-on (takes-slice (c .patch) slice) (λ p. f (c .patch) p))
 
 -- "Check a patch; writes its output type file."
 unfoldable pub check : List ℕ → Result (List ℕ)
@@ -132,10 +137,10 @@ first-section [] = []
 first-section (h ∷ []) = h ∷ []
 first-section (h ∷ l ∷ s) = h ∷ l ∷ take (h * 256 + l) s
 
--- The numbers that document 01 lists for Admit, Left and Join ("1 to 4 as above", 11 to 14) and for Feed ("As Check without 20; 11
--- to 14"), 20 aside; for Check they are a patch's, and for Longest a type's ("Faults of the type are 1 to 4, then 20").
+-- The numbers that the documents list for Admit, Left and Join ("1 to 4 as above", 11 to 14) and for Feed ("As Check without 20; 11
+-- to 14", then 31), 20 aside; for Check they are a patch's, and for Longest a type's ("Faults of the type are 1 to 4, then 20").
 abbrev pub admit-numbers : List ℕ
 admit-numbers = type-numbers ++ slice-numbers
 
 abbrev pub feed-numbers : List ℕ
-feed-numbers = patch-numbers ++ slice-numbers
+feed-numbers = (patch-numbers ++ slice-numbers) ++ 31 ∷ []

@@ -1,8 +1,8 @@
 -- The answers, by the trees that the files hold: what the operations write, how long it is, and when they refuse.
 use mathlib.Core.Path.{_≡_, refl, sym, ap, _∙_}
 use mathlib.Core.Logic.{_↔_}
-use mathlib.Core.Bool.{Bool, true, false}
-use mathlib.Core.List.{List, [], _++_, append-nil}
+use mathlib.Core.Bool.{Bool, true, false, true≢false}
+use mathlib.Core.List.{List, [], _∷_, _++_, append-nil}
 use Prim.Native.Nat.{ℕ, _+_, _*_, _/_, _%_, _≤_}
 use native.Mathlib.Omega.{arith}
 use native.Mathlib.Nat.{le-trans}
@@ -10,7 +10,7 @@ use lib.ListN.{length}
 use lib.Seq.{take-append-seam}
 use borrow.Author.Tests.{le-leb}
 use Rattle.stream.specs.declared.Fault.{Fault}
-use Rattle.stream.specs.declared.Fault.the-variants.{CutShort, Unlisted, LeftOver, TypeTooLarge, TooManyNodes, NotNullable, WrongShape, SliceCutShort, SliceUnlisted, SliceLeftOver, SliceMisplaced, NoRoom, OutputsDiffer}
+use Rattle.stream.specs.declared.Fault.the-variants.{CutShort, Unlisted, LeftOver, TypeTooLarge, TooManyNodes, NotNullable, WrongShape, SliceCutShort, SliceUnlisted, SliceLeftOver, SliceMisplaced, NoRoom, OutputsDiffer, TotalTooLarge}
 use Rattle.stream.specs.Bounds.{type-file-limit, slice-file-limit, patch-file-limit}
 use Rattle.stream.specs.Faults.{number, type-numbers, slice-numbers, patch-numbers, Listed, contains}
 use Rattle.stream.specs.Types.{Ty, par, Small}
@@ -27,12 +27,17 @@ use Rattle.stream.specs.SliceFiles.{slice-file, slice-file-bytes, SliceFile}
 use Rattle.stream.specs.SliceFiles.Laws.{prefix-short, slice-file-complete, slice-file-sound, slice-file-accepted, slice-file-length, slice-file-is-bytes, slice-file-refusals}
 use Rattle.stream.specs.Longest.{longest-prefix}
 use Rattle.stream.specs.Longest.Laws.{longest-prefix-is-prefix}
-use Rattle.node.specs.Nodes.{Node, Allowed, patch-of}
+use Rattle.node.specs.Totals.{Totals, Held, held, totals-bytes}
+use Rattle.node.specs.Totals.Laws.{held-test}
+use Rattle.node.specs.Nodes.{Node, Allowed, Patch, patch-of}
 use Rattle.node.specs.Nodes.Laws.{output-small, allowed-fits}
+use Rattle.node.specs.Feeding.{Within}
+use Rattle.node.specs.Feeding.Functions.{patch-left}
 use Rattle.node.specs.Feeding.Laws.{preserved, leaves-allowed}
+use Rattle.node.specs.Feeding.Patches.{within-test}
 use Rattle.node.specs.PatchFiles.{Checked, node-bytes, patch-file, patch-file-bytes, PatchFile}
 use Rattle.node.specs.PatchFiles.Laws.{patch-file-complete, patch-file-sound, patch-file-accepted, patch-file-length, patch-file-is-bytes, patch-file-refusals}
-use Rattle.meaning.specs.Answers.{check, admit, left, join, FedFiles, feed, longest, with-room, fits-both, admit-numbers, feed-numbers, first-section, fed-files}
+use Rattle.meaning.specs.Answers.{takes-slice, number-of, check, admit, left, join, FedFiles, feed, longest, with-room, fits-both, admit-numbers, feed-numbers, first-section, fed-files}
 
 -- No refusal has the number 0, and none has more than two digits.
 pub number-bounds : (e : Fault) → (1 ≤ number e) × (number e ≤ 99)
@@ -49,15 +54,20 @@ number-bounds SliceLeftOver = (omega arith, omega arith)
 number-bounds SliceMisplaced = (omega arith, omega arith)
 number-bounds NoRoom = (omega arith, omega arith)
 number-bounds OutputsDiffer = (omega arith, omega arith)
+number-bounds TotalTooLarge = (omega arith, omega arith)
 
 pub number-positive : (e : Fault) → 1 ≤ number e
 number-positive e = number-bounds e .0
 
+-- No refusal of a slice has the number 31.
+slice-not-31 : (e : Fault) → Listed slice-numbers e → number e ≡ 31 → ⊥
+slice-not-31 e h d = true≢false (sym h ∙ ap (contains slice-numbers) d)
+
 -- What the operations make of files that the rules allow
 
-pub check-answers : {s t : Ty} {n : Node} → Allowed s n t → check (patch-file-bytes (patch-of s n)) ≡ accepted (type-file-bytes t)
+pub check-answers : {s t : Ty} {n : Node} {c : Totals} → Allowed s n t → Held c → check (patch-file-bytes (patch-of s n c)) ≡ accepted (type-file-bytes t)
 unfolding check
-check-answers a = rw (patch-file-complete a)
+check-answers a h = rw (patch-file-complete a h)
 
 pub admit-answers : {t : Ty} {p : Prefix} → Small t → IsPrefix t p → admit (type-file-bytes t) (slice-file-bytes p) ≡ accepted p
 unfolding admit
@@ -88,14 +98,47 @@ lanes-join {s} {t} w h k = (
 )
 
 -- Feed on an allowed patch is decided by the slice.
-pub feed-of-patch : {s t : Ty} {n : Node} (slice : List ℕ) → Allowed s n t
-    → feed (patch-file-bytes (patch-of s n)) slice ≡ go-on (slice-file s slice) (λ p. accepted (fed-files (patch-of s n) p))
+pub feed-of-patch : (a : Patch) {t : Ty} (slice : List ℕ) → Allowed (a .input) (a .node) t → Held (a .totals)
+    → feed (patch-file-bytes a) slice ≡ go-on (takes-slice a slice) (λ p. accepted (fed-files a p))
 unfolding feed
-feed-of-patch slice a = rw (patch-file-complete a)
+feed-of-patch a slice w c = rw (patch-file-complete w c)
 
-pub feed-answers : {s t : Ty} {n : Node} {p : Prefix} → Allowed s n t → IsPrefix s p
-    → feed (patch-file-bytes (patch-of s n)) (slice-file-bytes p) ≡ accepted (fed-files (patch-of s n) p)
-feed-answers {p = p} a h = feed-of-patch (slice-file-bytes p) a ∙ rw (slice-file-complete h (prefix-short h (a .input-small)))
+-- A slice is taken exactly if it is a prefix of the input type and within the limits.
+
+slice-taken : (a : Patch) {t : Ty} {p : Prefix} → Allowed (a .input) (a .node) t → IsPrefix (a .input) p → Within a p
+    → takes-slice a (slice-file-bytes p) ≡ accepted p
+unfolding takes-slice
+slice-taken a w h k = rw (slice-file-complete h (prefix-short h (w .input-small))) (rw (within-test a (w .types) h .1 k))
+
+pub record TakenSlice (a : Patch) (slice : List ℕ) (p : Prefix) : Type 0 where
+  pub is-prefix : IsPrefix (a .input) p
+  pub bytes : slice-file-bytes p ≡ slice
+  pub held : Held (patch-left a p .totals)
+
+pub takes-sound : (a : Patch) (slice : List ℕ) (p : Prefix) → Bytes slice → takes-slice a slice ≡ accepted p → TakenSlice a slice p
+unfolding takes-slice
+takes-sound a slice p b e =
+    let x = go-on-accepted (slice-file (a .input) slice) (λ q. require (held (patch-left a q .totals)) TotalTooLarge (accepted q)) p e in
+    let y = require-accepted (held (patch-left a (x .0) .totals)) TotalTooLarge (accepted (x .0)) p (x .2) in
+    let z = slice-file-sound (a .input) slice (x .0) b (x .1) in
+    let d : x .0 ≡ p = let i = y .1 in cc in
+    rw (← d) (record { is-prefix = z .1; bytes = z .0; held = held-test (patch-left a (x .0) .totals) .0 (y .0) })
+
+pub feed-answers : (a : Patch) {t : Ty} {p : Prefix} → Allowed (a .input) (a .node) t → Held (a .totals) → IsPrefix (a .input) p → Within a p
+    → feed (patch-file-bytes a) (slice-file-bytes p) ≡ accepted (fed-files a p)
+feed-answers a {p = p} w c h k = feed-of-patch a (slice-file-bytes p) w c ∙ ap (λ r. go-on r (λ q. accepted (fed-files a q))) (slice-taken a w h k)
+
+-- What Feed wrote for an allowed patch: the slice was taken, and the files are those of the rules.
+pub record FedPiece (a : Patch) (slice : List ℕ) (w : FedFiles) : Type 0 where
+  pub prefix : Prefix
+  pub taken : TakenSlice a slice prefix
+  pub files : fed-files a prefix ≡ w
+
+pub fed-piece : (a : Patch) {t : Ty} (slice : List ℕ) (w : FedFiles) → Allowed (a .input) (a .node) t → Held (a .totals) → Bytes slice
+    → feed (patch-file-bytes a) slice ≡ accepted w → FedPiece a slice w
+fed-piece a slice w allowed c b e =
+    let x = go-on-accepted (takes-slice a slice) (λ p. accepted (fed-files a p)) w (sym (feed-of-patch a slice allowed c) ∙ e) in
+    record { prefix = x .0; taken = takes-sound a slice (x .0) b (x .1); files = let d = x .2 in cc }
 
 pub longest-answers : (t : Ty) → Small t → longest (type-file-bytes t) ≡ accepted (slice-file-bytes (longest-prefix t))
 unfolding longest
@@ -104,7 +147,7 @@ longest-answers t w = rw (type-file-complete t w)
 -- What is accepted, 20 aside
 
 pub patch-checked : {file : List ℕ} → PatchFile file → IsAccepted (check file)
-patch-checked f = (_, rw (f .bytes) at (check-answers (f .allowed)))
+patch-checked f = (_, rw (f .bytes) at (check-answers (f .allowed) (f .held)))
 
 pub check-accepted : (patch : List ℕ) → Bytes patch → IsAccepted (check patch) ↔ PatchFile patch
 unfolding check
@@ -142,15 +185,61 @@ admit-accepted type slice b c = (
       (p .prefix, rw (t .bytes, p .bytes) at (admit-answers (t .small) (p .is-prefix)))),
 )
 
-pub feed-accepted : {patch : List ℕ} (slice : List ℕ) (f : PatchFile patch) → Bytes slice → IsAccepted (feed patch slice) ↔ SliceFile (f .trees .input) slice
-feed-accepted slice f b = rw (← f .bytes) (go (f .trees .input) (f .trees .node) (f .output) (f .allowed))
+pub feed-accepted : {patch : List ℕ} (slice : List ℕ) (f : PatchFile patch) → Bytes slice
+    → IsAccepted (feed patch slice) ↔ ((p : SliceFile (f .trees .input) slice) × Within (f .trees) (p .prefix))
+feed-accepted slice f b = rw (← f .bytes) (go (f .trees) (f .output) (f .allowed) (f .held))
   where
-    go : (s : Ty) (n : Node) (t : Ty) → Allowed s n t → IsAccepted (feed (patch-file-bytes (patch-of s n)) slice) ↔ SliceFile s slice
-    go s n t a = (
-      (λ w. let x = go-on-accepted (slice-file s slice) (λ p. accepted (fed-files (patch-of s n) p)) (w .0) (sym (feed-of-patch slice a) ∙ w .1) in
-          slice-file-accepted s slice (a .input-small) b .0 (x .0, x .1)),
-      (λ g. (_, rw (g .bytes) at (feed-answers a (g .is-prefix)))),
+    go : (a : Patch) (t : Ty) → Allowed (a .input) (a .node) t → Held (a .totals)
+        → IsAccepted (feed (patch-file-bytes a) slice) ↔ ((p : SliceFile (a .input) slice) × Within a (p .prefix))
+    go a t w c = (
+      (λ e. let x = fed-piece a slice (e .0) w c b (e .1) in
+          let p = x .taken in (
+            record { prefix = x .prefix; is-prefix = p .is-prefix; bytes = p .bytes },
+            within-test a (w .types) (p .is-prefix) .0 (held-test (patch-left a (x .prefix) .totals) .1 (p .held)),
+          )),
+      (λ (p, k). (_, rw (p .bytes) at (feed-answers a w c (p .is-prefix) k))),
     )
+
+read-as : {t : Ty} {slice : List ℕ} → Small t → (q : SliceFile t slice) → slice-file t slice ≡ accepted (q .prefix)
+read-as w q = rw (q .bytes) at (slice-file-complete (q .is-prefix) (prefix-short (q .is-prefix) w))
+
+-- 31 is due exactly for a prefix that is not within the limits.
+pub feed-passed : {patch : List ℕ} (slice : List ℕ) (f : PatchFile patch) → Bytes slice
+    → number-of (feed patch slice) ≡ 31 ↔ ((p : SliceFile (f .trees .input) slice) × (Within (f .trees) (p .prefix) → ⊥))
+unfolding takes-slice
+feed-passed slice f b = rw (← f .bytes) (go (f .trees) (f .output) (f .allowed) (f .held))
+  where
+    by-limit : (a : Patch) {t : Ty} (p : SliceFile (a .input) slice) (k : Bool) → held (patch-left a (p .prefix) .totals) ≡ k
+        → Allowed (a .input) (a .node) t
+        → number-of (go-on (require k TotalTooLarge (accepted (p .prefix))) (λ q. accepted (fed-files a q))) ≡ 31 ↔ (Within a (p .prefix) → ⊥)
+    by-limit a p true e w = (
+      (λ h. absurd (omega arith)),
+      (λ passed. absurd (passed (within-test a (w .types) (p .is-prefix) .0 e))),
+    )
+    by-limit a p false e w = (
+      (λ h k. true≢false (sym (within-test a (w .types) (p .is-prefix) .1 k) ∙ e)),
+      (λ passed. refl),
+    )
+
+    by-slice : (a : Patch) {t : Ty} → Allowed (a .input) (a .node) t → (r : Result Prefix) → slice-file (a .input) slice ≡ r
+        → number-of (go-on (go-on r (λ p. require (held (patch-left a p .totals)) TotalTooLarge (accepted p))) (λ q. accepted (fed-files a q))) ≡ 31
+        ↔ ((p : SliceFile (a .input) slice) × (Within a (p .prefix) → ⊥))
+    by-slice a w (accepted p) e =
+        let z = slice-file-sound (a .input) slice p b e in
+        let file : SliceFile (a .input) slice = record { prefix = p; is-prefix = z .1; bytes = z .0 } in
+        let i = by-limit a file (held (patch-left a p .totals)) refl w in (
+          (λ h. (file, i .0 h)),
+          (λ (q, passed). let same : q .prefix ≡ p = let d = read-as (w .input-small) q in cc in
+              i .1 (λ k. passed (rw same k))),
+        )
+    by-slice a w (refused x) e = (
+      (λ h. absurd (slice-not-31 x (rw e at (slice-file-refusals (a .input) slice)) h)),
+      (λ (q, passed). let z : _≡_ {A = ℕ} 0 1 = let d = read-as (w .input-small) q in cc in absurd (omega arith)),
+    )
+
+    go : (a : Patch) (t : Ty) → Allowed (a .input) (a .node) t → Held (a .totals)
+        → number-of (feed (patch-file-bytes a) slice) ≡ 31 ↔ ((p : SliceFile (a .input) slice) × (Within a (p .prefix) → ⊥))
+    go a t w c = rw (feed-of-patch a slice w c) (by-slice a w (slice-file (a .input) slice) refl)
 
 pub left-accepted : (type slice : List ℕ) → Bytes type → Bytes slice
     → IsAccepted (left type slice) ↔ ((t : TypeFile type) × SliceFile (t .type) slice)
@@ -200,7 +289,7 @@ unfolding check feed
 check-refused-feed patch slice {e} d = go (patch-file patch) d
   where
     go : (r : Result Checked) → go-on r (λ c. accepted (type-file-bytes (c .output))) ≡ refused e
-        → go-on r (λ c. go-on (slice-file (c .patch .input) slice) (λ p. accepted (fed-files (c .patch) p))) ≡ refused e
+        → go-on r (λ c. go-on (takes-slice (c .patch) slice) (λ p. accepted (fed-files (c .patch) p))) ≡ refused e
     go (accepted c) h = let z : _≡_ {A = ℕ} 0 1 = cc in absurd (omega arith)
     go (refused x) h = let z : x ≡ e = cc in ap (λ y. refused y) z
 
@@ -267,13 +356,25 @@ join-refuses type first second =
       not-20 = refl;
     }
 
+before-31 : (e : Fault) → Listed (patch-numbers ++ slice-numbers) e → Listed feed-numbers e
+before-31 e h = listed-first (patch-numbers ++ slice-numbers) (31 ∷ []) e h
+
+takes-refusals : (a : Patch) (slice : List ℕ) → Refusals (Listed feed-numbers) (takes-slice a slice)
+unfolding takes-slice
+takes-refusals a slice =
+    go-on-refusals (Listed feed-numbers) (slice-file (a .input) slice) _
+    (refusals-too before-31 (slice-file (a .input) slice)
+    (refusals-too (listed-second patch-numbers slice-numbers) (slice-file (a .input) slice) (slice-file-refusals (a .input) slice)))
+    (λ p. require-refusals (Listed feed-numbers) (held (patch-left a p .totals)) TotalTooLarge (accepted p) refl tt)
+
 pub feed-refuses : (patch slice : List ℕ) → Refuses feed-numbers (feed patch slice)
 unfolding feed
 feed-refuses patch slice =
     record {
       only = go-on-refusals (Listed feed-numbers) (patch-file patch) _
-          (refusals-too (listed-first patch-numbers slice-numbers) (patch-file patch) (patch-file-refusals patch))
-          (λ c. then-slice patch-numbers (c .patch .input) slice _ (λ p. tt));
+          (refusals-too before-31 (patch-file patch)
+          (refusals-too (listed-first patch-numbers slice-numbers) (patch-file patch) (patch-file-refusals patch)))
+          (λ c. go-on-refusals (Listed feed-numbers) (takes-slice (c .patch) slice) _ (takes-refusals (c .patch) slice) (λ p. tt));
       not-20 = refl;
     }
 
@@ -295,8 +396,8 @@ type-sized t w = record { short = type-file-length t w; bytes = type-section-is-
 slice-sized : {t : Ty} {p : Prefix} → IsPrefix t p → Small t → Sized slice-file-limit (slice-file-bytes p)
 slice-sized {p = p} h w = let s = prefix-short h w in record { short = slice-file-length p s; bytes = slice-file-is-bytes h s }
 
-patch-sized : {s t : Ty} {n : Node} → Allowed s n t → Sized patch-file-limit (patch-file-bytes (patch-of s n))
-patch-sized a = record { short = patch-file-length a; bytes = patch-file-is-bytes a }
+patch-sized : {s t : Ty} {n : Node} (c : Totals) → Allowed s n t → Sized patch-file-limit (patch-file-bytes (patch-of s n c))
+patch-sized c a = record { short = patch-file-length c a; bytes = patch-file-is-bytes c a }
 
 pub record WritesSized (n : ℕ) (r : Result (List ℕ)) : Type 0 where
   pub sized : (file : List ℕ) → r ≡ accepted file → Sized n file
@@ -358,32 +459,34 @@ pub record FeedsSized (r : Result FedFiles) : Type 0 where
   pub sized : (w : FedFiles) → r ≡ accepted w → FedSized w
 
 pub feed-sized : {patch : List ℕ} (slice : List ℕ) → PatchFile patch → Bytes slice → FeedsSized (feed patch slice)
-feed-sized slice f b = record { sized = λ w e. go w (f .trees .input) (f .trees .node) (f .output) (f .allowed) (rw (← f .bytes) at e) }
+feed-sized slice f b = record { sized = λ w e. go (f .trees) w (f .output) (f .allowed) (f .held) (rw (← f .bytes) at e) }
   where
-    go : (w : FedFiles) (s : Ty) (n : Node) (t : Ty) → Allowed s n t → feed (patch-file-bytes (patch-of s n)) slice ≡ accepted w → FedSized w
-    go w s n t a e =
-        let x = go-on-accepted (slice-file s slice) (λ p. accepted (fed-files (patch-of s n) p)) w (sym (feed-of-patch slice a) ∙ e) in
-        let h = slice-file-sound s slice (x .0) b (x .1) .1 in
-        let d : fed-files (patch-of s n) (x .0) ≡ w = let z = x .2 in cc in
-        rw (← d)
-        (record { output = slice-sized ((preserved (a .types) h) .sent) (output-small (a .types) (allowed-fits a)); patch = patch-sized (leaves-allowed a h) })
+    go : (a : Patch) (w : FedFiles) (t : Ty) → Allowed (a .input) (a .node) t → Held (a .totals) → feed (patch-file-bytes a) slice ≡ accepted w → FedSized w
+    go a w t allowed c e =
+        let x = fed-piece a slice w allowed c b e in
+        let h = x .taken .is-prefix in
+        rw (← x .files) (record {
+          output = slice-sized ((preserved (allowed .types) h) .sent) (output-small (allowed .types) (allowed-fits allowed));
+          patch = patch-sized (patch-left a (x .prefix) .totals) (leaves-allowed allowed h);
+        })
 
 -- An accepted feed was of a patch file.
 pub fed-patch : (patch slice : List ℕ) (w : FedFiles) → Bytes patch → feed patch slice ≡ accepted w → PatchFile patch
 unfolding feed
 fed-patch patch slice w b e =
-    let x = go-on-accepted (patch-file patch) (λ c. go-on (slice-file (c .patch .input) slice) (λ p. accepted (fed-files (c .patch) p))) w e in
+    let x = go-on-accepted (patch-file patch) (λ c. go-on (takes-slice (c .patch) slice) (λ p. accepted (fed-files (c .patch) p))) w e in
     patch-file-accepted patch b .0 (x .0, x .1)
 
 pub feed-sized-of-bytes : (patch slice : List ℕ) → Bytes patch → Bytes slice → FeedsSized (feed patch slice)
 feed-sized-of-bytes patch slice b c = record { sized = λ w e. (feed-sized slice (fed-patch patch slice w b e) c) .sized w e }
 
--- Feed accepts exactly a patch file with a slice file of its input type.
+-- Feed accepts exactly a patch file with a slice file of its input type that is within the limits.
 pub feed-accepted-of-bytes : (patch slice : List ℕ) → Bytes patch → Bytes slice
-    → IsAccepted (feed patch slice) ↔ ((f : PatchFile patch) × SliceFile (f .trees .input) slice)
+    → IsAccepted (feed patch slice) ↔ ((f : PatchFile patch) × (p : SliceFile (f .trees .input) slice) × Within (f .trees) (p .prefix))
 feed-accepted-of-bytes patch slice b c = (
-  (λ a. let f = fed-patch patch slice (a .0) b (a .1) in (f, feed-accepted slice f c .0 a)),
-  (λ x. feed-accepted slice (x .0) c .1 (x .1)),
+  (λ a. let f = fed-patch patch slice (a .0) b (a .1) in
+      let p = feed-accepted slice f c .0 a in (f, p .0, p .1)),
+  (λ (f, p, k). feed-accepted slice f c .1 (p, k)),
 )
 
 -- The first section of a file that begins with one, and of a patch file.
@@ -394,6 +497,7 @@ first-section-of body r =
     let e : length body / 256 * 256 + length body % 256 ≡ length body = omega arith in
     rw (e, take-append-seam body r, append-nil body)
 
-pub first-section-of-patch : (s : Ty) (n : Node) → first-section (patch-file-bytes (patch-of s n)) ≡ type-file-bytes s
+pub first-section-of-patch : (a : Patch) → first-section (patch-file-bytes a) ≡ type-file-bytes (a .input)
 unfolding patch-file-bytes type-file-bytes
-first-section-of-patch s n = first-section-of (type-bytes s []) (section-bytes (node-bytes n []) [])
+first-section-of-patch a =
+    first-section-of (type-bytes (a .input) []) (section-bytes (node-bytes (a .node) []) (section-bytes (totals-bytes (a .totals) []) []))

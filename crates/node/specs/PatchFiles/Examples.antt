@@ -8,12 +8,15 @@ use Rattle.stream.specs.Reading.Examples.{verdict, section-of, copies, numbers,
 use Rattle.node.specs.PatchFiles.{Checked, patch-file}
 use Rattle.node.specs.Computing.{node-definitions}
 
--- The sections of a patch file, with bytes of the third one's; and with totals of 0.
+-- The sections of a patch file: with any bytes behind the first two, with totals of one byte, and with totals of 0.
 abbrev pub with-totals : List ℕ → List ℕ → List ℕ → List ℕ
 with-totals input nodes totals = section-of input ++ section-of nodes ++ totals
 
+abbrev pub counted-sections : List ℕ → List ℕ → (arrived sent : ℕ) → List ℕ
+counted-sections input nodes arrived sent = with-totals input nodes (section-of (0 ∷ 0 ∷ 0 ∷ arrived ∷ 0 ∷ 0 ∷ 0 ∷ sent ∷ []))
+
 abbrev pub sections : List ℕ → List ℕ → List ℕ
-sections input nodes = with-totals input nodes (section-of (copies 8 (0 ∷ []) []))
+sections input nodes = counted-sections input nodes 0 0
 
 -- A type of 255 nodes, and 62 nodes that want one more.
 abbrev largest : List ℕ
