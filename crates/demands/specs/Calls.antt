@@ -21,8 +21,8 @@ use Rattle.meaning.specs.declared.Fed.{Fed}
 use Rattle.meaning.specs.Answers.{on-slice, on-slices, on-patch, FedFiles}
 pub mod Laws
 
--- What the files of a call are read as, or the first fault in them: a type and a slice, two slices, a patch and a slice. (Check
--- reads a patch file, `patch-file`, and Longest a type file, `type-file`.)
+-- What the files of a call are read as, or the first fault in them: a type and a slice, two slices, a patch and a slice, of which 31 is
+-- the last fault. (Check reads a patch file, `patch-file`, and Longest a type file, `type-file`.)
 abbrev pub type-and-slice : (type slice : List ℕ) → Result (Ty × Prefix)
 type-and-slice type slice = on-slice type slice (λ t p. accepted (t, p))
 

@@ -18,7 +18,7 @@ use Rattle.stream.specs.TypeFiles.{type-file-bytes, TypeFile}
 use Rattle.stream.specs.SliceFiles.{slice-file-bytes, SliceFile}
 use Rattle.stream.specs.Longest.{longest-prefix}
 use Rattle.node.specs.Nodes.{Node, emit-cue, emit-level, Patch, Allowed}
-use Rattle.node.specs.Feeding.{Feeds, feeds-cue-waiting, feeds-level-waiting, FeedsPatch}
+use Rattle.node.specs.Feeding.{Feeds, feeds-cue-waiting, feeds-level-waiting, FeedsPatch, Within}
 use Rattle.node.specs.Feeding.Laws.{feeds, feeds-only}
 use Rattle.node.specs.PatchFiles.{patch-file-bytes, PatchFile}
 use Rattle.meaning.specs.declared.Written.{Written}
@@ -49,7 +49,7 @@ module _ (patch : List ℕ) {lent lent-after : List ℕ} {answer : Written} (cal
   pub aside-check : Bytes patch → (answer .number ≡ 0) ⊎ (answer .number ≡ 20) ↔ PatchFile patch
   aside-check b = Iff·trans (writes-aside call (check-refuses patch)) (check-accepted patch b)
 
-  -- "So a slice file has at most 513 bytes", a type file 257 and a patch file 8,482: no answer is longer.
+  -- "So a slice file has at most 513 bytes", a type file 257 and a patch file 8,492: no answer is longer.
   pub bound-check : Bytes patch → answer .written ≤ type-file-limit
   bound-check b = writes-bounded call (check-sized patch b)
 
@@ -68,7 +68,7 @@ module _ (patch : List ℕ) {lent lent-after : List ℕ} {answer : Written} (cal
 -- Check writes the output type.
 pub check-writes : {file lent lent-after : List ℕ} {answer : Written} → CheckPromise file lent answer lent-after → (patch : PatchFile file)
     → length (type-file-bytes (patch .output)) ≤ length lent → Wrote (type-file-bytes (patch .output)) lent answer lent-after
-check-writes call patch h = writes-exactly call (rw (patch .bytes) at (check-answers (patch .allowed))) h
+check-writes call patch h = writes-exactly call (rw (patch .bytes) at (check-answers (patch .allowed) (patch .held))) h
 
 -- A call of Admit
 
@@ -164,7 +164,7 @@ module _ {patch slice output-lent patch-lent output-after patch-after : List ℕ
   twenty-feed = feeds-twenty call (feed-refuses patch slice)
 
   pub aside-feed : Bytes patch → Bytes slice → (answer .number ≡ 0) ⊎ (answer .number ≡ 20)
-      ↔ ((f : PatchFile patch) × SliceFile (f .trees .input) slice)
+      ↔ ((f : PatchFile patch) × (p : SliceFile (f .trees .input) slice) × Within (f .trees) (p .prefix))
   aside-feed b c = Iff·trans (feeds-aside call (feed-refuses patch slice)) (feed-accepted-of-bytes patch slice b c)
 
   pub bound-feed : Bytes patch → Bytes slice → (answer .output ≤ slice-file-limit) × (answer .patch ≤ patch-file-limit)
@@ -227,14 +227,15 @@ module _ {start : List ℕ} {calls : List Call} {r : RunEnd} (ran : Ran start ca
     {slice output-lent patch-lent output-after patch-after : List ℕ} {answer : Fed}
     (call : FeedPromise (r .file) slice output-lent patch-lent answer output-after patch-after) where
   pub run-slice : Bytes slice → slice-file-limit ≤ length output-lent → patch-file-limit ≤ length patch-lent
-      → answer .number ≡ 0 ↔ SliceFile (run-accepted ran patch b .trees .input) slice
+      → answer .number ≡ 0
+      ↔ ((taken : SliceFile (run-accepted ran patch b .trees .input) slice) × Within (run-accepted ran patch b .trees) (taken .prefix))
   run-slice c h k = demand-2-slice call (run-accepted ran patch b) c h k
 
   pub run-sends : {sent : Prefix} {next : Patch} (taken : SliceFile (run-accepted ran patch b .trees .input) slice)
-      → FeedsPatch (run-accepted ran patch b .trees) (taken .prefix) sent next
+      → Within (run-accepted ran patch b .trees) (taken .prefix) → FeedsPatch (run-accepted ran patch b .trees) (taken .prefix) sent next
       → length (slice-file-bytes sent) ≤ length output-lent → length (patch-file-bytes next) ≤ length patch-lent
       → WroteBoth (files-of (taken .prefix) sent next) output-lent patch-lent answer output-after patch-after
-  run-sends taken rule h k = demand-2-sends call (run-accepted ran patch b) taken rule h k
+  run-sends taken within rule h k = demand-2-sends call (run-accepted ran patch b) taken within rule h k
 
 -- Document 02, M-104: Feed counts as Admit does, what arrived in the slice that it is fed and what it sends in its output. (The input type
 -- file is the first section of the patch; Check writes the output type file.)
@@ -256,13 +257,13 @@ module _ {file slice output-lent patch-lent output-after patch-after : List ℕ}
       → WroteBoth (record { output = slice-file-bytes cue-awaited; patch = file; arrived = 0; sent = 0 })
       output-lent patch-lent answer output-after patch-after
   unfolding arrivals
-  cue-stays is-cue h = stays-on-file call patch taken closed (rw is-cue (feeds-cue-waiting closed)) h room
+  cue-stays is-cue h = stays-on-file call patch taken closed (rw is-cue (feeds-cue-waiting closed)) refl h room
 
   pub level-stays : {v : ℕ} → patch .trees .node ≡ emit-level v → length (slice-file-bytes level-awaited) ≤ length output-lent
       → WroteBoth (record { output = slice-file-bytes level-awaited; patch = file; arrived = 0; sent = 0 })
       output-lent patch-lent answer output-after patch-after
   unfolding arrivals
-  level-stays is-level h = stays-on-file call patch taken closed (rw is-level (feeds-level-waiting closed)) h room
+  level-stays is-level h = stays-on-file call patch taken closed (rw is-level (feeds-level-waiting closed)) refl h room
 
 -- What a link has to carry: no slice that a run takes is longer than the longest slice of the input type at the start, and no output
 -- longer than that of the output type. (The input type file is the first section of the patch; Check writes the output type file.)

@@ -2,8 +2,9 @@
 -- of the call that it speaks of: the very proposition that is the `ensures` of that operation (crates/wosthile/src/exports.rt), with
 -- the bytes handed in, the answer, and each lent buffer as it is afterwards. The prover shows the promise of every call, so nobody
 -- has to read it. What a reader has to believe is what the conclusions are written in: reading with the first fault (TypeFiles,
--- SliceFiles, PatchFiles, Checking), the rules (IsPrefix and Concat in Prefixes, Takes and Allowed in Nodes, Feeds in Feeding), the
--- longest slice of a type (Longest), the arrivals of a slice (Prefixes), and what is said of calls and runs (Calls, Runs). `Bytes`
+-- SliceFiles, PatchFiles, Checking), the rules (IsPrefix and Concat in Prefixes, Takes and Allowed in Nodes, Feeds and Within in
+-- Feeding), the longest slice of a type (Longest), the arrivals of a slice (Prefixes), the totals of a patch (Totals), and what is said
+-- of calls and runs (Calls, Runs). `Bytes`
 -- says that a list of numbers is one of bytes, as whatever a byte slice holds is; nobody has to test it. `Consequences` has what else
 -- follows; the laws have the proofs.
 use mathlib.Core.Path.{_≡_}
@@ -18,7 +19,7 @@ use Rattle.stream.specs.TypeFiles.{type-file, TypeFile}
 use Rattle.stream.specs.SliceFiles.{slice-file-bytes, SliceFile}
 use Rattle.stream.specs.Longest.{longest-prefix}
 use Rattle.node.specs.Nodes.{Patch}
-use Rattle.node.specs.Feeding.{FeedsPatch}
+use Rattle.node.specs.Feeding.{FeedsPatch, Within}
 use Rattle.node.specs.PatchFiles.{patch-file, patch-file-bytes, PatchFile}
 use Rattle.meaning.specs.declared.Written.{Written}
 use Rattle.meaning.specs.declared.Admitted.{Admitted}
@@ -28,8 +29,8 @@ use Rattle.meaning.specs.Answers.Laws.{check-accepted, admit-accepted, left-acc
 use Rattle.meaning.specs.Promises.{CheckPromise, AdmitPromise, LeftPromise, JoinPromise, FeedPromise, LongestPromise}
 use Rattle.demands.specs.Calls.{type-and-slice, two-slices, patch-and-slice, DueFromCheck, DueFromAdmit, DueFromLeft, DueFromJoin, DueFromFeed, DueFromLongest, Decided, WroteBoth}
 use Rattle.demands.specs.Calls.Laws.{check-decided, admit-decided, left-decided, join-decided, feed-decided, longest-decided, check-kept, admit-kept, left-kept, join-kept, feed-kept, longest-kept, writes-zero, admits-zero, admits-counts, feeds-zero, feeds-as-check, none-admitted-longer, longest-admits, admits-file, join-counts}
-use Rattle.demands.specs.Runs.{Call, ByteSlices, RunEnd, Ran, Faithful, Through}
-use Rattle.demands.specs.Runs.Laws.{feed-by-rules, feed-defined, run-faithful, run-faithful-so-far, every-list-runs}
+use Rattle.demands.specs.Runs.{Call, ByteSlices, RunEnd, Ran, NoneShort, handed, Joined, Faithful, Through}
+use Rattle.demands.specs.Runs.Laws.{feed-by-rules, feed-defined, run-faithful, run-faithful-so-far, every-list-runs, feeds-passed, run-totals, cut-anyhow}
 
 -- Demand 1. "A patch, type or slice handed in, whatever its bytes and length, is accepted or is refused with the number that
 -- document 01 gives for its first fault. (`Decided`, by what the files are read as and by the files that are then due. The rules
@@ -91,17 +92,18 @@ pub demand-2-patch-fed : {file slice lent lent-after output-lent patch-lent outp
 demand-2-patch-fed check-call feed-call not-0 not-20 = feeds-as-check check-call feed-call not-0 not-20
 
 -- a slice, exactly when it is a prefix of the type in force. (`SliceFile`: by Feed, of the patch's input type; by Admit and Left, of
--- the type beside it; by Join, the second of what the first leaves)
+-- the type beside it; by Join, the second of what the first leaves. Feed has limits of its own besides, document 02's: `Within`.)
 
 pub demand-2-slice : {file slice output-lent patch-lent output-after patch-after : List ℕ} {answer : Fed}
     → FeedPromise file slice output-lent patch-lent answer output-after patch-after → (patch : PatchFile file) → Bytes slice
-    → slice-file-limit ≤ length output-lent → patch-file-limit ≤ length patch-lent → answer .number ≡ 0 ↔ SliceFile (patch .trees .input) slice
+    → slice-file-limit ≤ length output-lent → patch-file-limit ≤ length patch-lent
+    → answer .number ≡ 0 ↔ ((taken : SliceFile (patch .trees .input) slice) × Within (patch .trees) (taken .prefix))
 demand-2-slice {slice = slice} call patch b h k = Iff·trans (feeds-zero call (feed-sized slice patch b) h k) (feed-accepted slice patch b)
 
 pub demand-2-feed : {file slice output-lent patch-lent output-after patch-after : List ℕ} {answer : Fed}
     → FeedPromise file slice output-lent patch-lent answer output-after patch-after → Bytes file → Bytes slice
     → slice-file-limit ≤ length output-lent → patch-file-limit ≤ length patch-lent
-    → answer .number ≡ 0 ↔ ((patch : PatchFile file) × SliceFile (patch .trees .input) slice)
+    → answer .number ≡ 0 ↔ ((patch : PatchFile file) × (taken : SliceFile (patch .trees .input) slice) × Within (patch .trees) (taken .prefix))
 demand-2-feed call b c h k = Iff·trans (feeds-zero call (feed-sized-of-bytes _ _ b c) h k) (feed-accepted-of-bytes _ _ b c)
 
 pub demand-2-admit : (type slice : List ℕ) {answer : Admitted} → AdmitPromise type slice answer → Bytes type → Bytes slice
@@ -128,10 +130,11 @@ demand-2-longest type call b h = Iff·trans (writes-zero call (longest-sized typ
 
 pub demand-2-sends : {file slice output-lent patch-lent output-after patch-after : List ℕ} {answer : Fed} {sent : Prefix} {next : Patch}
     → FeedPromise file slice output-lent patch-lent answer output-after patch-after
-    → (patch : PatchFile file) (taken : SliceFile (patch .trees .input) slice) → FeedsPatch (patch .trees) (taken .prefix) sent next
+    → (patch : PatchFile file) (taken : SliceFile (patch .trees .input) slice) → Within (patch .trees) (taken .prefix)
+    → FeedsPatch (patch .trees) (taken .prefix) sent next
     → length (slice-file-bytes sent) ≤ length output-lent → length (patch-file-bytes next) ≤ length patch-lent
     → WroteBoth (files-of (taken .prefix) sent next) output-lent patch-lent answer output-after patch-after
-demand-2-sends call patch taken rule h k = feed-by-rules call patch taken rule h k
+demand-2-sends call patch taken within rule h k = feed-by-rules call patch taken within rule h k
 
 pub demand-2-defined : {file slice : List ℕ} (patch : PatchFile file) (taken : SliceFile (patch .trees .input) slice)
     → (sent : Prefix) × (next : Patch) × FeedsPatch (patch .trees) (taken .prefix) sent next
@@ -192,3 +195,26 @@ pub joining-adds : (type first second : List ℕ) {lent lent-after left-lent lef
     → AdmitPromise type (take (joined .written) lent-after) both → Bytes type → Bytes first → Bytes second
     → (both .number ≡ 0) × (both .arrived ≡ one .arrived + next .arrived)
 joining-adds type first second join zero left left-zero one next both b c d = join-counts type first second join zero left left-zero one next both b c d
+
+-- Document 02, M-105. "Feed adds its two counts. (`totals-left` in FeedsPatch, by demand-2-sends; and of a list of feeds.)
+
+pub totals-of-a-run : {start : List ℕ} {calls : List Call} {r : RunEnd} → Ran start calls r → (patch : PatchFile start) → ByteSlices calls
+    → (next : PatchFile (r .file))
+    → next .trees .totals ≡ record { arrived = patch .trees .totals .arrived + r .arrived; sent = patch .trees .totals .sent + r .sent }
+totals-of-a-run ran patch b next = run-totals ran patch b next
+
+-- Totals are part of the patch left, the same however a slice that Feed accepts whole is split. (Whatever slices join to it, with long
+-- enough buffers the run takes each of them, and it comes to the patch file that the one feed left, byte for byte.)
+
+pub split : {start slice output-lent patch-lent output-after patch-after : List ℕ} {answer : Fed} {calls : List Call} {r : RunEnd} {p : Prefix}
+    → FeedPromise start slice output-lent patch-lent answer output-after patch-after → answer .number ≡ 0 → (patch : PatchFile start) → Bytes slice
+    → Joined (patch .trees .input) (handed calls) p → slice-file-bytes p ≡ slice → (ran : Ran start calls r) → NoneShort ran
+    → (r .slices ≡ handed calls) × (r .file ≡ take (answer .patch) patch-after)
+split call zero patch b joined is ran long = cut-anyhow call zero patch b joined is ran long
+
+-- Errors: 31, a total would pass 4,294,967,295, after the slice's refusals and before 20." (Whatever the buffers.)
+
+pub thirty-one : {file slice output-lent patch-lent output-after patch-after : List ℕ} {answer : Fed}
+    → FeedPromise file slice output-lent patch-lent answer output-after patch-after → (patch : PatchFile file) → Bytes slice
+    → answer .number ≡ 31 ↔ ((taken : SliceFile (patch .trees .input) slice) × (Within (patch .trees) (taken .prefix) → ⊥))
+thirty-one call patch b = feeds-passed call patch b

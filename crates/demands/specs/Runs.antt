@@ -54,6 +54,17 @@ pub data Ran : List ℕ → List Call → RunEnd → Type 0 where
       → Ran file calls r
       → Ran file (c ∷ calls) r
 
+-- "With long enough buffers": no call of the run says 20.
+abbrev pub NoneShort : {file : List ℕ} {calls : List Call} {r : RunEnd} → Ran file calls r → Type 0
+NoneShort no-call = Unit
+NoneShort (accepted-call call zero ran) = NoneShort ran
+NoneShort (refused-call {answer = answer} call not-zero ran) = (answer .number ≡ 20 → ⊥) × NoneShort ran
+
+-- The slice files that the calls are handed.
+abbrev pub handed : List Call → List (List ℕ)
+handed [] = []
+handed (c ∷ calls) = c .slice ∷ handed calls
+
 -- Joined t files p: the files are slices of t one after the other, and p is their join. "Slices are joined in the order of their
 -- calls, from the left: the first with the second, that with the third, and so on; one alone is its own join."
 pub data Joined (t : Ty) : List (List ℕ) → Prefix → Type 0 where

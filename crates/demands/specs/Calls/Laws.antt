@@ -24,8 +24,8 @@ use Rattle.meaning.specs.declared.Written.{Written}
 use Rattle.meaning.specs.declared.Admitted.{Admitted}
 use Rattle.meaning.specs.declared.Fed.{Fed}
 use Rattle.stream.specs.Bounds.{slice-file-limit, patch-file-limit, arrivals-limit}
-use Rattle.meaning.specs.Answers.{with-room, number-of, value-of, as-number, after, fits-one, fits-both, written, admitted, fed, FedFiles, check, left, join, feed, admit, longest, files-of, fed-files, into-both}
-use Rattle.meaning.specs.Answers.Laws.{number-positive, enough-room, room-accepted, room-refusals, both-fit, check-refused-feed, admit-answers, left-answers, joins, admit-accepted, join-accepted, longest-of, longest-accepted, Refuses, WritesSized, FeedsSized}
+use Rattle.meaning.specs.Answers.{takes-slice, with-room, number-of, value-of, as-number, after, fits-one, fits-both, written, admitted, fed, FedFiles, check, left, join, feed, admit, longest, files-of, fed-files, into-both}
+use Rattle.meaning.specs.Answers.Laws.{takes-sound, number-positive, enough-room, room-accepted, room-refusals, both-fit, check-refused-feed, admit-answers, left-answers, joins, admit-accepted, join-accepted, longest-of, longest-accepted, Refuses, WritesSized, FeedsSized}
 use Rattle.meaning.specs.Promises.{Writes, Admits, CheckPromise, AdmitPromise, LeftPromise, JoinPromise, FeedPromise, LongestPromise}
 use Rattle.demands.specs.Calls.{type-and-slice, two-slices, patch-and-slice, DueFromCheck, DueFromAdmit, DueFromLeft, DueFromJoin, DueFromFeed, DueFromLongest, RoomFor, Wrote, WroteBoth, Decided, is-accepted, is-refused, is-short, TooShortFor, Ty}
 use Rattle.stream.specs.TypeFiles.{type-file, type-file-bytes, TypeFile}
@@ -37,7 +37,7 @@ use Rattle.stream.specs.SliceFiles.Laws.{slice-file-sound, few-arrivals}
 use Rattle.node.specs.PatchFiles.{patch-file, patch-file-bytes}
 use Rattle.node.specs.Nodes.{Patch}
 use Rattle.node.specs.Feeding.{FeedsPatch}
-use Rattle.node.specs.Feeding.Laws.{feeds-only}
+use Rattle.node.specs.Feeding.Patches.{feeds-patch-only}
 use Rattle.stream.specs.Types.{Ty}
 use Rattle.stream.specs.Types.Laws.{and-left, and-right}
 
@@ -80,6 +80,15 @@ twenty {A} fits (accepted a) n = ((λ h. there (fits a) refl h), back)
     back t =
         let e : a ≡ t .due = let d = t .is-due in cc in
         rw (ap fits e ∙ t .too-short)
+
+other-number : {A : Type 0} (fits : A → Bool) (r : Result A) (k : ℕ) → (k ≡ 0 → ⊥) → (k ≡ 20 → ⊥) → number-of (with-room fits r) ≡ k ↔ number-of r ≡ k
+unfolding with-room
+other-number fits (refused e) k not-0 not-20 = ((λ h. h), (λ h. h))
+other-number {A} fits (accepted a) k not-0 not-20 = ((λ h. go (fits a) h), (λ h. absurd (not-0 (sym h))))
+  where
+    go : (b : Bool) → number-of (require b NoRoom (accepted a)) ≡ k → 0 ≡ k
+    go true h = h
+    go false h = absurd (not-20 (sym h))
 
 -- A bound on every answer holds of the length that the caller is told, and where all answers fit, 20 does not come.
 module _ {A : Type 0} (fits : A → Bool) (r : Result A) where
@@ -209,6 +218,10 @@ module _ {patch slice output-lent patch-lent : List ℕ} {answer : Fed} {output-
 
   pub feeds-aside : {ns : List ℕ} → Refuses ns (feed patch slice) → (answer .number ≡ 0) ⊎ (answer .number ≡ 20) ↔ IsAccepted (feed patch slice)
   feeds-aside r = rw fed-told (aside fits (feed patch slice) (not-room (feed patch slice) r))
+
+  -- Room changes no number but 0 and 20.
+  pub feeds-number : (k : ℕ) → (k ≡ 0 → ⊥) → (k ≡ 20 → ⊥) → answer .number ≡ k ↔ number-of (feed patch slice) ≡ k
+  feeds-number k not-0 not-20 = rw fed-told (other-number fits (feed patch slice) k not-0 not-20)
 
   pub feeds-bounded : FeedsSized (feed patch slice) → (answer .output ≤ slice-file-limit) × (answer .patch ≤ patch-file-limit)
   unfolding fed
@@ -542,9 +555,7 @@ module _ (type : List ℕ) {lent lent-after : List ℕ} {answer : Written} (call
 
 pub left-only : {a b : Patch} {p o : Prefix} → IsPrefix (a .input) p → FeedsPatch a p o b
     → fed-files a p ≡ files-of p o b
-left-only {a} {b} {p} {o} is-prefix f =
-    let e = feeds-only (f .by-node) is-prefix in
-    λ i. files-of p (sym (e .sent) i) (record { input = sym (f .input-left) i; node = sym (e .node) i })
+left-only {p = p} is-prefix f = let e = feeds-patch-only f is-prefix in λ i. files-of p (sym (e .0) i) (sym (e .1) i)
 
 abbrev both-files : FedFiles → List (List ℕ)
 both-files w = w .output ∷ w .patch ∷ []
@@ -555,9 +566,9 @@ SliceFits x = IsPrefix (x .0 .input) (x .1)
 -- A slice that was read for a patch is a prefix of its input type.
 slice-fits : (file slice : List ℕ) → Bytes slice → (x : Patch × Prefix) → patch-and-slice file slice ≡ accepted x → SliceFits x
 slice-fits file slice b x e =
-    let c = go-on-accepted (patch-file file) (λ c. go-on (slice-file (c .patch .input) slice) (λ p. accepted (c .patch, p))) x e in
-    let p = go-on-accepted (slice-file (c .0 .patch .input) slice) (λ p. accepted (c .0 .patch, p)) x (c .2) in
-    go (c .0 .patch) (p .0) (p .2) (slice-file-sound (c .0 .patch .input) slice (p .0) b (p .1) .1)
+    let c = go-on-accepted (patch-file file) (λ c. go-on (takes-slice (c .patch) slice) (λ p. accepted (c .patch, p))) x e in
+    let p = go-on-accepted (takes-slice (c .0 .patch) slice) (λ p. accepted (c .0 .patch, p)) x (c .2) in
+    go (c .0 .patch) (p .0) (p .2) (takes-sound (c .0 .patch) slice (p .0) b (p .1) .is-prefix)
   where
     go : (a : Patch) (q : Prefix) → _≡_ {A = Result (Patch × Prefix)} (accepted (a, q)) (accepted x) → IsPrefix (a .input) q → SliceFits x
     go a q d h = let i : _≡_ {A = Patch × Prefix} (a, q) x = cc in rw (← i) h
@@ -608,5 +619,5 @@ pub feed-decided : {file slice output-lent patch-lent output-after patch-after :
 unfolding feed
 feed-decided {file} {slice} call bytes =
     fed-decided (patch-and-slice file slice) (slice-fits file slice bytes) (feed file slice)
-    (both-read (patch-file file) (λ c. slice-file (c .patch .input) slice) (λ c. c .patch) (λ a p. accepted (fed-files a p)))
+    (both-read (patch-file file) (λ c. takes-slice (c .patch) slice) (λ c. c .patch) (λ a p. accepted (fed-files a p)))
     (call .answers) (call .output-buffer) (call .patch-buffer)

@@ -55,10 +55,10 @@ joined-files small (and-next {q = q} j k c) =
     (join-answers q small (joined-is-prefix j) k ∙ ap (λ x. accepted (slice-file-bytes x)) (concat-only c))
 
 input-section : {file : List ℕ} (patch : PatchFile file) → first-section file ≡ type-file-bytes (patch .trees .input)
-input-section patch = ap first-section (sym (patch .bytes)) ∙ first-section-of-patch (patch .trees .input) (patch .trees .node)
+input-section patch = ap first-section (sym (patch .bytes)) ∙ first-section-of-patch (patch .trees)
 
 check-is : {file : List ℕ} (patch : PatchFile file) → check file ≡ accepted (type-file-bytes (patch .output))
-check-is patch = ap check (sym (patch .bytes)) ∙ check-answers (patch .allowed)
+check-is patch = ap check (sym (patch .bytes)) ∙ check-answers (patch .allowed) (patch .held)
 
 pub on-files : {start : List ℕ} {r : RunEnd} (patch : PatchFile start) (end : PatchFile (r .file)) → AsOne patch r end → OnFiles start r
 on-files patch end one =

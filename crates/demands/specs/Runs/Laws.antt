@@ -1,6 +1,7 @@
 -- Runs: a list of Feed calls is a list of feeds of trees, and so it is as one feed.
 use mathlib.Core.Path.{_≡_, refl, sym, ap, ap₂, _∙_}
 use mathlib.Core.Bool.{Bool, true, false}
+use mathlib.Core.Logic.{_↔_, Iff·trans, ⊎-elim}
 use mathlib.Core.List.{List, [], _∷_, _++_, map, append-nil, append-assoc}
 use Prim.Native.Nat.{ℕ, _+_, _≤_}
 use native.Mathlib.Omega.{arith}
@@ -16,22 +17,25 @@ use Rattle.stream.specs.Reading.{Bytes, accepted}
 use Rattle.stream.specs.Reading.Laws.{go-on-accepted}
 use Rattle.stream.specs.SliceFiles.{slice-file, slice-file-bytes, SliceFile}
 use Rattle.stream.specs.SliceFiles.Laws.{prefix-short, few-arrivals, slice-file-sound, slice-file-complete}
-use Rattle.node.specs.Nodes.{Node, Allowed, patch-of, Patch}
-use Rattle.node.specs.Feeding.{Feeds, FeedsPatch}
+use Rattle.node.specs.Totals.{Held}
+use Rattle.node.specs.Totals.Laws.{held-test}
+use Rattle.node.specs.Nodes.{Node, Allowed, Patch}
+use Rattle.node.specs.Feeding.{Feeds, FeedsPatch, Within}
 use Rattle.node.specs.Feeding.Functions.{sends, leaves, patch-left}
-use Rattle.node.specs.Feeding.Laws.{Preserved, preserved, leaves-allowed, feeds}
-use Rattle.node.specs.Feeding.Lists.{Pieces, no-more, piece, concat-all, derivative-all, sends-all, leaves-all, arrivals-all, arrivals-concat-all, sends-pieces, concat-all-is-prefix, derivative-concat-all, sends-concat-all, leaves-concat-all, leaves-all-allowed}
+use Rattle.node.specs.Feeding.Laws.{Preserved, preserved, leaves-allowed}
+use Rattle.node.specs.Feeding.Patches.{feeds-patch, feeds-patch-only, within-test, FeedsAll, feeds-all, patch-left-all, patch-left-none, patch-left-next, patch-left-concat-all, as-one-feed, held-along, held-first, within-held}
+use Rattle.node.specs.Feeding.Lists.{Pieces, no-more, piece, concat-all, derivative-all, sends-all, arrivals-all, arrivals-concat-all, sends-pieces, derivative-concat-all, leaves-all-allowed}
 use Rattle.node.specs.PatchFiles.{patch-file-bytes, PatchFile, patch-file, Checked}
 use Rattle.stream.specs.Buffers.{at-front}
 use Rattle.meaning.specs.declared.Written.{Written}
 use Rattle.meaning.specs.declared.Admitted.{Admitted}
 use Rattle.meaning.specs.declared.Fed.{Fed}
-use Rattle.meaning.specs.Answers.{left, FedFiles, feed, files-of, fed-files}
-use Rattle.meaning.specs.Answers.Laws.{admit-answers, feed-of-patch, feed-answers, fed-patch, longest-answers}
+use Rattle.meaning.specs.Answers.{FedFiles, feed, files-of, fed-files}
+use Rattle.meaning.specs.Answers.Laws.{admit-answers, feed-answers, fed-patch, fed-piece, feed-passed, feed-refuses, longest-answers}
 use Rattle.meaning.specs.Promises.{AdmitPromise, FeedPromise, LongestPromise}
 use Rattle.demands.specs.Calls.{WroteBoth}
-use Rattle.demands.specs.Calls.Laws.{writes-accepted, admits-counts, feeds-exactly, feeds-accepted, feeds-refused, feed-kept, feeds-alike, left-only}
-use Rattle.demands.specs.Runs.{Call, ByteSlices, RunEnd, Ran, no-call, accepted-call, refused-call, Joined, alone, and-next, AsOne, Faithful, Through, NoneLonger}
+use Rattle.demands.specs.Calls.Laws.{writes-accepted, admits-counts, feeds-exactly, feeds-accepted, feeds-refused, feeds-aside, feeds-number, feed-kept, feeds-alike, left-only}
+use Rattle.demands.specs.Runs.{Call, ByteSlices, RunEnd, Ran, no-call, accepted-call, refused-call, Joined, alone, and-next, AsOne, Faithful, Through, NoneShort, handed, NoneLonger}
 use Rattle.stream.specs.Prefixes.Functions.{concat}
 use Rattle.node.specs.Nodes.Laws.{output-small, allowed-fits}
 use Rattle.stream.specs.TypeFiles.{type-file-bytes}
@@ -41,56 +45,55 @@ use Rattle.node.specs.PatchFiles.Laws.{patch-file-complete}
 use native.Mathlib.Nat.{le-trans}
 
 -- Where a run has come to, by trees.
-record Traced (s : Ty) (n : Node) (r : RunEnd) : Type 0 where
+record Traced (a : Patch) (r : RunEnd) : Type 0 where
   pieces : List Prefix
-  are-pieces : Pieces s pieces
-  patch : r .file ≡ patch-file-bytes (patch-of (derivative-all s pieces) (leaves-all s n pieces))
+  are-pieces : Pieces (a .input) pieces
+  patch : r .file ≡ patch-file-bytes (patch-left-all a pieces)
+  held : Held (patch-left-all a pieces .totals)
   slices : r .slices ≡ map slice-file-bytes pieces
-  outputs : r .outputs ≡ map slice-file-bytes (sends-all s n pieces)
+  outputs : r .outputs ≡ map slice-file-bytes (sends-all (a .input) (a .node) pieces)
   arrived : r .arrived ≡ arrivals-all pieces
-  sent : r .sent ≡ arrivals-all (sends-all s n pieces)
+  sent : r .sent ≡ arrivals-all (sends-all (a .input) (a .node) pieces)
 
 -- An accepted call more, in front.
-one-more : {s : Ty} {n : Node} {p : Prefix} (r : RunEnd) {slice output : List ℕ} {came went : ℕ} → IsPrefix s p → slice-file-bytes p ≡ slice
-    → slice-file-bytes (sends s n p) ≡ output → came ≡ arrivals p → went ≡ arrivals (sends s n p) → Traced (derivative s p) (leaves s n p) r
-    → Traced s n (record { file = r .file; slices = slice ∷ r .slices; outputs = output ∷ r .outputs; arrived = came + r .arrived; sent = went + r .sent })
-unfolding derivative-all leaves-all sends-all arrivals-all
-one-more {p = p} r h d e a b t =
+one-more : (a : Patch) {p : Prefix} (r : RunEnd) {slice output : List ℕ} {came went : ℕ} → IsPrefix (a .input) p → slice-file-bytes p ≡ slice
+    → slice-file-bytes (sends (a .input) (a .node) p) ≡ output → came ≡ arrivals p → went ≡ arrivals (sends (a .input) (a .node) p) → Traced (patch-left a p) r
+    → Traced a (record { file = r .file; slices = slice ∷ r .slices; outputs = output ∷ r .outputs; arrived = came + r .arrived; sent = went + r .sent })
+unfolding sends-all arrivals-all
+one-more a {p} r h d e came went t =
     record {
       pieces = p ∷ t .pieces;
       are-pieces = piece h (t .are-pieces);
-      patch = t .patch;
+      patch = t .patch ∙ ap patch-file-bytes (patch-left-next a p (t .pieces));
+      held = held-along (patch-left-next a p (t .pieces)) (t .held);
       slices = ap₂ _∷_ (sym d) (t .slices);
       outputs = ap₂ _∷_ (sym e) (t .outputs);
-      arrived = ap₂ _+_ a (t .arrived);
-      sent = ap₂ _+_ b (t .sent);
+      arrived = ap₂ _+_ came (t .arrived);
+      sent = ap₂ _+_ went (t .sent);
     }
 
--- A slice that an allowed patch is fed is a prefix, and its files are those of the rules.
-record Piece (s : Ty) (n : Node) (slice : List ℕ) (w : FedFiles) : Type 0 where
-  prefix : Prefix
-  is-prefix : IsPrefix s prefix
-  bytes : slice-file-bytes prefix ≡ slice
-  files : fed-files (patch-of s n) prefix ≡ w
-
-a-piece : {s t : Ty} {n : Node} {slice : List ℕ} {w : FedFiles} → Allowed s n t → Bytes slice
-    → feed (patch-file-bytes (patch-of s n)) slice ≡ accepted w → Piece s n slice w
-a-piece {s} {t} {n} {slice} {w} a b e =
-    let y = go-on-accepted (slice-file s slice) (λ p. accepted (fed-files (patch-of s n) p)) w (sym (feed-of-patch slice a) ∙ e) in
-    let z = slice-file-sound s slice (y .0) b (y .1) in
-    record { prefix = y .0; is-prefix = z .1; bytes = z .0; files = let d = y .2 in cc }
-
-traced : {s t : Ty} {n : Node} {start : List ℕ} {r : RunEnd} (calls : List Call) → patch-file-bytes (patch-of s n) ≡ start → Allowed s n t → ByteSlices calls
-    → Ran start calls r → Traced s n r
-unfolding derivative-all leaves-all sends-all arrivals-all
-traced [] e a b no-call = record { pieces = []; are-pieces = no-more; patch = sym e; slices = refl; outputs = refl; arrived = refl; sent = refl }
-traced (c ∷ calls) e a b (refused-call k z ran) = traced calls e a (b .1) ran
-traced {s} {t} {n} (c ∷ calls) e a b (accepted-call {r = r} k z ran) =
+traced : (a : Patch) {t : Ty} {start : List ℕ} {r : RunEnd} (calls : List Call) → patch-file-bytes a ≡ start → Allowed (a .input) (a .node) t → Held (a .totals)
+    → ByteSlices calls → Ran start calls r → Traced a r
+unfolding sends-all arrivals-all
+traced a [] e w c b no-call =
+    record {
+      pieces = [];
+      are-pieces = no-more;
+      patch = sym e ∙ ap patch-file-bytes (sym (patch-left-none a));
+      held = held-along (sym (patch-left-none a)) c;
+      slices = refl;
+      outputs = refl;
+      arrived = refl;
+      sent = refl;
+    }
+traced a (c ∷ calls) e w h b (refused-call k z ran) = traced a calls e w h (b .1) ran
+traced a (c ∷ calls) e w h b (accepted-call {r = r} k z ran) =
     let x = feeds-accepted k z in
-    let p = a-piece a (b .0) (ap (λ f. feed f (c .slice)) e ∙ x .due) in
-    one-more r (p .is-prefix) (p .bytes) (ap (λ (w : FedFiles). w .output) (p .files) ∙ sym (x .output-file))
+    let p = fed-piece a (c .slice) (x .files) w h (b .0) (ap (λ f. feed f (c .slice)) e ∙ x .due) in
+    one-more a r (p .taken .is-prefix) (p .taken .bytes) (ap (λ (w : FedFiles). w .output) (p .files) ∙ sym (x .output-file))
     (x .arrived ∙ sym (ap (λ (w : FedFiles). w .arrived) (p .files))) (x .sent ∙ sym (ap (λ (w : FedFiles). w .sent) (p .files)))
-    (traced calls (ap (λ (w : FedFiles). w .patch) (p .files) ∙ sym (x .patch-file)) (leaves-allowed a (p .is-prefix)) (b .1) ran)
+    (traced (patch-left a (p .prefix)) calls (ap (λ (w : FedFiles). w .patch) (p .files) ∙ sym (x .patch-file)) (leaves-allowed w (p .taken .is-prefix))
+    (p .taken .held) (b .1) ran)
 
 -- The files of pieces join to their concatenation.
 
@@ -106,77 +109,91 @@ joined-all : {s : Ty} {p : Prefix} (ps : List Prefix) → IsPrefix s p → Piece
     → Joined s (slice-file-bytes p ∷ map slice-file-bytes ps) (concat-all p ps)
 joined-all {p = p} ps h k = joined-on (slice-file-bytes p ∷ []) ps (alone h) h k
 
+-- Demand 3 on files, where the joined slice is within the limits of Feed: it sends the outputs joined and leaves the patch that the list
+-- of feeds leaves by the rules.
+pub fed-joined : {a b : Patch} {t : Ty} {p o : Prefix} {ps os : List Prefix} → Allowed (a .input) (a .node) t → Held (a .totals)
+    → Pieces (a .input) (p ∷ ps) → FeedsAll a (p ∷ ps) (o ∷ os) b → Within a (concat-all p ps)
+    → feed (patch-file-bytes a) (slice-file-bytes (concat-all p ps)) ≡ accepted (files-of (concat-all p ps) (concat-all o os) b)
+fed-joined {a} w c k fs within =
+    let one = as-one-feed (w .types) k fs in
+    feed-answers a w c (one .0) within ∙ ap accepted (left-only (one .0) (one .1))
+
 -- A run of one accepted call or more, by its pieces.
-record OneFeed {s : Ty} {n : Node} {t : Ty} (a : Allowed s n t) (ps : List Prefix) (r : RunEnd) : Type 0 where
+record OneFeed (a : Patch) (t : Ty) (ps : List Prefix) (r : RunEnd) : Type 0 where
   slice : Prefix
   output : Prefix
-  slices-joined : Joined s (r .slices) slice
+  slices-joined : Joined (a .input) (r .slices) slice
   outputs-joined : Joined t (r .outputs) output
-  fed-joined : feed (patch-file-bytes (patch-of s n)) (slice-file-bytes slice)
+  fed-as-one : feed (patch-file-bytes a) (slice-file-bytes slice)
       ≡ accepted (record { output = slice-file-bytes output; patch = r .file; arrived = r .arrived; sent = r .sent })
-  input-left : derivative-all s ps ≡ derivative s slice
-  output-left : derivative-all t (sends-all s n ps) ≡ derivative t output
+  input-left : derivative-all (a .input) ps ≡ derivative (a .input) slice
+  output-left : derivative-all t (sends-all (a .input) (a .node) ps) ≡ derivative t output
 
-one-feed : {s t : Ty} {n : Node} (r : RunEnd) (ps : List Prefix) (a : Allowed s n t) → Pieces s ps
-    → r .file ≡ patch-file-bytes (patch-of (derivative-all s ps) (leaves-all s n ps)) → r .slices ≡ map slice-file-bytes ps
-    → r .outputs ≡ map slice-file-bytes (sends-all s n ps) → r .arrived ≡ arrivals-all ps → r .sent ≡ arrivals-all (sends-all s n ps)
-    → (r .slices ≡ [] → ⊥) → OneFeed a ps r
-unfolding derivative-all leaves-all sends-all
-one-feed r [] a no-more e d o c w l = absurd (l d)
-one-feed {s} {t} {n} r (p ∷ ps) a (piece h k) e d o c w l =
+one-feed : (a : Patch) {t : Ty} (r : RunEnd) (ps : List Prefix) → Allowed (a .input) (a .node) t → Held (a .totals) → Pieces (a .input) ps
+    → r .file ≡ patch-file-bytes (patch-left-all a ps) → Held (patch-left-all a ps .totals) → r .slices ≡ map slice-file-bytes ps
+    → r .outputs ≡ map slice-file-bytes (sends-all (a .input) (a .node) ps) → r .arrived ≡ arrivals-all ps
+    → r .sent ≡ arrivals-all (sends-all (a .input) (a .node) ps) → (r .slices ≡ [] → ⊥) → OneFeed a t ps r
+unfolding derivative-all sends-all
+one-feed a r [] w c no-more e held d o came went some = absurd (some d)
+one-feed a {t} r (p ∷ ps) w c (piece h k) e held d o came went some =
     record {
       slice = concat-all p ps;
-      output = concat-all (sends s n p) sent;
+      output = concat-all (sends (a .input) (a .node) p) sent;
       slices-joined = rw d (joined-all ps h k);
       outputs-joined = rw o (joined-all sent (x .sent) outputs);
-      fed-joined =
-          feed-answers a (concat-all-is-prefix ps h k)
+      fed-as-one =
+          fed-joined w c (piece h k) (feeds-all a (p ∷ ps) (w .types) (piece h k)) (within-held a ps (w .types) (piece h k) .1 held)
           ∙ (λ i. accepted (record {
-            output = slice-file-bytes (sends-concat-all ps (a .types) h k i);
-            patch = patches i;
-            arrived = (arrivals-concat-all ps h k ∙ sym c) i;
-            sent = counts i;
+            output = slice-file-bytes (concat-all (sends (a .input) (a .node) p) sent);
+            patch = sym e i;
+            arrived = (arrivals-concat-all ps h k ∙ sym came) i;
+            sent = (arrivals-concat-all sent (x .sent) outputs ∙ sym went) i;
           }));
       input-left = sym (derivative-concat-all ps h k);
       output-left = sym (derivative-concat-all sent (x .sent) outputs);
     }
   where
-    x : Preserved s n t p
-    x = preserved (a .types) h
+    x : Preserved (a .input) (a .node) t p
+    x = preserved (w .types) h
 
     sent : List Prefix
-    sent = sends-all (derivative s p) (leaves s n p) ps
+    sent = sends-all (derivative (a .input) p) (leaves (a .input) (a .node) p) ps
 
-    outputs : Pieces (derivative t (sends s n p)) (sends-all (derivative s p) (leaves s n p) ps)
+    outputs : Pieces (derivative t (sends (a .input) (a .node) p)) (sends-all (derivative (a .input) p) (leaves (a .input) (a .node) p) ps)
     outputs = sends-pieces ps (x .types) k
 
-    counts : arrivals (sends s n (concat-all p ps)) ≡ r .sent
-    counts = ap arrivals (sends-concat-all ps (a .types) h k) ∙ arrivals-concat-all sent (x .sent) outputs ∙ sym w
-
-    patches : patch-file-bytes (patch-left (patch-of s n) (concat-all p ps)) ≡ r .file
-    patches = ap₂ (λ u m. patch-file-bytes (patch-of u m)) (derivative-concat-all ps h k) (leaves-concat-all ps (a .types) h k) ∙ sym e
-
--- Fed a prefix, a patch file sends and leaves what the rules say.
+-- Fed a prefix within the limits, a patch file sends and leaves what the rules say.
 pub feed-by-rules : {b : Patch} {o : Prefix} {file slice output-lent patch-lent output-after patch-after : List ℕ} {answer : Fed}
     → FeedPromise file slice output-lent patch-lent answer output-after patch-after
-    → (patch : PatchFile file) (taken : SliceFile (patch .trees .input) slice) → FeedsPatch (patch .trees) (taken .prefix) o b
+    → (patch : PatchFile file) (taken : SliceFile (patch .trees .input) slice) → Within (patch .trees) (taken .prefix)
+    → FeedsPatch (patch .trees) (taken .prefix) o b
     → length (slice-file-bytes o) ≤ length output-lent → length (patch-file-bytes b) ≤ length patch-lent
     → WroteBoth (files-of (taken .prefix) o b) output-lent patch-lent answer output-after patch-after
-feed-by-rules call patch taken rule i j =
+feed-by-rules call patch taken within rule i j =
     feeds-exactly call
-    (rw (patch .bytes, taken .bytes) at (feed-answers (patch .allowed) (taken .is-prefix)) ∙ ap accepted (left-only (taken .is-prefix) rule)) i j
+    (rw (patch .bytes, taken .bytes) at (feed-answers (patch .trees) (patch .allowed) (patch .held) (taken .is-prefix) within)
+    ∙ ap accepted (left-only (taken .is-prefix) rule)) i j
 
--- Where the node stays, on a prefix that opens nothing, the patch file is written back, byte for byte; nothing has arrived.
+-- Where the node stays, on a prefix that opens nothing, and sends nothing, the patch file is written back, byte for byte.
 pub stays-on-file : {o : Prefix} {file slice output-lent patch-lent output-after patch-after : List ℕ} {answer : Fed}
     → FeedPromise file slice output-lent patch-lent answer output-after patch-after
     → (patch : PatchFile file) (taken : SliceFile (patch .trees .input) slice) → (Opens (patch .trees .input) (taken .prefix) → ⊥)
-    → Feeds (patch .trees .input) (patch .trees .node) (taken .prefix) o (patch .trees .node)
+    → Feeds (patch .trees .input) (patch .trees .node) (taken .prefix) o (patch .trees .node) → arrivals o ≡ 0
     → length (slice-file-bytes o) ≤ length output-lent → length file ≤ length patch-lent
-    → WroteBoth (record { output = slice-file-bytes o; patch = file; arrived = 0; sent = arrivals o }) output-lent patch-lent answer output-after patch-after
-stays-on-file call patch taken closed rule i j =
-    let fed : FeedsPatch (patch .trees) (taken .prefix) _ (patch .trees) =
-    record { by-node = rule; input-left = sym (closed-derivative (taken .is-prefix) closed) } in
-    rw (patch .bytes, closed-arrivals (taken .is-prefix) closed) at (feed-by-rules call patch taken fed i (rw (patch .bytes) j))
+    → WroteBoth (record { output = slice-file-bytes o; patch = file; arrived = 0; sent = 0 }) output-lent patch-lent answer output-after patch-after
+stays-on-file {o} call patch taken closed rule none-sent i j =
+    let a = patch .trees in
+    let none-came = closed-arrivals (taken .is-prefix) closed in
+    let came : a .totals .arrived ≡ a .totals .arrived + arrivals (taken .prefix) = omega (arith, none-came) in
+    let went : a .totals .sent ≡ a .totals .sent + arrivals o = omega (arith, none-sent) in
+    let fed : FeedsPatch (patch .trees) (taken .prefix) o (patch .trees) = record {
+      by-node = rule;
+      input-left = sym (closed-derivative (taken .is-prefix) closed);
+      totals-left = λ i. record { arrived = came i; sent = went i };
+    } in
+    let same = feeds-patch-only fed (taken .is-prefix) .1 in
+    let within = within-test a (patch .allowed .types) (taken .is-prefix) .0 (held-test (patch-left a (taken .prefix) .totals) .1 (held-along same (patch .held))) in
+    rw (patch .bytes, none-came, none-sent) at (feed-by-rules call patch taken within fed i (rw (patch .bytes) j))
 
 -- No more is counted than the leaves of a type, of what arrived and of what was sent.
 pub feeds-few : {file slice output-lent patch-lent output-after patch-after : List ℕ} {answer : Fed}
@@ -189,10 +206,11 @@ feeds-few {file} {slice} {answer = answer} call b c = go (eqb (answer .number) 0
         let accepted-call = feeds-accepted call (eqb-true _ _ e) in
         let patch = fed-patch file slice (accepted-call .files) b (accepted-call .due) in
         let allowed = patch .allowed in
-        let p = a-piece allowed c (ap (λ f. feed f slice) (patch .bytes) ∙ accepted-call .due) in (
-          rw (accepted-call .arrived, ← ap (λ (w : FedFiles). w .arrived) (p .files)) (few-arrivals (p .is-prefix) (allowed .input-small)),
+        let p = fed-piece (patch .trees) slice (accepted-call .files) allowed (patch .held) c (ap (λ f. feed f slice) (patch .bytes) ∙ accepted-call .due) in
+        let h = p .taken .is-prefix in (
+          rw (accepted-call .arrived, ← ap (λ (w : FedFiles). w .arrived) (p .files)) (few-arrivals h (allowed .input-small)),
           rw (accepted-call .sent, ← ap (λ (w : FedFiles). w .sent) (p .files))
-              (few-arrivals (preserved (allowed .types) (p .is-prefix) .sent) (output-small (allowed .types) (allowed-fits allowed))),
+              (few-arrivals (preserved (allowed .types) h .sent) (output-small (allowed .types) (allowed-fits allowed))),
         )
     go false e = let none = feeds-refused call (eqb-false _ _ e) in (rw (none .0) (omega arith), rw (none .1) (omega arith))
 
@@ -205,20 +223,20 @@ pub counts-as-admit : {file slice output-lent patch-lent output-after patch-afte
 counts-as-admit {slice = slice} call zero patch c takes sends-on =
     let fed = feeds-accepted call zero in
     let allowed = patch .allowed in
-    let p = a-piece allowed c (ap (λ f. feed f slice) (patch .bytes) ∙ fed .due) in
+    let p = fed-piece (patch .trees) slice (fed .files) allowed (patch .held) c (ap (λ f. feed f slice) (patch .bytes) ∙ fed .due) in
+    let h = p .taken .is-prefix in
     let output = ap (λ (w : FedFiles). w .output) (p .files) ∙ sym (fed .output-file) in
     let small = output-small (allowed .types) (allowed-fits allowed) in (
       fed .arrived ∙ sym (ap (λ (w : FedFiles). w .arrived) (p .files))
-          ∙ sym (admits-counts takes (rw (p .bytes) at (admit-answers (allowed .input-small) (p .is-prefix)))),
+          ∙ sym (admits-counts takes (rw (p .taken .bytes) at (admit-answers (allowed .input-small) h))),
       fed .sent ∙ sym (ap (λ (w : FedFiles). w .sent) (p .files))
-          ∙ sym (admits-counts sends-on (rw output at (admit-answers small (preserved (allowed .types) (p .is-prefix) .sent)))),
+          ∙ sym (admits-counts sends-on (rw output at (admit-answers small (preserved (allowed .types) h .sent)))),
     )
 
 -- The rules define what is sent and left, of every prefix.
 pub feed-defined : {file slice : List ℕ} (patch : PatchFile file) (taken : SliceFile (patch .trees .input) slice)
     → (o : Prefix) × (b : Patch) × FeedsPatch (patch .trees) (taken .prefix) o b
-feed-defined patch taken =
-    (_, patch-left (patch .trees) (taken .prefix), record { by-node = feeds (patch .allowed .types) (taken .is-prefix); input-left = refl })
+feed-defined patch taken = (_, _, feeds-patch (patch .trees) (patch .allowed .types) (taken .is-prefix))
 
 -- From any patch file, with any calls
 
@@ -229,16 +247,17 @@ module _ {start : List ℕ} {calls : List Call} {r : RunEnd} (ran : Ran start ca
   abbrev node : Node
   node = patch .trees .node
 
-  trace : Traced input node r
-  trace = traced calls (patch .bytes) (patch .allowed) slices ran
+  trace : Traced (patch .trees) r
+  trace = traced (patch .trees) calls (patch .bytes) (patch .allowed) (patch .held) slices ran
 
   pub run-patch : PatchFile (r .file)
   run-patch =
       let t = trace in
       record {
-        trees = patch-of (derivative-all input (t .pieces)) (leaves-all input node (t .pieces));
+        trees = patch-left-all (patch .trees) (t .pieces);
         output = derivative-all (patch .output) (sends-all input node (t .pieces));
         allowed = leaves-all-allowed (t .pieces) (patch .allowed) (t .are-pieces);
+        held = t .held;
         bytes = sym (t .patch);
       }
 
@@ -246,26 +265,27 @@ module _ {start : List ℕ} {calls : List Call} {r : RunEnd} (ran : Ran start ca
   unfolding run-patch
   run-as-one h =
       let t = trace in
-      let one = one-feed r (t .pieces) (patch .allowed) (t .are-pieces) (t .patch) (t .slices) (t .outputs) (t .arrived) (t .sent) h in
+      let one = one-feed (patch .trees) r (t .pieces) (patch .allowed) (patch .held) (t .are-pieces) (t .patch) (t .held) (t .slices) (t .outputs)
+      (t .arrived) (t .sent) h in
       record {
         slice = one .slice;
         output = one .output;
         slices-joined = one .slices-joined;
         outputs-joined = one .outputs-joined;
-        fed-as-one = λ call i j. feeds-exactly call (rw (patch .bytes) at (one .fed-joined)) i j;
+        fed-as-one = λ call i j. feeds-exactly call (rw (patch .bytes) at (one .fed-as-one)) i j;
         input-left = one .input-left;
         output-left = one .output-left;
       }
 
   run-none : r .slices ≡ [] → (r .file ≡ start) × (run-patch .trees ≡ patch .trees) × (run-patch .output ≡ patch .output) × (r .arrived ≡ 0) × (r .sent ≡ 0)
-  unfolding run-patch derivative-all leaves-all sends-all arrivals-all
+  unfolding run-patch derivative-all sends-all arrivals-all
   run-none e = go (trace .pieces) (sym (trace .slices) ∙ e) (trace .patch) (trace .arrived) (trace .sent)
     where
-      go : (ps : List Prefix) → map slice-file-bytes ps ≡ [] → r .file ≡ patch-file-bytes (patch-of (derivative-all input ps) (leaves-all input node ps))
+      go : (ps : List Prefix) → map slice-file-bytes ps ≡ [] → r .file ≡ patch-file-bytes (patch-left-all (patch .trees) ps)
           → r .arrived ≡ arrivals-all ps → r .sent ≡ arrivals-all (sends-all input node ps)
-          → (r .file ≡ start) × (patch-of (derivative-all input ps) (leaves-all input node ps) ≡ patch .trees)
+          → (r .file ≡ start) × (patch-left-all (patch .trees) ps ≡ patch .trees)
           × (derivative-all (patch .output) (sends-all input node ps) ≡ patch .output) × (r .arrived ≡ 0) × (r .sent ≡ 0)
-      go [] d h c w = (h ∙ patch .bytes, refl, refl, c, w)
+      go [] d h c w = (h ∙ ap patch-file-bytes (patch-left-none (patch .trees)) ∙ patch .bytes, patch-left-none (patch .trees), refl, c, w)
       go (p ∷ ps) d h c w = let z : _≡_ {A = ℕ} 0 1 = cc in absurd (omega arith)
 
   pub run-faithful : Faithful patch r
@@ -436,10 +456,111 @@ one-prefix w a b = one-slice w (a .is-prefix) (b .is-prefix) (a .bytes ∙ sym (
 
 pub one-patch : {file : List ℕ} (a b : PatchFile file) → (a .trees ≡ b .trees) × (a .output ≡ b .output)
 one-patch {file} a b =
-    let x : patch-file file ≡ accepted (record { patch = a .trees; output = a .output }) = rw (a .bytes) at (patch-file-complete (a .allowed)) in
-    let y : patch-file file ≡ accepted (record { patch = b .trees; output = b .output }) = rw (b .bytes) at (patch-file-complete (b .allowed)) in
+    let x : patch-file file ≡ accepted (record { patch = a .trees; output = a .output }) = rw (a .bytes) at (patch-file-complete (a .allowed) (a .held)) in
+    let y : patch-file file ≡ accepted (record { patch = b .trees; output = b .output }) = rw (b .bytes) at (patch-file-complete (b .allowed) (b .held)) in
     let same : _≡_ {A = Checked} (record { patch = a .trees; output = a .output }) (record { patch = b .trees; output = b .output }) = cc in
     (ap (λ (c : Checked). c .patch) same, ap (λ (c : Checked). c .output) same)
+
+-- 31, and the totals of a run
+
+pub feeds-passed : {file slice output-lent patch-lent output-after patch-after : List ℕ} {answer : Fed}
+    → FeedPromise file slice output-lent patch-lent answer output-after patch-after → (patch : PatchFile file) → Bytes slice
+    → answer .number ≡ 31 ↔ ((taken : SliceFile (patch .trees .input) slice) × (Within (patch .trees) (taken .prefix) → ⊥))
+feeds-passed {slice = slice} call patch b = Iff·trans (feeds-number call 31 (λ e. omega (arith, e)) (λ e. omega (arith, e))) (feed-passed slice patch b)
+
+pub run-totals : {start : List ℕ} {calls : List Call} {r : RunEnd} → Ran start calls r → (patch : PatchFile start) → ByteSlices calls
+    → (next : PatchFile (r .file))
+    → next .trees .totals ≡ record { arrived = patch .trees .totals .arrived + r .arrived; sent = patch .trees .totals .sent + r .sent }
+unfolding run-patch
+run-totals ran patch b next =
+    let t = trace ran patch b in
+    let c = patch .trees .totals in
+    ap (λ (a : Patch). a .totals) (one-patch next (run-patch ran patch b) .0)
+    ∙ (λ i. record { arrived = c .arrived + sym (t .arrived) i; sent = c .sent + sym (t .sent) i })
+
+-- A slice that Feed accepts whole, cut anyhow: every piece is accepted, and the last patch is the same.
+
+-- Prefixes one after the other, of which p is the join and these the files.
+record Cut (t : Ty) (files : List (List ℕ)) (p : Prefix) : Type 0 where
+  first : Prefix
+  rest : List Prefix
+  are-pieces : Pieces t (first ∷ rest)
+  joins : concat-all first rest ≡ p
+  are-files : files ≡ map slice-file-bytes (first ∷ rest)
+
+pieces-last : {t : Ty} {p q : Prefix} (ps : List Prefix) → IsPrefix t p → Pieces (derivative t p) ps → IsPrefix (derivative t (concat-all p ps)) q
+    → Pieces (derivative t p) (ps ++ q ∷ [])
+unfolding concat-all
+pieces-last [] h k l = piece l no-more
+pieces-last {q = q} (x ∷ ps) h (piece i k) l =
+    piece {ps = ps ++ q ∷ []} i (rw (← derivative-concat x h i) (pieces-last ps (concat-is-prefix x h i) (rw (derivative-concat x h i) k) l))
+
+concat-all-last : (p q : Prefix) (ps : List Prefix) → concat-all p (ps ++ q ∷ []) ≡ concat (concat-all p ps) q
+unfolding concat-all
+concat-all-last p q [] = refl
+concat-all-last p q (x ∷ ps) = concat-all-last (concat p x) q ps
+
+files-last : (ps : List Prefix) (q : Prefix) → map slice-file-bytes ps ++ slice-file-bytes q ∷ [] ≡ map slice-file-bytes (ps ++ q ∷ [])
+files-last [] q = refl
+files-last (p ∷ ps) q = ap (λ files. slice-file-bytes p ∷ files) (files-last ps q)
+
+one-file-more : {t : Ty} {files : List (List ℕ)} {p q r : Prefix} (x : Prefix) (xs : List Prefix) → Pieces t (x ∷ xs) → concat-all x xs ≡ p
+    → files ≡ map slice-file-bytes (x ∷ xs) → IsPrefix (derivative t p) q → concat p q ≡ r → Cut t (files ++ slice-file-bytes q ∷ []) r
+one-file-more {q = q} x xs (piece h i) d f k e =
+    record {
+      first = x;
+      rest = xs ++ q ∷ [];
+      are-pieces = piece h (pieces-last {q = q} xs h i (rw d k));
+      joins = concat-all-last x q xs ∙ ap (λ y. concat y q) d ∙ e;
+      are-files = ap (λ files. files ++ slice-file-bytes q ∷ []) f ∙ files-last (x ∷ xs) q;
+    }
+
+joined-cut : {t : Ty} {files : List (List ℕ)} {p : Prefix} → Joined t files p → Cut t files p
+unfolding concat-all
+joined-cut (alone {p = p} h) = record { first = p; rest = []; are-pieces = piece h no-more; joins = refl; are-files = refl }
+joined-cut (and-next j k c) =
+    let cut = joined-cut j in
+    one-file-more (cut .first) (cut .rest) (cut .are-pieces) (cut .joins) (cut .are-files) k (concat-only c)
+
+-- A piece of a stream whose totals are held is due to be fed.
+piece-due : (a : Patch) {t : Ty} {start : List ℕ} {p : Prefix} (c : Call) → patch-file-bytes a ≡ start → Allowed (a .input) (a .node) t → Held (a .totals)
+    → IsPrefix (a .input) p → Held (patch-left a p .totals) → c .slice ≡ slice-file-bytes p → feed start (c .slice) ≡ accepted (fed-files a p)
+piece-due a {p = p} c e w h k held d =
+    ap₂ feed (sym e) d ∙ feed-answers a w h k (within-test a (w .types) k .0 (held-test (patch-left a p .totals) .1 held))
+
+all-taken : (a : Patch) {t : Ty} {start : List ℕ} {r : RunEnd} (ps : List Prefix) (calls : List Call) → patch-file-bytes a ≡ start
+    → Allowed (a .input) (a .node) t → Held (a .totals) → Pieces (a .input) ps → Held (patch-left-all a ps .totals)
+    → handed calls ≡ map slice-file-bytes ps → (ran : Ran start calls r) → NoneShort ran
+    → (r .slices ≡ handed calls) × (r .file ≡ patch-file-bytes (patch-left-all a ps))
+all-taken a [] [] e w c k held d no-call short = (refl, sym e ∙ ap patch-file-bytes (sym (patch-left-none a)))
+all-taken a [] (x ∷ calls) e w c k held d ran short = let z : _≡_ {A = ℕ} 0 1 = cc in absurd (omega arith)
+all-taken a (p ∷ ps) [] e w c k held d ran short = let z : _≡_ {A = ℕ} 0 1 = cc in absurd (omega arith)
+all-taken a (p ∷ ps) (x ∷ calls) e w c (piece h k) held d (refused-call call not-zero ran) short =
+    absurd (⊎-elim not-zero (short .0) (feeds-aside call (feed-refuses _ (x .slice)) .1 (_, piece-due a x e w c h (held-first a p ps held) (cc))))
+all-taken a (p ∷ ps) (x ∷ calls) e w c (piece h k) held d (accepted-call call zero ran) short =
+    let now = held-first a p ps held in
+    let due = piece-due a x e w c h now (cc) in
+    let y = feeds-accepted call zero in
+    let same : fed-files a p ≡ y .files = let is-due = y .due in cc in
+    let i = all-taken (patch-left a p) ps calls (ap (λ (f : FedFiles). f .patch) same ∙ sym (y .patch-file)) (leaves-allowed w h) now k
+    (held-along (sym (patch-left-next a p ps)) held) (cc) ran short in
+    (ap (λ files. x .slice ∷ files) (i .0), i .1 ∙ ap patch-file-bytes (patch-left-next a p ps))
+
+pub cut-anyhow : {start slice output-lent patch-lent output-after patch-after : List ℕ} {answer : Fed} {calls : List Call} {r : RunEnd} {p : Prefix}
+    → FeedPromise start slice output-lent patch-lent answer output-after patch-after → answer .number ≡ 0 → (patch : PatchFile start) → Bytes slice
+    → Joined (patch .trees .input) (handed calls) p → slice-file-bytes p ≡ slice → (ran : Ran start calls r) → NoneShort ran
+    → (r .slices ≡ handed calls) × (r .file ≡ take (answer .patch) patch-after)
+cut-anyhow {start} {slice} {calls = calls} {p = p} call zero patch b j e ran short =
+    let a = patch .trees in
+    let w = patch .allowed in
+    let x = feeds-accepted call zero in
+    let whole = fed-piece a slice (x .files) w (patch .held) b (ap (λ f. feed f slice) (patch .bytes) ∙ x .due) in
+    let cut = joined-cut j in
+    let same = one-slice (w .input-small) (whole .taken .is-prefix) (joined-is-prefix j) (whole .taken .bytes ∙ sym e) ∙ sym (cut .joins) in
+    let left = ap (patch-left a) same ∙ patch-left-concat-all a (cut .rest) (w .types) (cut .are-pieces) in
+    let taken = all-taken a (cut .first ∷ cut .rest) calls (patch .bytes) w (patch .held) (cut .are-pieces) (held-along left (whole .taken .held))
+    (cut .are-files) ran short in
+    (taken .0, taken .1 ∙ ap patch-file-bytes (sym left) ∙ ap (λ (f : FedFiles). f .patch) (whole .files) ∙ sym (x .patch-file))
 
 -- No slice of a run, and no output, is longer than the longest slice of its type at the start.
 

@@ -86,7 +86,14 @@ patch-left-concat-all a {p = p} ps d (piece h k) =
       totals = record { arrived = a .totals .arrived + came i; sent = a .totals .sent + went i };
     }
 
-feeds-all-only : {a b : Patch} {t : Ty} {ps os : List Prefix} → Takes (a .input) (a .node) t → Pieces (a .input) ps → FeedsAll a ps os b
+pub feeds-all : (a : Patch) {t : Ty} (ps : List Prefix) → Takes (a .input) (a .node) t → Pieces (a .input) ps
+    → FeedsAll a ps (sends-all (a .input) (a .node) ps) (patch-left-all a ps)
+unfolding sends-all
+feeds-all a [] d no-more = rw (patch-left-none a) none-fed
+feeds-all a (p ∷ ps) d (piece h k) =
+    rw (← patch-left-next a p ps) (feed-next (feeds-patch a d h) (feeds-all (patch-left a p) ps (preserved d h .types) k))
+
+pub feeds-all-only : {a b : Patch} {t : Ty} {ps os : List Prefix} → Takes (a .input) (a .node) t → Pieces (a .input) ps → FeedsAll a ps os b
     → (os ≡ sends-all (a .input) (a .node) ps) × (b ≡ patch-left-all a ps)
 unfolding sends-all
 feeds-all-only {a} d no-more none-fed = (refl, sym (patch-left-none a))
