@@ -1,2 +1,3 @@
 pub mod FirstPass
+pub mod LastSection
 pub mod NodeRoots

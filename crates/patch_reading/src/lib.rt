@@ -12,11 +12,14 @@ ghost use Prim.Native.Nat.{_≤_};
 ghost use lib.ListN.{length, drop};
 ghost use Rattle.stream.specs.TypeFiles.{read-type};
 ghost use Rattle.reading.specs.Sections.{end-of};
+ghost use Rattle.stream.specs.declared.Fault.the-variants.{LeftOver};
+ghost use Rattle.stream.specs.Reading.{whole};
+ghost use Rattle.node.specs.Totals.{totals-section};
 ghost use Rattle.node.specs.PatchFiles.{node-root, read-node, node-section, first-pass};
 ghost use Rattle.node.specs.Nodes.Kinds.{node-arity};
-ghost use Rattle.patch_reading.specs.PatchReads.{patch-read};
+ghost use Rattle.patch_reading.specs.PatchReads.{whole-end, patch-read};
 
-// Where a patch stands in its file: its input type, and from `nodes` to the end its nodes.
+// Where a patch stands in its file: its input type, and from `nodes` on its nodes. The totals are the last bytes.
 pub struct PatchPlace {
     pub input: TypePlace,
     pub nodes: usize,
@@ -29,8 +32,11 @@ impl PatchPlace {
     // The nodes of a patch have at most so many bytes: 31 nodes with parts, and 32 silents with the largest type.
     pub const MAX_NODE_BYTES: usize = 8223;
 
-    // No patch file is longer: both counts, and an input type of 255 nodes.
-    pub const MAX_FILE: usize = 8482;
+    // The totals, arrived and sent, have four bytes each.
+    pub const TOTALS: usize = 8;
+
+    // No patch file is longer: three counts, an input type of 255 nodes, and the totals.
+    pub const MAX_FILE: usize = 8492;
 
     // Only the place: that a patch stands there is for whoever made it to know.
     pub fn new(input: TypePlace, nodes: usize) -> PatchPlace
@@ -131,6 +137,26 @@ fn node_section_end(bytes: &[u8]) -> TreeEnd
     }
 }
 
+// Whether the bytes are a section of totals with nothing behind it, the last section of a patch file; where it ends. What the totals are
+// is not asked.
+fn last_section_end(bytes: &[u8]) -> TreeEnd
+    ensures { λ r. ⌜ r ≡ whole-end (length (now (bytes .entry))) (whole LeftOver (totals-section (now (bytes .entry)))) ⌝ }
+{
+    match section_end(bytes) {
+        TreeEnd::Failed(fault) => TreeEnd::Failed(fault),
+        TreeEnd::At(end) => {
+            // Too few bytes in the section are found before any that are too many, in it or behind it.
+            if end < 2 + PatchPlace::TOTALS {
+                return TreeEnd::Failed(Fault::CutShort);
+            }
+            if 2 + PatchPlace::TOTALS < bytes.len() {
+                return TreeEnd::Failed(Fault::LeftOver);
+            }
+            TreeEnd::At(end)
+        }
+    }
+}
+
 // What became of a patch file: where its patch stands in it, or why it is refused.
 pub enum PatchRead {
     Whole(PatchPlace),
@@ -145,13 +171,10 @@ pub fn read_patch_file(file: &[u8]) -> PatchRead
         TreeEnd::Failed(fault) => PatchRead::Refused(fault),
         TreeEnd::At(type_end) => match node_section_end(&file[type_end..]) {
             TreeEnd::Failed(fault) => PatchRead::Refused(fault),
-            TreeEnd::At(read) => {
-                if type_end + read < file.len() {
-                    PatchRead::Refused(Fault::LeftOver)
-                } else {
-                    PatchRead::Whole(PatchPlace::new(TypePlace::new(2, type_end), type_end + 2))
-                }
-            }
+            TreeEnd::At(read) => match last_section_end(&file[type_end + read..]) {
+                TreeEnd::Failed(fault) => PatchRead::Refused(fault),
+                TreeEnd::At(_) => PatchRead::Whole(PatchPlace::new(TypePlace::new(2, type_end), type_end + 2)),
+            },
         },
     }
 }

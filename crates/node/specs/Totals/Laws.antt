@@ -1,19 +1,20 @@
 -- Totals are read as they were written, and what was read was written; the test of their limit is the limit.
-use mathlib.Core.Path.{_≡_}
+use mathlib.Core.Path.{_≡_, ap, _∙_}
 use mathlib.Core.Bool.{true}
-use mathlib.Core.Logic.{_↔_}
+use mathlib.Core.Logic.{_↔_, ⊎-elim}
 use mathlib.Core.List.{List, []}
 use Prim.Native.Nat.{ℕ, _+_, _≤_, _<_}
 use native.Mathlib.Omega.{arith}
 use lib.Dec.{leb}
-use lib.ListN.{length}
+use lib.ListN.{length, drop, length-drop}
+use lib.Seq.{drop-drop}
 use borrow.Author.Tests.{leb-true, le-leb}
 use Rattle.stream.specs.declared.Fault.{Fault}
 use Rattle.stream.specs.declared.Fault.the-variants.{CutShort, LeftOver}
 use Rattle.stream.specs.Types.Laws.{and-left, and-right, and-both}
-use Rattle.stream.specs.Reading.{Bytes, read, read-on, number-bytes, read-number, section-bytes}
+use Rattle.stream.specs.Reading.{Bytes, Reading, read, fault, read-on, number-bytes, read-number, section-bytes}
 use Rattle.stream.specs.Reading.Laws.{section-reads, section-sound, section-is-bytes, read-on-read, bytes-nil, FoundContents}
-use Rattle.stream.specs.Reading.Numbers.{number-limit, number-length, number-is-bytes, number-reads, number-sound, number-faults}
+use Rattle.stream.specs.Reading.Numbers.{number-limit, number-length, number-is-bytes, number-reads, number-sound, number-faults, long-or-short, number-there, number-missing}
 use Rattle.stream.specs.Reading.Refusals.{Faults, read-on-faults, section-faults}
 use Rattle.node.specs.Totals.{Totals, total-width, total-limit, Held, held, totals-bytes, read-totals, totals-section}
 
@@ -92,6 +93,35 @@ totals-section-sound s c r b e =
     let f = section-sound CutShort LeftOver read-totals s c r b e in
     let g = read-totals-sound (f .body) c [] (f .body-bytes) (f .inside) in
     record { bytes = rw (g .bytes) (f .bytes); held = g .within }
+
+-- Whether totals are there is a matter of lengths alone.
+
+abbrev with-sent : ℕ → ℕ → List ℕ → Reading Totals
+with-sent a b rest = read (record { arrived = a; sent = b }) rest
+
+abbrev then-sent : ℕ → List ℕ → Reading Totals
+then-sent a r = read-on (read-number CutShort total-width r) (with-sent a)
+
+pub totals-missing : (s : List ℕ) → length s < 8 → read-totals s ≡ fault CutShort
+unfolding read-totals
+totals-missing s h = ⊎-elim second first (long-or-short total-width s)
+  where
+    first : length s < total-width → read-on (read-number CutShort total-width s) then-sent ≡ fault CutShort
+    first k = ap (λ g. read-on g then-sent) (number-missing CutShort total-width s k)
+
+    second : total-width ≤ length s → read-on (read-number CutShort total-width s) then-sent ≡ fault CutShort
+    second k =
+        let a = number-there CutShort total-width s k in
+        let none = number-missing CutShort total-width (drop total-width s) (simp length-drop (omega arith)) in
+        ap (λ g. read-on g then-sent) (a .1) ∙ ap (λ g. read-on g (with-sent (a .0))) none
+
+pub totals-there : (s : List ℕ) → 8 ≤ length s → (c : Totals) × (read-totals s ≡ read c (drop 8 s))
+unfolding read-totals
+totals-there s h =
+    let a = number-there CutShort total-width s (omega arith) in
+    let b = number-there CutShort total-width (drop total-width s) (simp length-drop (omega arith)) in
+    let c : Totals = record { arrived = a .0; sent = b .0 } in
+    (c, ap (λ g. read-on g then-sent) (a .1) ∙ ap (λ g. read-on g (with-sent (a .0))) (b .1) ∙ ap (λ r. read c r) (drop-drop total-width total-width s))
 
 -- The refusals of the section are 1 and 3.
 pub totals-section-faults : (P : Fault → Type 0) → P CutShort → P LeftOver → (s : List ℕ) → Faults P (totals-section s)

@@ -1,4 +1,4 @@
--- `read_patch_file` meets its contract: where the two sections end says what the first pass comes to (`FirstPass`), and the
+-- `read_patch_file` meets its contract: where the three sections end says what the first pass comes to (`FirstPass`), and the
 -- type's section holds as many bytes as the type has nodes.
 use borrow.Author.Needs.{needs}
 use mathlib.Core.Path.{_≡_, sym, ap, _∙_}
@@ -8,13 +8,15 @@ use native.Mathlib.Omega.{arith}
 use lib.ListN.{length, drop, length-drop}
 use lib.Seq.{take-all}
 use Rattle.reading.specs.declared.sections.TreeEnd.the-variants.{At}
-use Rattle.stream.specs.Reading.{Bytes}
+use Rattle.stream.specs.declared.Fault.the-variants.{LeftOver}
+use Rattle.stream.specs.Reading.{Bytes, whole}
 use Rattle.stream.specs.TypeFiles.{type-section}
 use Rattle.reading.specs.Sections.{end-of}
 use Rattle.reading.specs.TypeReads.Laws.{TypeSectionEnds}
 use Rattle.node.specs.PatchFiles.{node-section}
-use Rattle.patch_reading.specs.PatchReads.{patch-read}
-use Rattle.patch_reading.proofs.FirstPass.{type-failed, type-held, node-failed, sections-fit, left-behind, file-whole}
+use Rattle.node.specs.Totals.{totals-section}
+use Rattle.patch_reading.specs.PatchReads.{whole-end, patch-read}
+use Rattle.patch_reading.proofs.FirstPass.{type-failed, type-held, node-failed, sections-fit, last-failed, file-whole}
 use Rattle.patch_reading.proofs.read_patch_file.Statement.{statement}
 use Rattle.patch_reading.proofs.read_patch_file.Tie as tie
 
@@ -25,8 +27,17 @@ entry-before-type-end c = c .before .before .before .before
 abbrev type-end-of : tie.After-read → tie.After-type-end
 type-end-of c = c .before .before .before .before .before
 
+abbrev read-before-known-told5 : tie.After-known-told5 → tie.After-read
+read-before-known-told5 c = c .before .before .before .before .before .before
+
+abbrev read-before-new : tie.After-new → tie.After-read
+read-before-new c = c .before .before .before .before .before .before
+
+abbrev last-section-end-before-new2 : tie.After-new2 → tie.After-last-section-end
+last-section-end-before-new2 c = c .before .before .before .before
+
 abbrev read-before-new2 : tie.After-new2 → tie.After-read
-read-before-new2 c = c .before .before .before .before
+read-before-new2 c = read-before-new (c .before)
 
 type-section-end-requires : tie.Need-type-section-end-requires
 type-section-end-requires c κs = search needs
@@ -90,14 +101,45 @@ enum-known-fault-2 c = search needs
 enum-known-read : tie.Need-enum-known-read
 enum-known-read c = search needs
 
-add-if1 : tie.Need-add-if1
-add-if1 c = omega (arith, both-fit (c .before))
+-- The bytes behind both.
+abbrev last : tie.After-read → List ℕ
+last c = drop (place (type-end-of c) + node-place c) (file (type-end-of c))
+
+last-told : (c : tie.After-last-section-end)
+    → (let r = c .before .before .before in whole-end (length (last r)) (whole LeftOver (totals-section (last r))) ≡ c .last-section-end .result)
+last-told c =
+    let r = c .before .before .before in
+    let a = type-end-of r in
+    let start = place a + node-place r in
+    let h : length (last r) ≤ length (file a) - start = simp length-drop (omega arith) in
+    sym (rw (take-all (length (file a) - start) (last r) h) at (c .last-section-end .ensures))
+
+add-last-section-end : tie.Need-add-last-section-end
+add-last-section-end c = omega (arith, both-fit (c .before))
+
+sub-last-section-end : tie.Need-sub-last-section-end
+sub-last-section-end c = omega (arith, both-fit (c .before))
+
+part-last-section-end-start : tie.Need-part-last-section-end-start
+part-last-section-end-start c = omega (arith, both-fit (c .before))
+
+part-last-section-end-end : tie.Need-part-last-section-end-end
+part-last-section-end-end c = search needs
+
+last-section-end-requires : tie.Need-last-section-end-requires
+last-section-end-requires c κs = search needs
+
+enum-known-fault-3 : tie.Need-enum-known-fault-3
+enum-known-fault-3 c = search needs
+
+enum-told : tie.Need-enum-told
+enum-told c = search needs
 
 new-requires : tie.Need-new-requires
 new-requires c κs = search needs
 
 add-new : tie.Need-add-new
-add-new c = omega (arith, both-fit (c .before .before .before))
+add-new c = omega (arith, both-fit (read-before-new c))
 
 new-requires-2 : tie.Need-new-requires-2
 new-requires-2 c κs = search needs
@@ -118,17 +160,19 @@ returns-2 c =
 returns-3 : tie.Need-returns-3
 unfolding patch-read
 returns-3 c =
-    let r = c .before .before in
+    let r = read-before-known-told5 c in
     let a = type-end-of r in
-    sym (ap patch-read (left-behind (file a) (bytes a) (place a) (type-ends a) (node-place r) (node-ends r) (c .if1 .taken)))
+    sym (ap patch-read (last-failed (file a) (bytes a) (place a) (type-ends a) (node-place r) (node-ends r) _ _
+    (last-told (c .before .before .before) ∙ c .before .fault3 .given .1)))
 
 returns-4 : tie.Need-returns-4
 unfolding patch-read
 returns-4 c =
     let r = read-before-new2 c in
     let a = type-end-of r in
-    rw (c .new2 .ensures, c .before .new .ensures, held a .place)
-    (sym (ap patch-read (file-whole (file a) (bytes a) (place a) (type-ends a) (node-place r) (node-ends r) (omega arith))))
+    let whole = file-whole (file a) (bytes a) (place a) (type-ends a) (node-place r) (node-ends r) _ _
+    (last-told (last-section-end-before-new2 c) ∙ c .before .before .enum-told .given .1) in
+    rw (c .new2 .ensures, c .before .new .ensures, held a .place) (sym (ap patch-read (whole .1)))
 
 pub read-patch-file-spec : {M : Type 1} → statement M
 read-patch-file-spec =
@@ -143,7 +187,13 @@ read-patch-file-spec =
     node-section-end-requires
     enum-known-fault-2
     enum-known-read
-    add-if1
+    add-last-section-end
+    sub-last-section-end
+    part-last-section-end-start
+    part-last-section-end-end
+    last-section-end-requires
+    enum-known-fault-3
+    enum-told
     new-requires
     add-new
     new-requires-2
