@@ -3,11 +3,13 @@
 #include <string.h>
 #include <wosthile.h>
 
-static const uint8_t show[] = {0, 5, 3, 1, 4, 1, 2};                       /* a comet's cue, then Saturn's and a lamp */
-static const uint8_t start[] = {0, 5, 3, 1, 4, 1, 2, 0, 5, 9, 0, 4, 6, 5}; /* on that show: pass, then swap the sides */
-static const uint8_t comet[] = {0, 2, 5, 2};                               /* the comet has come */
-static const uint8_t saturn[] = {0, 5, 6, 0, 7, 2, 3};                     /* crossed; Saturn has come, no lamp yet */
-static const uint8_t lamp[] = {0, 5, 7, 0, 4, 1, 44};                      /* the lamp is at 300 */
+static const uint8_t show[] = {0, 5, 3, 1, 4, 1, 2};   /* a comet's cue, then Saturn's and a lamp */
+static const uint8_t comet[] = {0, 2, 5, 2};           /* the comet has come */
+static const uint8_t saturn[] = {0, 5, 6, 0, 7, 2, 3}; /* crossed; Saturn has come, no lamp yet */
+static const uint8_t lamp[] = {0, 5, 7, 0, 4, 1, 44};  /* the lamp is at 300 */
+
+/* The patch: on that show pass, then swap the sides; behind it the totals, both 0, as it was never fed. */
+static const uint8_t start[] = {0, 5, 3, 1, 4, 1, 2, 0, 5, 9, 0, 4, 6, 5, 0, 8, 0, 0, 0, 0, 0, 0, 0, 0};
 
 static uint8_t output[WOSTHILE_SLICE_FILE_MAX], buffers[2][WOSTHILE_PATCH_FILE_MAX];
 
@@ -25,6 +27,13 @@ static void print_fed(const char *what, wosthile_fed fed)
 {
     print_file(what, output, fed.output);
     printf("  arrived %u, sent %u\n", fed.arrived, fed.sent);
+}
+
+/* How many cues and levels came and were sent in all feeds that led to a patch: its totals. */
+static void print_totals(const uint8_t *patch, size_t length)
+{
+    wosthile_totals totals = wosthile_totals_of(patch, length);
+    printf("  in all arrived %u, sent %u\n", totals.arrived, totals.sent);
 }
 
 struct frame {
@@ -61,6 +70,7 @@ static void feed_in_turn(void)
         length = fed.patch;
     }
     print_file("the patch left", patch, length);
+    print_totals(patch, length);
 }
 
 int main(void)
@@ -77,6 +87,7 @@ int main(void)
     wosthile_fed fed =
         wosthile_feed(start, sizeof start, both, joined.written, output, sizeof output, buffers[0], sizeof buffers[0]);
     print_fed("fed as one", fed);
+    print_totals(buffers[0], fed.patch);
 
     wosthile_written rest = wosthile_left(show, sizeof show, both, joined.written, type, sizeof type);
     wosthile_admitted seen = wosthile_admit(type, rest.written, lamp, sizeof lamp);

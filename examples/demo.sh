@@ -14,7 +14,7 @@ title "Explained: the patch of $name as a person reads it, the first and the las
 target/explain "$show" >"target/$name.explained"
 head -n 16 "target/$name.explained"
 echo "  .. ($(wc -l <"target/$name.explained") lines in target/$name.explained)"
-tail -n 7 "target/$name.explained"
+tail -n 8 "target/$name.explained"
 
 title "A refusal: a slice of a cue and a level side by side that says that a cue comes where the level is due."
 target/explain --slice '0 3 4 1 2' '0 3 7 2 2' && exit 1
@@ -26,6 +26,15 @@ target/frame_loop "$show" --seed "$seed"
 title "Rehearsed: the recording is cut anew a thousand times. Every joined output and last patch is compared, and how much
    arrived and was sent in all."
 target/rehearsal "$show" 1000 "$seed"
+
+half=$(($(sed -n 's/^Patch: .*; slices behind it: //p' "target/$name.explained") / 2))
+title "Moved to the spare box: $name is stopped behind slice $half, its patch file is carried to another process, and the show
+   goes on there. The totals go on; what both boxes have sent, joined, is what one box sends:"
+target/spare_box "$show" --until "$half" "target/$name.carried" "target/$name.first"
+echo
+target/spare_box "$show" --from "$half" "target/$name.carried" "target/$name.second" "target/$name.last"
+echo
+target/spare_box "$show" --compare "target/$name.first" "target/$name.second" "target/$name.last"
 
 title "Drawn: the show as it was recorded and as seed $seed cuts it, and its patch."
 examples/draw.sh "target/$name.svg" target/timeline "$show" 0 "$seed"

@@ -1,6 +1,4 @@
 /* Draws a patch as a picture: lanes come in from the left, run through the nodes, and are sent on at the right. */
-#include "faults.h"
-#include "given_bytes.h"
 #include "opening.h"
 #include "parts.h"
 #include "patch_tree.h"
@@ -14,7 +12,7 @@ static const char help[] =
     "\n"
     "Draws the patch of a show file, or a patch, as an SVG picture on standard output. PATCH is a file, or its bytes "
     "in\n"
-    "decimal as one word: diagram --patch \"0 1 1 0 1 0\".\n"
+    "decimal as one word: diagram --patch \"0 1 1 0 1 0 0 8 0 0 0 0 0 0 0 0\".\n"
     "\n"
     "A node is a box; one with two parts is a frame around them, and a chain is a row. Every cue and level of the "
     "input\n"
@@ -651,36 +649,6 @@ static void draw(const struct diagram *diagram, const char *path, const struct c
     draw_legend(diagram, 74);
     draw_page(diagram, in, out, header + body / 2);
     svg_end();
-}
-
-/* Does a file that is refused as a patch begin as a show does, with a patch behind its length? */
-static bool begins_as_show(struct file file)
-{
-    struct file patch = section_of(file);
-    struct type output;
-    return wosthile_check(patch.bytes, patch.length, output.bytes, sizeof output.bytes).number == WOSTHILE_ACCEPTED;
-}
-
-/* Opens a patch that is in no show, from its file or its bytes. */
-static enum status open_patch(const char *word, struct opened_show *opened)
-{
-    static struct given_bytes bytes;
-    given_bytes_read(word, &bytes);
-    struct file patch = given_file(&bytes);
-    uint32_t number = patch_start(&opened->patch, patch, &opened->output_type);
-    if (number != WOSTHILE_ACCEPTED) {
-        char place[MESSAGE_BYTES];
-        patch_fault_text(place, sizeof place, patch, NULL, NULL);
-        tell("%s: the patch is refused with %u: %s\n    %s%s", word, number, wosthile_sentence(number), place,
-             begins_as_show(patch) ? "\n    The file is a show and no patch; without --patch its patch is drawn." : "");
-        return STATUS_REFUSED;
-    }
-    if (!lanes_start(&opened->in, patch_input_type(&opened->patch)) ||
-        !lanes_start(&opened->out, type_file(&opened->output_type))) {
-        stop("%s: a type of the patch cannot be read", word);
-    }
-    lane_names_by_number(&opened->names);
-    return STATUS_DONE;
 }
 
 static void draw_opened(const struct opened_show *opened, const char *path)

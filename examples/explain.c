@@ -5,6 +5,7 @@
 #include "given_bytes.h"
 #include "listing.h"
 #include "opening.h"
+#include "totals.h"
 
 #include <stdio.h>
 #include <stdlib.h>
@@ -17,18 +18,21 @@ static const char help[] =
     "one word: explain --slice \"0 3 3 1 2\" \"0 2 5 2\".\n"
     "\n"
     "  SHOW      a show file: its patch; then frame by frame what comes and what is sent for it, with how many cues\n"
-    "            and levels these are; how it ends, and how many cues and levels arrived and were sent in all. Lanes\n"
-    "            have the names in X.lanes beside X.show. With --all also every slice byte by byte.\n"
-    "  --patch   a patch: the type of its input, its nodes with the types that each takes and gives, its output type,\n"
-    "            and for its input and its output the longest slice and the most cues and levels. Of a cue or level\n"
-    "            node it says what it waits for, or that it sends at its first feed\n"
+    "            and levels these are; how it ends, how many cues and levels arrived and were sent in it, and the\n"
+    "            totals of its last patch. Lanes have the names in X.lanes beside X.show. With --all also every slice\n"
+    "            byte by byte.\n"
+    "  --patch   a patch: the type of its input, its nodes with the types that each takes and gives, its totals, its\n"
+    "            output type, and for its input and its output the longest slice and the most cues and levels. Of a\n"
+    "            cue or level node it says what it waits for, or that it sends at its first feed\n"
     "  --type    a type, the most cues and levels of it, and its longest slice byte by byte\n"
     "  --slice   a slice of a type, how many cues and levels come in it, whether it is complete, and what it leaves\n"
     "            of the type\n"
     "\n"
     "Cues and levels are counted by the library, in every slice that comes and every slice that is sent; crossings\n"
     "and choices are not counted. The most cues and levels of a type are those that a stream of it can have from its\n"
-    "first slice to its last: of two parts of which one is chosen, those of the part that has more.\n"
+    "first slice to its last: of two parts of which one is chosen, those of the part that has more. The totals of a\n"
+    "patch are what arrived and was sent in all feeds that led to it, those in another box too. A patch of before\n"
+    "release 1.5.0 has none and is refused; the program add_totals adds them.\n"
     "\n"
     "The longest slice of a type is for whoever sizes the packets of a link: it is told in bytes of a slice file, and\n"
     "no slice of a stream of that type, be it the first or a later one, makes a longer file.\n"
@@ -122,7 +126,19 @@ static enum status explain_slice(struct file type, struct file slice)
     return STATUS_REFUSED;
 }
 
-/* Lists the two sections of a patch as far as they are there. */
+/* Lists the totals of a patch, with both on one line if they are whole. */
+static void explain_totals_section(const struct listed *listed, size_t section, bool whole)
+{
+    if (whole) {
+        struct counts totals = totals_of(listed->file);
+        counts_print("Totals: ", &totals, " in all\n");
+    } else {
+        printf("Totals\n");
+    }
+    list_totals(listed, section, totals_front(listed->file));
+}
+
+/* Lists the three sections of a patch as far as they are there. */
 static void list_patch(const struct listed *listed, const struct patch_tree *tree, struct fault fault)
 {
     struct file patch = listed->file;
@@ -130,11 +146,17 @@ static void list_patch(const struct listed *listed, const struct patch_tree *tre
     if (patch.length < 2) {
         return;
     }
-    bool type_is_whole = fault.number == WOSTHILE_ACCEPTED || fault.section > 0;
-    explain_type_section(listed, "Input type", type_front(patch), type_is_whole);
-    if (type_is_whole && patch.length >= nodes + 2) {
-        printf("Nodes\n");
-        list_nodes(listed, tree, nodes, nodes_front(patch));
+    bool is_read = fault.number == WOSTHILE_ACCEPTED || fault.at == AT_NODE;
+    enum section first_wrong = is_read ? SECTIONS : fault.section;
+    explain_type_section(listed, "Input type", type_front(patch), first_wrong > FIRST_SECTION);
+    if (first_wrong == FIRST_SECTION || patch.length < nodes + 2) {
+        return;
+    }
+    printf("Nodes\n");
+    list_nodes(listed, tree, nodes, nodes_front(patch));
+    size_t totals = nodes + 2 + section_of((struct file){patch.bytes + nodes, patch.length - nodes}).length;
+    if (first_wrong > NODES_SECTION && patch.length >= totals + 2) {
+        explain_totals_section(listed, totals, is_read);
     }
 }
 
@@ -202,7 +224,11 @@ static void explain_refused(struct playing *playing, size_t index, uint32_t numb
 {
     struct file slice = playing->show->slices[index];
     char what[MESSAGE_BYTES], place[MESSAGE_BYTES];
-    slice_fault_text(place, sizeof place, &playing->in, slice, &playing->names->in, playing->show);
+    if (number == WOSTHILE_FAULT_TOTAL_TOO_LARGE) {
+        totals_fault_text(place, sizeof place, patch_file(&playing->patch), slice);
+    } else {
+        slice_fault_text(place, sizeof place, &playing->in, slice, &playing->names->in, playing->show);
+    }
     snprintf(what, sizeof what, "frame %zu: the slice is", index + 1);
     print_refusal(what, number, place);
     playing->refused++;
@@ -250,6 +276,7 @@ static enum status explain_end(const struct playing *playing)
            plural(show->count, "slice", "slices"), playing->bringing, plural(playing->bringing, "brings", "bring"),
            empty, plural(empty, "brings", "bring"), playing->refused, plural(playing->refused, "is", "are"));
     counts_print("Cues and levels: ", &playing->counts, ".\n");
+    totals_print(patch_file(&playing->patch));
     lanes_print_owed(&playing->in, &playing->names->in);
     if (playing->refused > 1) {
         printf("%s\n", first_refusal_first);

@@ -8,6 +8,7 @@
 #include "deliveries.h"
 #include "faults.h"
 #include "opening.h"
+#include "totals.h"
 
 #include <errno.h>
 #include <pthread.h>
@@ -24,7 +25,8 @@ static const char help[] =
     "\n"
     "Behind every second it tells how many cues and levels arrived in it, in how many slices, and how many were sent.\n"
     "A second in which nothing arrived is told too, and one in which no slice was fed: so it is seen whether the\n"
-    "stream is alive. At the end it tells how many arrived and were sent in all. Crossings and choices do not count.\n"
+    "stream is alive. At the end it tells how many arrived and were sent, and how many in all, by the totals of the\n"
+    "patch: these go on from those that it has at the start. Crossings and choices do not count.\n"
     "\n"
     "  --seed N               slices are late as the number N says, 0 to 18446744073709551615; with 0, and without\n"
     "                         this word, none is late\n"
@@ -277,14 +279,25 @@ struct tally {
     struct second second; /* the one that runs */
 };
 
+/* Tells that a feed is refused; if it is for the totals, with what they are and would be. */
+static void tell_refused_feed(const struct opened_show *opened, size_t frame, const struct joined *taken,
+                              uint32_t number)
+{
+    char totals[MESSAGE_BYTES] = "";
+    if (number == WOSTHILE_FAULT_TOTAL_TOO_LARGE) {
+        totals_fault_text(totals, sizeof totals, patch_file(&opened->patch), joined_file(taken));
+    }
+    tell("frame %zu: the feed is refused with %u, and the patch stays: %s%s%s", frame, number,
+         wosthile_sentence(number), totals[0] == '\0' ? "" : "\n    ", totals);
+}
+
 /* Feeds what was taken in a frame. A refused feed is as if the slice had not come: the patch stays. */
 static void feed_frame(struct opened_show *opened, size_t frame, const struct joined *taken, struct tally *tally)
 {
     uint8_t output[WOSTHILE_SLICE_FILE_MAX];
     wosthile_fed fed = patch_feed(&opened->patch, joined_file(taken), output);
     if (fed.number != WOSTHILE_ACCEPTED) {
-        tell("frame %zu: the feed is refused with %u, and the patch stays: %s", frame, fed.number,
-             wosthile_sentence(fed.number));
+        tell_refused_feed(opened, frame, taken, fed.number);
         tally->refused++;
         return;
     }
@@ -330,8 +343,9 @@ static void end_second(struct tally *tally, size_t frames_a_second)
 }
 
 /*
- * The frame loop. Whatever is fed here was admitted on delivery, so no feed is refused; in a loop that does not try its
- * slices before, one can be, and the show goes on.
+ * The frame loop. Whatever is fed here was admitted on delivery, so a feed is refused only if a total of the patch
+ * would be too large, with 31. Such a slice is as one that was lost on its way: the later ones, which take it for come,
+ * are refused too. In a loop that does not try its slices before, any feed can be refused, and the show goes on.
  */
 static struct tally draw_frames(struct player *player)
 {
@@ -371,6 +385,7 @@ static void print_end(const struct opened_show *opened, struct tally tally, size
            plural(tally.frames, "frame", "frames"), slices, plural(slices, "slice", "slices"), tally.feeds,
            plural(tally.feeds, "feed", "feeds"), refused);
     counts_print("Cues and levels: ", &tally.counts, ".\n");
+    totals_print(patch_file(&opened->patch));
     lanes_print_owed(&opened->in, &opened->names.in);
     program_flush();
     if (refused > 1) {

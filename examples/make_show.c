@@ -14,8 +14,9 @@
 #include "program.h"
 #include "score_words.h"
 #include "text.h"
+#include "totals.h"
+#include "writing.h"
 
-#include <errno.h>
 #include <stdio.h>
 #include <stdlib.h>
 #include <string.h>
@@ -359,7 +360,7 @@ static noreturn void refuse_patch(const struct score *score, struct file patch)
     refuse_at(score, line_of_byte(score, fault.byte), why);
 }
 
-/* Puts the patch in force that the type and the nodes are, and records it. */
+/* Puts the patch in force that the type and the nodes are, with totals of zero, and records it. */
 static void record_patch(struct score *score)
 {
     struct memory_file made;
@@ -367,6 +368,7 @@ static void record_patch(struct score *score)
     begin_file(&made);
     write_counted(made.stream, (struct file){score->type.bytes, score->type.length});
     write_counted(made.stream, (struct file){score->nodes.bytes, score->nodes.length});
+    fwrite(totals_of_zero, 1, sizeof totals_of_zero, made.stream);
     struct file patch = end_file(&made);
     if (patch_start(&score->patch, patch, &output) != WOSTHILE_ACCEPTED) {
         refuse_patch(score, patch);
@@ -840,42 +842,12 @@ static char *path_of(const char *score_path, const char *folder, const char *end
     return path;
 }
 
-/* Writes a file; if it cannot be written whole, this is told and no file is left. */
-static bool write_whole(const char *path, struct file file)
+/* Writes one of the two files. */
+static bool write_beside(const char *score_path, const char *folder, const char *ending, struct file file)
 {
-    errno = 0;
-    FILE *stream = fopen(path, "wb");
-    bool written = stream != NULL && fwrite(file.bytes, 1, file.length, stream) == file.length;
-    written = stream != NULL && fclose(stream) == 0 && written;
-    if (!written) {
-        tell("%s cannot be written: %s", path, strerror(errno));
-    }
-    if (!written && stream != NULL) {
-        remove(path);
-    }
-    return written;
-}
-
-/* Gives a new file the name of the old one, whose place it takes. */
-static bool take_place(const char *new_path, const char *path)
-{
-    bool renamed = rename(new_path, path) == 0;
-    if (!renamed) {
-        tell("%s cannot be written: %s", path, strerror(errno));
-        remove(new_path);
-    }
-    return renamed;
-}
-
-/* Writes one of the two files under a name of its own first, so that what was there stays if it cannot be written. */
-static bool write_file(const char *score_path, const char *folder, const char *ending, struct file file)
-{
-    char new_ending[16];
-    snprintf(new_ending, sizeof new_ending, "%s.new", ending);
-    char *path = path_of(score_path, folder, ending), *new_path = path_of(score_path, folder, new_ending);
-    bool written = write_whole(new_path, file) && take_place(new_path, path);
+    char *path = path_of(score_path, folder, ending);
+    bool written = write_file(path, file);
     free(path);
-    free(new_path);
     return written;
 }
 
@@ -903,7 +875,7 @@ int main(int count, char **words)
     read_score(&score);
     struct file show = end_file(&score.show_file), lanes = end_file(&score.lanes_file);
     show.length -= score.cut;
-    bool written = write_file(path, folder, ".show", show) && write_file(path, folder, ".lanes", lanes);
+    bool written = write_beside(path, folder, ".show", show) && write_beside(path, folder, ".lanes", lanes);
     free(score.show_file.bytes);
     free(score.lanes_file.bytes);
     reader_end(&score.reader);

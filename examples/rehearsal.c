@@ -11,6 +11,7 @@
 #include "deliveries.h"
 #include "faults.h"
 #include "opening.h"
+#include "totals.h"
 
 #include <stdio.h>
 #include <stdlib.h>
@@ -25,7 +26,8 @@ static const char help[] =
     "joined and fed as one. All that is sent, joined, and the patch left at the end have to be the same, byte for "
     "byte.\n"
     "So have the numbers of cues and levels that arrived and that were sent, and they have to be what Admit counts in\n"
-    "all slices joined, and in all that is sent.\n"
+    "all slices joined, and in all that is sent. The totals of the last patch, which are among its bytes, have to be\n"
+    "those at the start and these numbers.\n"
     "\n"
     "  CUTS  how many cuts are tried, at least 1; 1000 without this word. The first takes all slices as one\n"
     "  SEED  the number that the other cuts are drawn by, 0 to 18446744073709551615; 1 without this word\n"
@@ -33,8 +35,9 @@ static const char help[] =
     "A slice that is refused as recorded, and a last slice in which the file ends, are told on the error stream and\n"
     "left out of all cuts; the answer ends with how many were refused.\n"
     "\n"
-    "Status: 0 no cut made a difference; 1 one did, or Feed and Admit do not count the same, or the patch is refused;\n"
-    "2 the words or the file cannot be used, nothing could be compared, or the answer cannot be written.\n";
+    "Status: 0 no cut made a difference; 1 one did, or Feed and Admit do not count the same, or the totals do not go\n"
+    "on as Feed counts, or the patch is refused; 2 the words or the file cannot be used, nothing could be compared,\n"
+    "or the answer cannot be written.\n";
 
 /* A patch that is being fed, from its start, all that it has sent so far, and what its feeds have counted. */
 struct run {
@@ -102,18 +105,24 @@ static bool same_state(const struct run *one, const struct run *other)
            same_file(patch_file(&one->patch), patch_file(&other->patch)) && counts_same(&one->counts, &other->counts);
 }
 
-/* Tells that a recorded slice is left out, and why. */
-static void tell_refusal(const struct opened_show *opened, size_t index, struct refusal refusal)
+/* Tells that a recorded slice is left out by the patch in force, and why. */
+static void tell_refusal(const struct opened_show *opened, const struct patch *patch, size_t index,
+                         struct refusal refusal)
 {
     const char *sentence = wosthile_sentence(refusal.number);
-    if (refusal.call != JOINING_SLICES) {
-        tell("recorded slice %zu is left out: %s is refused with %u: %s", index + 1, call_names[refusal.call],
-             refusal.number, sentence);
+    char place[MESSAGE_BYTES] = "";
+    if (refusal.call == JOINING_SLICES) {
+        slice_fault_text(place, sizeof place, &opened->in, opened->show.slices[index], &opened->names.in,
+                         &opened->show);
+        tell("recorded slice %zu is refused with %u, and left out: %s\n    %s", index + 1, refusal.number, sentence,
+             place);
         return;
     }
-    char place[MESSAGE_BYTES];
-    slice_fault_text(place, sizeof place, &opened->in, opened->show.slices[index], &opened->names.in, &opened->show);
-    tell("recorded slice %zu is refused with %u, and left out: %s\n    %s", index + 1, refusal.number, sentence, place);
+    if (refusal.number == WOSTHILE_FAULT_TOTAL_TOO_LARGE) {
+        totals_fault_text(place, sizeof place, patch_file(patch), opened->show.slices[index]);
+    }
+    tell("recorded slice %zu is left out: %s is refused with %u: %s%s%s", index + 1, call_names[refusal.call],
+         refusal.number, sentence, place[0] == '\0' ? "" : "\n    ", place);
 }
 
 /* Feeds the show as recorded, and its input's lanes follow. A refused slice is told and left out of all cuts. */
@@ -128,7 +137,7 @@ static struct slices feed_as_recorded(struct run *run, struct opened_show *opene
             lanes_follow(&opened->in, show->slices[index], &events);
             accepted.list[accepted.count++] = show->slices[index];
         } else {
-            tell_refusal(opened, index, refusal);
+            tell_refusal(opened, &run->patch, index, refusal);
             accepted.left_out++;
         }
     }
@@ -164,6 +173,21 @@ static bool counts_hold(const struct run *start, const struct run *recorded, con
     printf("Feed and Admit do not count the same.\n");
     counts_print("  cues and levels by Feed, slice by slice: ", &recorded->counts, "\n");
     counts_print("  cues and levels by Admit, in all slices joined: ", &joined, "\n");
+    return false;
+}
+
+/* The totals go on from those at the start: by what the feeds have counted, and by nothing else. */
+static bool totals_hold(const struct run *start, const struct run *recorded)
+{
+    struct counts due = totals_of(patch_file(&start->patch)), last = totals_of(patch_file(&recorded->patch));
+    due.arrived += recorded->counts.arrived;
+    due.sent += recorded->counts.sent;
+    if (counts_same(&due, &last)) {
+        return true;
+    }
+    printf("The totals do not go on as Feed counts.\n");
+    counts_print("  totals at the start and what Feed counts: ", &due, "\n");
+    counts_print("  totals of the last patch: ", &last, "\n");
     return false;
 }
 
@@ -381,6 +405,7 @@ static void report_same(const struct run *recorded, const struct slices *slices,
            cuts, plural(cuts, "cut", "cuts"), slices->count, plural(slices->count, "slice", "slices"), tally.feeds,
            plural(tally.feeds, "feed", "feeds"), tally.largest, seconds);
     counts_print("Cues and levels, in every cut: ", &recorded->counts, ".\n");
+    totals_print(patch_file(&recorded->patch));
 }
 
 /* Compares cuts with the recording and reports. */
@@ -398,10 +423,10 @@ static enum status compare(const struct run *start, const struct run *recorded, 
     } else {
         report_same(recorded, slices, cuts, tally, seconds_now() - began);
     }
-    bool hold = counts_hold(start, recorded, slices);
+    bool counts = counts_hold(start, recorded, slices), totals = totals_hold(start, recorded);
     print_left_out(slices);
     free(cut.joins);
-    return same < cuts || !hold ? STATUS_REFUSED : STATUS_DONE;
+    return same < cuts || !counts || !totals ? STATUS_REFUSED : STATUS_DONE;
 }
 
 static enum status rehearse(struct opened_show *opened, size_t cuts, uint64_t seed)

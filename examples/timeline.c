@@ -18,8 +18,8 @@ static const char help[] =
     "choice shows what was chosen.\n"
     "\n"
     "Above the lanes a row counts the cues and levels that arrive in each frame, and another those that are sent: a\n"
-    "bar with its number. Beside the row is how many there are in all; with --frames, how many of these are drawn. A\n"
-    "pointer on a bar shows its frame; in a long show a bar has several frames.\n"
+    "bar with its number. Beside the row is how many there are in the show; with --frames, how many of these are\n"
+    "drawn. A pointer on a bar shows its frame; in a long show a bar has several frames.\n"
     "\n"
     "Exit status: 0 drawn, even if slices are refused; 1 the patch is refused; 2 words or files that cannot be used.\n";
 

@@ -5,7 +5,9 @@ use comparison::formats::kinds::node_kind::{
     BOTH, CHAIN, CHOOSE, FIRST, FRONT, LEFT, MARK_FIRST, PASS, RIGHT, SECOND, SILENT, SPREAD,
 };
 use comparison::formats::kinds::type_kind::{BESIDE, CUE, EITHER, EMPTY, LEVEL};
+use comparison::formats::totals::totals_section;
 use comparison::Operation;
+use second_interpreter::Totals;
 
 use crate::nodes::{
     chains, choose_of_marks, choosing, cue_then_lanes, lanes, largest, marking, nodes_of, seeking,
@@ -170,7 +172,8 @@ pub fn refused() -> Vec<Row> {
 fn long_files() -> Vec<(&'static str, Vec<u8>)> {
     let tree = section(&lanes(LARGEST, CUE));
     let nodes = section(&nodes_of(Shape::DeepRight, CHAIN, &silent_largest()));
-    let both = |tree: &[u8], nodes: &[u8]| [tree, nodes].concat();
+    let totals = totals_section(Totals::default());
+    let both = |tree: &[u8], nodes: &[u8]| [tree, nodes, &totals].concat();
     let too_many = tree_of(Shape::DeepRight, 65, CHAIN, &|_| silent_largest());
     vec![
         (

@@ -1,6 +1,7 @@
 #include "fault_places.h"
 
 #include "program.h"
+#include "totals.h"
 
 #include <stdlib.h>
 #include <string.h>
@@ -8,7 +9,8 @@
 /* A section of a file, about which the library is asked with other counts and other bytes in a copy of the file. */
 struct reading {
     uint8_t *copy;
-    size_t length;    /* of the file; the copy has room for a byte more */
+    size_t length; /* of the file; the copy has room for a byte more, and for totals */
+    enum section section;
     size_t begins;    /* where the section's count is */
     struct file type; /* that a slice is read against; of no length for other files */
     uint32_t (*ask)(const struct reading *reading, size_t length);
@@ -50,13 +52,33 @@ static uint32_t ask_patch(const struct reading *reading, size_t length)
     return number == WOSTHILE_FAULT_NO_ROOM ? WOSTHILE_ACCEPTED : number;
 }
 
+/* The front of the copy as a type and nodes, with totals of zero behind them; what is there is put back. */
+static uint32_t ask_nodes(const struct reading *reading, size_t length)
+{
+    uint8_t there[WOSTHILE_TOTALS_SECTION], *behind = reading->copy + length;
+    memcpy(there, behind, sizeof there);
+    memcpy(behind, totals_of_zero, sizeof there);
+    uint32_t number = ask_patch(reading, length + sizeof there);
+    memcpy(behind, there, sizeof there);
+    return number;
+}
+
 static struct reading begin_reading(struct file file, uint32_t (*ask)(const struct reading *, size_t))
 {
-    struct reading reading = {memory(file.length + 1, 1), file.length, 0, {NULL, 0}, ask};
+    uint8_t *copy = memory(file.length + 1 + WOSTHILE_TOTALS_SECTION, 1);
     if (file.length > 0) {
-        memcpy(reading.copy, file.bytes, file.length);
+        memcpy(copy, file.bytes, file.length);
     }
-    return reading;
+    return (struct reading){.copy = copy, .length = file.length, .section = FIRST_SECTION, .ask = ask};
+}
+
+/* A patch is asked about by its sections: a section that is tried is the last one, or has good totals behind it. */
+static void begin_section(struct reading *reading, enum section section, size_t begins)
+{
+    static uint32_t (*const asks[SECTIONS])(const struct reading *, size_t) = {ask_type, ask_nodes, ask_patch};
+    reading->section = section;
+    reading->begins = begins;
+    reading->ask = asks[section];
 }
 
 /* The number of the file cut behind so many bytes of the section, the count written anew. */
@@ -79,7 +101,7 @@ static size_t shortest_cut(const struct reading *reading, uint32_t number, size_
 /* Where the number comes from, if it comes from this section; AT_BEHIND with the section's end if it does not. */
 static struct fault fault_in_section(const struct reading *reading, uint32_t number)
 {
-    struct fault fault = {number, AT_CUT_COUNT, reading->length, reading->begins};
+    struct fault fault = {number, AT_CUT_COUNT, reading->length, reading->begins, reading->section};
     if (reading->length - reading->begins < 2) {
         return fault;
     }
@@ -124,18 +146,26 @@ static struct reading begin_slice(struct file type, struct file slice)
 
 struct fault slice_fault(struct file type, struct file slice) { return fault_in_file(begin_slice(type, slice)); }
 
-/* The fault is in the type's section, or else in that of the nodes. */
+/* The fault is in the type's section, or else in that of the nodes, or else in that of the totals or behind it. */
 static struct fault fault_while_reading(struct file patch, uint32_t number)
 {
     struct reading reading = begin_reading(patch, ask_type);
     struct fault fault = fault_in_section(&reading, number);
-    if (fault.at == AT_BEHIND) {
-        reading.begins = fault.byte;
-        reading.ask = ask_patch;
+    for (unsigned section = NODES_SECTION; fault.at == AT_BEHIND && section < SECTIONS; section++) {
+        begin_section(&reading, section, fault.byte);
         fault = fault_in_section(&reading, number);
     }
     free(reading.copy);
     return fault;
+}
+
+/* Where the sections of a patch begin that has them. */
+static size_t nodes_begin(struct file patch) { return 2 + section_of(patch).length; }
+
+static size_t totals_begin(struct file patch)
+{
+    size_t nodes = nodes_begin(patch);
+    return nodes + 2 + section_of((struct file){patch.bytes + nodes, patch.length - nodes}).length;
 }
 
 struct fault patch_fault(struct file patch, struct patch_tree *tree)
@@ -145,8 +175,8 @@ struct fault patch_fault(struct file patch, struct patch_tree *tree)
         return (struct fault){.number = WOSTHILE_ACCEPTED};
     }
     if (whole) {
-        size_t nodes = 2 + section_of(patch).length;
-        return (struct fault){tree->number, AT_NODE, tree->nodes[tree->refused].byte, nodes};
+        return (struct fault){tree->number, AT_NODE, tree->nodes[tree->refused].byte, nodes_begin(patch),
+                              NODES_SECTION};
     }
     return fault_while_reading(patch, tree->number);
 }
@@ -177,18 +207,24 @@ size_t slice_front(struct file type, struct file slice) { return front_in(begin_
 
 size_t nodes_front(struct file patch)
 {
+    struct reading reading = begin_reading(patch, ask_nodes);
+    begin_section(&reading, NODES_SECTION, nodes_begin(patch));
+    return front_in(reading);
+}
+
+size_t totals_front(struct file patch)
+{
     struct reading reading = begin_reading(patch, ask_patch);
-    reading.begins = 2 + section_of(patch).length;
+    begin_section(&reading, TOTALS_SECTION, totals_begin(patch));
     return front_in(reading);
 }
 
 static struct byte_set due_in(struct reading reading, struct fault fault)
 {
     struct byte_set due;
-    reading.begins = fault.section;
     for (unsigned byte = 0; byte < 256; byte++) {
         reading.copy[fault.byte] = (uint8_t)byte;
-        due.has[byte] = !is_refused_kind(cut_number(&reading, fault.byte + 1 - (fault.section + 2)));
+        due.has[byte] = !is_refused_kind(cut_number(&reading, fault.byte + 1 - (fault.begins + 2)));
     }
     free(reading.copy);
     return due;
@@ -203,5 +239,7 @@ struct byte_set slice_due(struct file type, struct file slice, struct fault faul
 
 struct byte_set patch_due(struct file patch, struct fault fault)
 {
-    return due_in(begin_reading(patch, fault.section == 0 ? ask_type : ask_patch), fault);
+    struct reading reading = begin_reading(patch, ask_type);
+    begin_section(&reading, fault.section, fault.begins);
+    return due_in(reading, fault);
 }

@@ -11,18 +11,22 @@
 enum fault_at {
     AT_CUT_COUNT,   /* the end of the file, where a count of two bytes is due */
     AT_LARGE_COUNT, /* a count that promises more bytes than follow it */
-    AT_SECTION_END, /* the end of a section whose tree needs another byte */
+    AT_SECTION_END, /* the end of a section whose tree, or whose totals, need another byte */
     AT_BYTE,        /* the last byte of the shortest cut of its section that gives the number */
     AT_BEHIND,      /* the end of the last section, which bytes follow */
     AT_NODE         /* a node that was read whole and is refused for its types */
 };
+
+/* The sections of a patch; a type and a slice have the first alone. */
+enum section { FIRST_SECTION, NODES_SECTION, TOTALS_SECTION, SECTIONS };
 
 /* The byte is counted from 0 at the front of the file, so a file's first count is at 0 and 1. */
 struct fault {
     uint32_t number; /* 0 if the file is accepted; then the rest says nothing */
     enum fault_at at;
     size_t byte;
-    size_t section; /* the byte at which the section of the fault begins with its count */
+    size_t begins; /* the byte at which the section of the fault begins with its count */
+    enum section section;
 };
 
 /* What the library says of a type file: 0, or its number. */
@@ -47,8 +51,9 @@ struct fault patch_fault(struct file patch, struct patch_tree *tree);
 size_t type_front(struct file type);
 size_t slice_front(struct file type, struct file slice);
 
-/* Of the nodes of a patch whose type is accepted. */
+/* Of the nodes of a patch whose type is accepted, and of the totals of one whose nodes are whole. */
 size_t nodes_front(struct file patch);
+size_t totals_front(struct file patch);
 
 /* Bytes, by value. */
 struct byte_set {

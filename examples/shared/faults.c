@@ -1,5 +1,7 @@
 #include "faults.h"
 
+#include "totals.h"
+
 #include <stdio.h>
 #include <string.h>
 
@@ -165,8 +167,8 @@ static void add_length(struct text *text, struct within within)
 static bool add_count_fault(struct text *text, struct fault fault, struct within within, struct file rest)
 {
     if (fault.at == AT_CUT_COUNT) {
-        text_add(text, ": the %s ends %s", within.what,
-                 rest.length == 0 ? "where a section is due" : "inside a count of two bytes");
+        const char *due = fault.section == TOTALS_SECTION ? "where its totals are due" : "where a section is due";
+        text_add(text, ": the %s ends %s", within.what, rest.length == 0 ? due : "inside a count of two bytes");
     } else if (fault.at == AT_LARGE_COUNT) {
         size_t count = count_of(rest), follow = rest.length - 2;
         text_add(text, ": the count promises %zu %s, and %zu %s", count, plural(count, "byte", "bytes"), follow,
@@ -182,21 +184,37 @@ static bool add_count_fault(struct text *text, struct fault fault, struct within
     return true;
 }
 
-/* Adds what the fault is where its number and its place say all: counts, and bytes behind a whole tree. */
+/* Adds how many bytes of its section are behind a whole tree, or behind the totals. */
+static void add_left_over(struct text *text, struct fault fault, struct file rest)
+{
+    size_t follow = fault.begins + 2 + section_of(rest).length - fault.byte;
+    if (fault.section == TOTALS_SECTION) {
+        text_add(text, ": the totals are whole, and %zu %s them", follow,
+                 plural(follow, "byte of their section follows", "bytes of their section follow"));
+    } else {
+        text_add(text, ": the tree is whole, and %zu %s it", follow,
+                 plural(follow, "byte of its section follows", "bytes of its section follow"));
+    }
+}
+
+/* Adds what the fault is where its number and its place say all: counts, totals, and bytes behind a whole tree. */
 static bool add_plain_fault(struct text *text, struct fault fault, struct within within)
 {
     struct file file = within.file;
-    struct file rest = {file.bytes + fault.section, file.length - fault.section};
+    struct file rest = {file.bytes + fault.begins, file.length - fault.begins};
     if (add_count_fault(text, fault, within, rest)) {
         return true;
     }
-    if (fault.number != WOSTHILE_FAULT_LEFT_OVER && fault.number != WOSTHILE_FAULT_SLICE_LEFT_OVER) {
-        return false;
+    if (fault.number == WOSTHILE_FAULT_LEFT_OVER || fault.number == WOSTHILE_FAULT_SLICE_LEFT_OVER) {
+        add_left_over(text, fault, rest);
+        return true;
     }
-    size_t follow = fault.section + 2 + section_of(rest).length - fault.byte;
-    text_add(text, ": the tree is whole, and %zu %s it", follow,
-             plural(follow, "byte of its section follows", "bytes of its section follow"));
-    return true;
+    if (fault.section == TOTALS_SECTION) {
+        text_add(text, ": the section ends, and has %zu of the %d bytes of the totals", section_of(rest).length,
+                 WOSTHILE_TOTALS_SECTION - 2);
+        return true;
+    }
+    return false;
 }
 
 /* Is a node of the starting type still in the type in force? */
@@ -296,7 +314,7 @@ static void add_lane_before(struct text *text, struct file section, size_t place
 /* Adds what is wrong at a byte of a type or of nodes: it is no kind, or it is missing, or makes a tree too large. */
 static void add_tree_byte(struct text *text, struct file file, struct fault fault, const struct byte_set *due)
 {
-    const char *tree = fault.section == 0 ? "type" : "tree of nodes";
+    const char *tree = fault.section == FIRST_SECTION ? "type" : "tree of nodes";
     if (fault.number == WOSTHILE_FAULT_TYPE_TOO_LARGE) {
         text_add(text, ": the type has %d nodes up to here and needs another", WOSTHILE_TYPE_NODES_MAX);
     } else if (fault.number == WOSTHILE_FAULT_TOO_MANY_NODES) {
@@ -316,7 +334,7 @@ static void add_reading_fault(struct text *text, struct within within, struct fa
 {
     struct file file = within.file;
     add_place(text, fault.byte, within);
-    if (fault.section == 0 && (fault.at == AT_BYTE || fault.at == AT_SECTION_END)) {
+    if (fault.section == FIRST_SECTION && (fault.at == AT_BYTE || fault.at == AT_SECTION_END)) {
         add_lane_before(text, section_of(file), fault.byte - 2, names);
     }
     if (!add_plain_fault(text, fault, within)) {
@@ -435,4 +453,29 @@ void patch_fault_text(char *to, size_t room, struct file patch, const struct sid
         due = patch_due(patch, fault);
     }
     add_reading_fault(&text, within, fault, &due, names);
+    if (lacks_totals_alone(patch)) {
+        text_add(&text,
+                 "\n    Nothing else is wrong: it is a patch of before release 1.5.0. The program add_totals gives "
+                 "it totals of zero.");
+    }
+}
+
+/* What a slice brings and what is sent for it, as the library counts it where no total can be too large. */
+static wosthile_fed feed_without_totals(struct file patch, struct file slice)
+{
+    uint8_t start[WOSTHILE_PATCH_FILE_MAX], output[WOSTHILE_SLICE_FILE_MAX], left[WOSTHILE_PATCH_FILE_MAX];
+    memcpy(start, patch.bytes, patch.length);
+    memcpy(start + patch.length - sizeof totals_of_zero, totals_of_zero, sizeof totals_of_zero);
+    return wosthile_feed(start, patch.length, slice.bytes, slice.length, output, sizeof output, left, sizeof left);
+}
+
+void totals_fault_text(char *to, size_t room, struct file patch, struct file slice)
+{
+    struct text text = text_begin(to, room);
+    struct counts totals = totals_of(patch);
+    wosthile_fed fed = feed_without_totals(patch, slice);
+    text_add(&text,
+             "the patch has counted %zu arrived and %zu sent in all; with this slice %u more would arrive and %u more "
+             "be sent",
+             totals.arrived, totals.sent, fed.arrived, fed.sent);
 }

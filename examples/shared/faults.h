@@ -25,9 +25,18 @@ void type_fault_text(char *to, size_t room, struct file type);
 void slice_fault_text(char *to, size_t room, const struct lanes *in_force, struct file slice,
                       const struct side_names *names, const struct show *show);
 
-/* Of a patch file; the names are those of the input's lanes. */
+/*
+ * Of a patch file; the names are those of the input's lanes. If nothing is wrong but that its totals are missing, a
+ * second line says so, and which program adds them.
+ */
 void patch_fault_text(char *to, size_t room, struct file patch, const struct side_names *names,
                       const struct show *show);
+
+/*
+ * Of a slice that the patch in force refuses with WOSTHILE_FAULT_TOTAL_TOO_LARGE. Nothing is wrong with its bytes, so
+ * the text has no place: it says what the totals are, and what the slice would add to them.
+ */
+void totals_fault_text(char *to, size_t room, struct file patch, struct file slice);
 
 /* What to say behind several refused slices of one show. */
 extern const char first_refusal_first[];

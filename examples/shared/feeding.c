@@ -52,6 +52,14 @@ uint32_t patch_start(struct patch *patch, struct file file, struct type *output)
     return checked.number;
 }
 
+uint32_t patch_feed_number(const struct patch *patch, struct file slice)
+{
+    struct file file = patch_file(patch);
+    uint32_t number = wosthile_feed(file.bytes, file.length, slice.bytes, slice.length, NULL, 0, NULL, 0).number;
+    /* No room is the last fault of all, so a feed that lacks nothing else is accepted where there is room. */
+    return number == WOSTHILE_FAULT_NO_ROOM ? WOSTHILE_ACCEPTED : number;
+}
+
 wosthile_fed patch_feed(struct patch *patch, struct file slice, uint8_t output[WOSTHILE_SLICE_FILE_MAX])
 {
     unsigned other = 1 - patch->in_force;

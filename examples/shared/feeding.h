@@ -41,11 +41,14 @@ struct patch {
 
 struct file patch_file(const struct patch *patch);
 
-/* The first section of a patch file is the file of its input type. */
+/* The first section of a patch file is the file of its input type; its last bytes are the totals, see totals.h. */
 struct file patch_input_type(const struct patch *patch);
 
 /* Puts a patch in force if it is accepted, and writes the type that it gives; the answer is the number of the check. */
 uint32_t patch_start(struct patch *patch, struct file file, struct type *output);
+
+/* The number that a feed would answer; nothing is written, and the patch stays. */
+uint32_t patch_feed_number(const struct patch *patch, struct file slice);
 
 /* Feeds the patch in force. The buffers swap after an accepted feed; after a refused one the patch stays. */
 wosthile_fed patch_feed(struct patch *patch, struct file slice, uint8_t output[WOSTHILE_SLICE_FILE_MAX]);

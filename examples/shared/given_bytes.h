@@ -6,8 +6,8 @@
 
 #include "show.h"
 
-/* A file is at most two sections of 65,535 bytes, and a byte more shows that there is one too many. */
-enum { GIVEN_BYTES_MAX = 2 * (2 + 65535) + 1 };
+/* A file is at most three sections of 65,535 bytes, and a byte more shows that there is one too many. */
+enum { GIVEN_BYTES_MAX = 3 * (2 + 65535) + 1 };
 
 struct given_bytes {
     size_t length;

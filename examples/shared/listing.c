@@ -167,3 +167,15 @@ void list_nodes(const struct listed *listed, const struct patch_tree *tree, size
     print_heading(listed);
     list_node(&walk, 0);
 }
+
+void list_totals(const struct listed *listed, size_t section, size_t end)
+{
+    enum { TOTAL_BYTES = 4 };
+    static const char *const names[] = {"arrived", "sent"};
+    print_heading(listed);
+    for (size_t total = 0, byte = section + 2; total < 2 && byte + TOTAL_BYTES <= end; total++, byte += TOTAL_BYTES) {
+        char words[LINE_BYTES];
+        snprintf(words, sizeof words, "%u %s", value_at(listed->file, byte, TOTAL_BYTES), names[total]);
+        print_line(listed, byte, 0, words, "");
+    }
+}

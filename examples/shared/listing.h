@@ -1,6 +1,7 @@
 /*
  * Listings: the bytes of a type, of a slice or of a patch's nodes on standard output, a line for each node of the tree,
- * with its byte, its kind in words, and its lanes. A tree that is refused is listed up to the byte of its fault.
+ * with its byte, its kind in words, and its lanes; and a patch's totals. What is refused is listed up to the byte of
+ * its fault.
  */
 #ifndef LISTING_H
 #define LISTING_H
@@ -25,5 +26,8 @@ void list_slice(const struct listed *listed, const struct lanes *in_force, size_
  * type that it takes and the type that it gives below it, and a cue or level whether it waits.
  */
 void list_nodes(const struct listed *listed, const struct patch_tree *tree, size_t section, size_t end);
+
+/* Lists the totals of a patch, whose section begins at a byte of the file; those of which all four bytes are there. */
+void list_totals(const struct listed *listed, size_t section, size_t end);
 
 #endif

@@ -1,5 +1,7 @@
 #include "patch_tree.h"
 
+#include "totals.h"
+
 #include <string.h>
 
 /* Appends a section to a file in memory that has room for it; the answer is where it ends. */
@@ -24,38 +26,40 @@ static struct type type_of(struct file section)
     return type;
 }
 
-/* What the library says of nodes on an input type, and the type that they give. */
+/* What the library says of nodes on an input type, and the type that they give; whatever the totals are. */
 static uint32_t check_nodes(struct file input, struct file nodes, struct type *output)
 {
     uint8_t patch[WOSTHILE_PATCH_FILE_MAX];
     memcpy(patch, input.bytes, input.length);
     size_t length = put_section(patch, input.length, nodes);
-    wosthile_written checked = wosthile_check(patch, length, output->bytes, sizeof output->bytes);
+    memcpy(patch + length, totals_of_zero, sizeof totals_of_zero);
+    wosthile_written checked =
+        wosthile_check(patch, length + sizeof totals_of_zero, output->bytes, sizeof output->bytes);
     output->length = checked.written;
     return checked.number;
 }
 
 /*
- * The nodes of a patch, if its bytes can be read whole: that is so if they lack nothing and a byte more would be left
- * over. Of length 0 otherwise.
+ * The nodes of a patch, if its bytes can be read whole: that is so if nothing is missing or left over, and a byte more
+ * in the section of its nodes would be. That byte is the first of the totals, which are then read no more. Of length 0
+ * otherwise.
  */
 static struct file whole_nodes(struct file patch, uint32_t number)
 {
     static const struct file none = {NULL, 0};
     struct file input = {patch.bytes, 2 + section_of(patch).length};
-    if (patch.length < input.length + 2 || patch.length > WOSTHILE_PATCH_FILE_MAX) {
+    if (number == WOSTHILE_FAULT_CUT_SHORT || number == WOSTHILE_FAULT_LEFT_OVER || patch.length < input.length + 2 ||
+        patch.length > WOSTHILE_PATCH_FILE_MAX) {
         return none;
     }
     struct file rest = {patch.bytes + input.length, patch.length - input.length};
-    if (count_of(rest) != rest.length - 2) {
-        return none;
-    }
-    uint8_t longer[WOSTHILE_PATCH_FILE_MAX + 1] = {0};
+    size_t longer_count = count_of(rest) + 1;
+    uint8_t longer[WOSTHILE_PATCH_FILE_MAX];
     memcpy(longer, patch.bytes, patch.length);
-    longer[input.length] = (uint8_t)((rest.length - 1) / 256);
-    longer[input.length + 1] = (uint8_t)((rest.length - 1) % 256);
-    bool left_over = wosthile_check(longer, patch.length + 1, NULL, 0).number == WOSTHILE_FAULT_LEFT_OVER;
-    return left_over && number != WOSTHILE_FAULT_LEFT_OVER ? section_of(rest) : none;
+    longer[input.length] = (uint8_t)(longer_count / 256);
+    longer[input.length + 1] = (uint8_t)(longer_count % 256);
+    bool left_over = wosthile_check(longer, patch.length, NULL, 0).number == WOSTHILE_FAULT_LEFT_OVER;
+    return left_over ? section_of(rest) : none;
 }
 
 /* Notes the node at a place of the nodes and, behind it, its parts; the answer is its index. */
@@ -197,6 +201,6 @@ bool patch_tree_read(struct patch_tree *tree, struct file patch)
     read_node(tree, nodes, 0, 0);
     find_types(tree, nodes, type_of(section_of(patch)));
     tree->refused = refused_node(tree);
-    count_from_file(tree, patch.length - nodes.length);
+    count_from_file(tree, (size_t)(nodes.bytes - patch.bytes));
     return true;
 }

@@ -1,6 +1,7 @@
 /*
  * A patch as a tree of nodes, each with the type that it takes and the type that it gives. The types are those that
- * wosthile_check writes for the node on its input, so they are the library's own.
+ * wosthile_check writes for the node on its input, so they are the library's own. The totals of a patch are no part of
+ * its tree; see totals.h.
  */
 #ifndef PATCH_TREE_H
 #define PATCH_TREE_H

@@ -55,16 +55,30 @@ static void grow_refusals(struct panel *panel)
     panel->refusals_room = room;
 }
 
-/* Keeps that a slice is refused. */
+/* Keeps that a slice is refused. One that is refused for the totals of the patch has no place of its own. */
 static void keep_refusal(struct panel *panel, struct refusal refusal, const struct opened_show *opened)
 {
     grow_refusals(panel);
-    if (panel->refused < REFUSALS_WITH_WORDS) {
+    if (panel->refused < REFUSALS_WITH_WORDS && refusal.number != WOSTHILE_FAULT_TOTAL_TOO_LARGE) {
         refusal.words = memory(MESSAGE_BYTES, 1);
         slice_fault_text(refusal.words, MESSAGE_BYTES, &panel->in.lanes, opened->show.slices[refusal.recorded - 1],
                          &opened->names.in, &opened->show);
     }
     panel->refusals[panel->refused++] = refusal;
+}
+
+/* Adds a slice to those that wait, unless it is refused, or the patch in force would refuse them all for its totals. */
+static uint32_t add_slice(struct joined *waiting, const struct patch *patch, struct file slice)
+{
+    struct joined more = *waiting;
+    uint32_t number = joined_add(&more, patch_input_type(patch), slice);
+    if (number == WOSTHILE_ACCEPTED) {
+        number = patch_feed_number(patch, joined_file(&more));
+    }
+    if (number == WOSTHILE_ACCEPTED) {
+        *waiting = more;
+    }
+    return number;
 }
 
 /* Plays the slices as they are delivered: those of one frame are joined, without the refused ones. */
@@ -75,7 +89,7 @@ static void play_slices(struct panel *panel, const struct opened_show *opened, c
     struct joined waiting = {.count = 0};
     for (size_t index = 0; index < show->count; index++) {
         struct file slice = show->slices[index];
-        uint32_t number = joined_add(&waiting, patch_input_type(&patch), slice);
+        uint32_t number = add_slice(&waiting, &patch, slice);
         if (number == WOSTHILE_ACCEPTED) {
             keep(&panel->in, deliveries[index], slice);
         } else {

@@ -30,7 +30,7 @@ struct refusal {
     size_t frame;    /* in which it came */
     size_t recorded; /* in which it was recorded */
     uint32_t number;
-    char *words; /* what is wrong with it, and where; NULL of later ones */
+    char *words; /* what is wrong with it, and where; NULL of later ones, and of one refused for the patch's totals */
 };
 
 /* The show played with one seed. */

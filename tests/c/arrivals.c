@@ -279,14 +279,20 @@ static bool admits(struct bytes type, struct bytes slice, uint32_t arrived)
     return seen.number == WOSTHILE_ACCEPTED && seen.arrived == arrived;
 }
 
-/* A feed with these counts, which Admit confirms: of the slice, and of the output, a slice of what Check gives. */
+/*
+ * A feed with these counts, which Admit confirms: of the slice, and of the output, a slice of what Check gives. They
+ * are added to the totals of the patch (M-105).
+ */
 static void check_counts(const char *name, struct bytes patch, struct bytes slice, struct counts counts)
 {
     static uint8_t output[WOSTHILE_SLICE_FILE_MAX], left[WOSTHILE_PATCH_FILE_MAX], type[WOSTHILE_TYPE_FILE_MAX];
     uint8_t *patch_copy = copy_of(patch), *slice_copy = copy_of(slice);
     wosthile_fed fed =
         wosthile_feed(patch_copy, patch.count, slice_copy, slice.count, output, sizeof output, left, sizeof left);
-    count(fed.number == WOSTHILE_ACCEPTED && same_counts(counts_of(fed), counts), "Feed", name, fed.arrived);
+    bool accepted = fed.number == WOSTHILE_ACCEPTED;
+    count(accepted && same_counts(counts_of(fed), counts), "Feed", name, fed.arrived);
+    struct counts due = sum_of(totals_in(patch), counts);
+    count(accepted && same_counts(totals_in((struct bytes){left, fed.patch}), due), "totals left", name, due.arrived);
     count(admits(first_section(patch), slice, counts.arrived), "Admit of the slice", name, counts.arrived);
     size_t type_length = wosthile_check(patch.at, patch.count, type, sizeof type).written;
     struct bytes given = {type, type_length}, sent = {output, fed.output};
@@ -382,11 +388,11 @@ static void check_refusals(void)
     }
 }
 
-/* Two cues come and four would be sent, but the output's 9 bytes have no room, or the 10 of the patch left. */
+/* Two cues come and four would be sent, but the output's 9 bytes have no room, or the 20 of the patch left. */
 static void check_no_room(void)
 {
     const struct refused_row row = {"no room", PATCH_OF((4, 1, 1), (4, 0, 0)), FILE_OF(7, 2, 2), 20};
-    const size_t rooms[][2] = {{0, 0}, {8, 10}, {9, 9}, {8, 9}, {0, 8482}, {513, 0}};
+    const size_t rooms[][2] = {{0, 0}, {8, 20}, {9, 19}, {8, 19}, {0, WOSTHILE_PATCH_FILE_MAX}, {513, 0}};
     for (size_t which = 0; which < sizeof rooms / sizeof rooms[0]; which++) {
         leave_other_bytes();
         check_refused_feed(&row, rooms[which][0], rooms[which][1]);
@@ -415,18 +421,19 @@ static void check_large(void)
 /* A level counts once, whatever its value: when it comes, and when a node has it as its own. */
 static void check_values(void)
 {
-    uint8_t output[5], left[7];
+    uint8_t output[5], left[7 + WOSTHILE_TOTALS_SECTION];
     bool once = true;
     for (uint32_t value = 0; value <= UINT16_MAX; value++) {
         const uint8_t high = (uint8_t)(value / 256), low = (uint8_t)value;
-        const uint8_t pass[] = {0, 1, 2, 0, 1, 0}, slice[] = {0, 3, 4, high, low};
-        const uint8_t own[] = {0, 1, 1, 0, 3, 3, high, low}, cue[] = {0, 1, 2};
-        const struct bytes type = {pass, 3}, given = {slice, sizeof slice};
+        const struct bytes pass = PATCH_OF((2), (0)), slice = FILE_OF(4, high, low), type = FILE_OF(2);
+        const struct bytes own = PATCH_OF((1), (3, high, low)), cue = FILE_OF(2);
         const struct counts one = COUNTS(1, 1);
-        wosthile_fed come = wosthile_feed(pass, sizeof pass, slice, sizeof slice, output, sizeof output, left, 7);
-        wosthile_fed sent = wosthile_feed(own, sizeof own, cue, sizeof cue, output, sizeof output, left, 7);
+        wosthile_fed come =
+            wosthile_feed(pass.at, pass.count, slice.at, slice.count, output, sizeof output, left, sizeof left);
+        wosthile_fed sent =
+            wosthile_feed(own.at, own.count, cue.at, cue.count, output, sizeof output, left, sizeof left);
         once = once && come.number == 0 && sent.number == 0 && same_counts(counts_of(come), one);
-        once = once && same_counts(counts_of(sent), one) && admits(type, given, 1);
+        once = once && same_counts(counts_of(sent), one) && admits(type, slice, 1);
     }
     count(once, "arrivals", "a level of every value", UINT16_MAX);
 }

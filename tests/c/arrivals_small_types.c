@@ -7,70 +7,14 @@
  *
  * Feed is held to Admit: what arrived is counted in the slice that is fed, what was sent in the output, as a slice of
  * the output type in force. Nodes of each kind send each arrival as often as they should. Cut in two, what arrived and
- * what was sent are those of the whole. A refused slice and a feed without room count nothing.
+ * what was sent are those of the whole, and so are the totals left (M-105); more on these is in totals.c. A refused
+ * slice and a feed without room count nothing.
  */
+#include "found_types.h"
 #include "small_feeds.h"
 #include "small_nodes.h"
-#include "small_types.h"
 
-enum { FEW_NODES = 5, ARRIVALS_MOST = (NODES_MAX + 1) / 2 };
-enum { TYPES_LEAST = 10000, TYPES_ROOM = 1 << 14, SLICES_ROOM = 1 << 17 };
-
-/* Each slice that was found, with Admit's answer; and each type, whose slices follow one another. */
-struct found_slice {
-    struct growing file;
-    wosthile_admitted seen;
-};
-
-struct found_type {
-    struct growing file;
-    size_t begin, end; /* its first slice, and the one behind its last */
-};
-
-static struct found_slice slices[SLICES_ROOM];
-static struct found_type types[TYPES_ROOM];
-static size_t slices_found, types_found;
-
-static void keep_slice(void *context, const struct growing *slice, wosthile_admitted seen)
-{
-    (void)context;
-    if (slices_found == SLICES_ROOM) {
-        abort();
-    }
-    slices[slices_found++] = (struct found_slice){*slice, seen};
-}
-
-/* The level with which slices are found has a value of bytes 2 and 2. */
-static void keep_type(struct bytes type)
-{
-    struct found_type kept = {.file = {.count = type.count}, .begin = slices_found};
-    if (types_found == TYPES_ROOM) {
-        abort();
-    }
-    append(kept.file.bytes, type);
-    every_slice(&(struct slices){type, 2, keep_slice, NULL});
-    kept.end = slices_found;
-    types[types_found++] = kept;
-}
-
-/* A type among those found. They are in the order of their contents, and none begins with another. */
-static const struct found_type *found(struct bytes type)
-{
-    size_t low = 0, high = types_found;
-    while (low < high) {
-        const struct found_type *middle = &types[low + (high - low) / 2];
-        size_t least = type.count < middle->file.count ? type.count : middle->file.count;
-        int order = memcmp(type.at + 2, middle->file.bytes + 2, least - 2);
-        if (order == 0) {
-            return middle;
-        }
-        low = order > 0 ? (size_t)(middle - types) + 1 : low;
-        high = order < 0 ? (size_t)(middle - types) : high;
-    }
-    abort();
-}
-
-static size_t nodes_of(const struct found_type *type) { return type->file.count - 2; }
+enum { FEW_NODES = 5, ARRIVALS_MOST = (NODES_MAX + 1) / 2, TYPES_LEAST = 10000 };
 
 /* A walk down a type and a slice of it together. It gives every level that has come a value. */
 struct walk {
@@ -237,6 +181,7 @@ static void check_cuts(const struct fed_node *fed, const struct found_slice *fir
         right = right && has_arrivals(file_at(&given_left), file_at(&next.output), next.counts.sent);
         right = right && has_arrivals(file_at(&fed->given), file_at(&whole.output), whole.counts.sent);
         right = right && same_counts(sum_of(answer->counts, next.counts), whole.counts);
+        right = right && same(file_at(&next.left), file_at(&whole.left));
         right = right && as_often(fed->node, whole.counts);
     }
     count(right, "cut in two", type_name(fed->type), fed->node->nodes.at[0]);
@@ -263,6 +208,7 @@ static void check_feed(const struct fed_node *fed, const struct found_slice *sli
     bool right = answer.output.count > 0 && answer.counts.arrived == slice->seen.arrived;
     right = right && has_arrivals(file_at(&fed->given), file_at(&answer.output), answer.counts.sent);
     right = right && as_often(fed->node, answer.counts);
+    right = right && same_counts(totals_in(file_at(&answer.left)), answer.counts);
     count(right, "Feed", type_name(fed->type), fed->node->nodes.at[0]);
     feeds++;
     sent_fewer[which] += answer.counts.sent < answer.counts.arrived;

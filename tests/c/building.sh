@@ -20,6 +20,15 @@ build() {
         examples/shared/*.c "$archive" -o "$folder/$1"
 }
 
+# Totals of zero, the section with which the patch of a show ends: as bytes for printf, and in decimal.
+zero_totals='\0\10\0\0\0\0\0\0\0\0'
+zeros='0 8 0 0 0 0 0 0 0 0'
+
+# The byte of a show behind its patch, whose totals are the ten bytes before it: patch_end SHOW
+patch_end() {
+    od -An -tu1 -N2 "$1" | awk '{ print 2 + $1 * 256 + $2 }'
+}
+
 log=$folder/log
 failed=0
 

@@ -17,15 +17,21 @@ struct bytes {
 };
 
 /*
- * RAW is a file byte by byte; FILE_OF is the file of one section, given by its contents; PATCH_OF is the file of two,
- * each given by its contents in parentheses. COUNTS are those of a feed: what arrived, and what was sent.
+ * RAW is a file byte by byte; FILE_OF is the file of one section, given by its contents. PATCH_OF is a patch file that
+ * was never fed, by the contents of its type and of its nodes, each in parentheses; COUNTED_PATCH_OF has totals too.
+ * TOTALS is their section, the third. COUNTS are those of a feed, or of a patch: what arrived, and what was sent.
  */
 /* clang-format off */
 #define LENGTH(...) sizeof((const uint8_t[]){__VA_ARGS__})
 #define RAW(...) {(const uint8_t[]){__VA_ARGS__}, LENGTH(__VA_ARGS__)}
 #define FILE_OF(...) {(const uint8_t[]){0, LENGTH(__VA_ARGS__), __VA_ARGS__}, 2 + LENGTH(__VA_ARGS__)}
-#define PATCH_OF(type, nodes) RAW(0, LENGTH type, CONTENTS type, 0, LENGTH nodes, CONTENTS nodes)
+#define PATCH_OF(type, nodes) COUNTED_PATCH_OF(type, nodes, 0, 0)
+#define COUNTED_PATCH_OF(type, nodes, arrived, sent) RAW(TWO_SECTIONS(type, nodes), TOTALS(arrived, sent))
+#define TWO_SECTIONS(type, nodes) 0, LENGTH type, CONTENTS type, 0, LENGTH nodes, CONTENTS nodes
 #define CONTENTS(...) __VA_ARGS__
+#define TOTALS(arrived, sent) 0, 8, FOUR_BYTES(arrived), FOUR_BYTES(sent)
+#define FOUR_BYTES(number) \
+    (uint8_t)((number) >> 24), (uint8_t)((number) >> 16), (uint8_t)((number) >> 8), (uint8_t)(number)
 #define NONE {NULL, 0}
 #define COUNTS(arrived, sent) {arrived, sent}
 /* clang-format on */
@@ -97,7 +103,10 @@ static inline bool holds(const uint8_t *memory, size_t room, struct bytes answer
     return true;
 }
 
-/* The arrivals of a feed: how many cues and levels came in the slice, and how many are in the slice sent. */
+/*
+ * The arrivals of a feed: how many cues and levels came in the slice, and how many are in the slice sent. Or the totals
+ * of a patch: the sums of these.
+ */
 struct counts {
     uint32_t arrived, sent;
 };
@@ -120,6 +129,31 @@ static inline bool is_refusal(wosthile_fed fed, uint32_t number)
 static inline struct counts sum_of(struct counts one, struct counts other)
 {
     return (struct counts){one.arrived + other.arrived, one.sent + other.sent};
+}
+
+/* The totals of a patch file; nothing if it has no room for them, as the patch left by a refused feed. */
+static inline struct counts totals_in(struct bytes patch)
+{
+    if (patch.count < WOSTHILE_TOTALS_SECTION) {
+        return nothing_counted;
+    }
+    wosthile_totals totals = wosthile_totals_of(patch.at, patch.count);
+    return (struct counts){totals.arrived, totals.sent};
+}
+
+/* They are the last eight bytes of the file. */
+static inline void set_totals(uint8_t *patch, size_t length, struct counts totals)
+{
+    const uint8_t bytes[] = {FOUR_BYTES(totals.arrived), FOUR_BYTES(totals.sent)};
+    memcpy(patch + length - sizeof bytes, bytes, sizeof bytes);
+}
+
+/* A copy of a patch file, with other totals. */
+static inline struct bytes with_totals(struct bytes patch, struct counts totals)
+{
+    uint8_t *copy = copy_of(patch);
+    set_totals(copy, patch.count, totals);
+    return (struct bytes){copy, patch.count};
 }
 
 /* The arrivals in the file of an accepted slice: its kinds 2 and 4. Behind a 4 is the value, which has no kinds. */
@@ -190,15 +224,16 @@ static inline void release(struct bytes *files, size_t number)
     }
 }
 
-/* A patch file of two sections, which are released. */
+/* The file of a patch that was never fed, by its first two sections, which are released. */
 static inline struct bytes patch_of(struct bytes type, struct bytes nodes)
 {
-    size_t length = type.count + nodes.count;
+    const struct bytes totals = RAW(TOTALS(0, 0));
+    size_t length = type.count + nodes.count + totals.count;
     uint8_t *patch = malloc(length);
     if (patch == NULL) {
         abort();
     }
-    append(append(patch, type), nodes);
+    append(append(append(patch, type), nodes), totals);
     struct bytes files[] = {type, nodes};
     release(files, sizeof files / sizeof files[0]);
     return (struct bytes){patch, length};

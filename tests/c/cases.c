@@ -37,6 +37,8 @@ static const struct check_row check_rows[] = {
     {"spread of larger parts", PATCH_OF((3, 3, 1, 1, 4, 2, 4, 0, 0), (13)), 0,
      FILE_OF(4, 3, 3, 1, 1, 2, 3, 3, 1, 1, 4, 0, 0)},
     {"front", PATCH_OF((4, 1, 2), (14)), 0, FILE_OF(3, 0, 4, 1, 2)},
+    {"totals do not matter", COUNTED_PATCH_OF((1), (14), 1, 2), 0, FILE_OF(3, 0, 1)},
+    {"nor do the greatest", COUNTED_PATCH_OF((1), (14), WOSTHILE_TOTAL_MAX, WOSTHILE_TOTAL_MAX), 0, FILE_OF(3, 0, 1)},
     {"pass on either", PATCH_OF((5, 1, 2), (0)), 0, FILE_OF(5, 1, 2)},
     {"choose", PATCH_OF((5, 1, 2), (15, 0, 2)), 0, FILE_OF(1)},
     {"choose, each on its part", PATCH_OF((5, 4, 1, 2, 3, 1, 2), (15, 6, 8)), 0, FILE_OF(2)},
@@ -67,7 +69,12 @@ static const struct check_row check_rows[] = {
     {"silent with half its type", PATCH_OF((1), (1, 4, 0)), 1, NONE},
     {"level without its value", PATCH_OF((1), (3)), 1, NONE},
     {"level with half its value", PATCH_OF((1), (3, 1)), 1, NONE},
-    {"the section ends before the byte behind it", RAW(0, 1, 1, 0, 2, 10, 0, 0), 1, NONE},
+    {"the section ends before the byte behind it", RAW(0, 1, 1, 0, 2, 10, 0, 0, TOTALS(0, 0)), 1, NONE},
+    {"no third section", RAW(0, 1, 1, 0, 1, 0), 1, NONE},
+    {"half a third count", RAW(0, 1, 1, 0, 1, 0, 0), 1, NONE},
+    {"third section without contents", RAW(0, 1, 1, 0, 1, 0, 0, 0), 1, NONE},
+    {"third section longer than the file", RAW(0, 1, 1, 0, 1, 0, 0, 8, 0, 0, 0, 0, 0, 0, 0), 1, NONE},
+    {"third section of seven bytes", RAW(0, 1, 1, 0, 1, 0, 0, 7, 0, 0, 0, 0, 0, 0, 0), 1, NONE},
     {"either with one part", PATCH_OF((5, 1), (0)), 1, NONE},
     {"choose with one part", PATCH_OF((5, 1, 1), (15, 0)), 1, NONE},
     {"mark first without its type", PATCH_OF((1), (16)), 1, NONE},
@@ -79,7 +86,7 @@ static const struct check_row check_rows[] = {
     {"unlisted node kind below", PATCH_OF((1), (4, 0, 255)), 2, NONE},
     {"unlisted kind in a carried type", PATCH_OF((1), (1, 4, 0, 19)), 2, NONE},
     {"a node kind in a carried type", PATCH_OF((1), (1, 14)), 2, NONE},
-    {"unlisted kind before a byte behind", RAW(0, 1, 1, 0, 1, 77, 0), 2, NONE},
+    {"unlisted kind before a third section that is cut", RAW(0, 1, 1, 0, 1, 77, 0), 2, NONE},
     {"the first fault from the left", PATCH_OF((1), (4, 19, 3, 1)), 2, NONE},
     {"unlisted kind in what a mark carries", PATCH_OF((1), (16, 5, 0, 19)), 2, NONE},
 
@@ -91,7 +98,9 @@ static const struct check_row check_rows[] = {
     {"bytes after a carried type", PATCH_OF((1), (1, 0, 0)), 3, NONE},
     {"bytes after what a mark carries", PATCH_OF((1), (17, 2, 0)), 3, NONE},
     {"bytes after choose", PATCH_OF((5, 1, 1), (15, 0, 0, 0)), 3, NONE},
-    {"bytes after the last section", RAW(0, 1, 1, 0, 1, 0, 0), 3, NONE},
+    {"third section of nine bytes", RAW(0, 1, 1, 0, 1, 0, 0, 9, 0, 0, 0, 0, 0, 0, 0, 0, 0), 3, NONE},
+    {"bytes after the last section", RAW(0, 1, 1, 0, 1, 0, TOTALS(0, 0), 0), 3, NONE},
+    {"bytes after the nodes before the next section", RAW(0, 1, 1, 0, 2, 0, 0), 3, NONE},
 
     {"case 9, a silent that is not nullable", PATCH_OF((1), (1, 3, 0, 0)), 6, NONE},
     {"silent cue", PATCH_OF((1), (1, 1)), 6, NONE},
@@ -135,7 +144,7 @@ static const struct check_row check_rows[] = {
     {"choose, one output begins as the other", PATCH_OF((5, 1, 1), (15, 0, 4, 0, 0)), 30, NONE},
     {"choose, the sides of a mark", PATCH_OF((5, 1, 2), (15, 16, 2, 16, 1)), 30, NONE},
     {"choose, a fork of each kind", PATCH_OF((5, 1, 2), (15, 16, 2, 4, 2, 0)), 30, NONE},
-    {"reading before typing, 30", RAW(0, 3, 5, 1, 2, 0, 3, 15, 0, 0, 0), 3, NONE},
+    {"reading before typing, 30", RAW(0, 3, 5, 1, 2, 0, 3, 15, 0, 0, TOTALS(0, 0), 0), 3, NONE},
     {"7 of the second before 30", PATCH_OF((5, 1, 2), (15, 0, 5)), 7, NONE},
     {"6 of the second before 30", PATCH_OF((5, 1, 2), (15, 0, 1, 1)), 6, NONE},
     {"30 of the second before 30", PATCH_OF((5, 1, 5, 1, 2), (15, 0, 15, 0, 0)), 30, NONE},
@@ -147,7 +156,8 @@ static const struct check_row check_rows[] = {
 
     {"reading before typing, 1", PATCH_OF((1), (10, 5)), 1, NONE},
     {"reading before typing, 2", PATCH_OF((1), (10, 5, 99)), 2, NONE},
-    {"reading before typing, 3", RAW(0, 1, 1, 0, 1, 5, 0), 3, NONE},
+    {"reading before typing, 3", RAW(0, 1, 1, 0, 1, 5, TOTALS(0, 0), 0), 3, NONE},
+    {"reading before typing, the third section", RAW(0, 1, 1, 0, 1, 5, 0, 7, 0, 0, 0, 0, 0, 0, 0), 1, NONE},
     {"reading before typing, silent", PATCH_OF((1), (4, 1, 1, 99)), 2, NONE},
     {"preorder, 7 and then 6", PATCH_OF((1), (4, 5, 1, 1)), 7, NONE},
     {"preorder, 6 and then 7", PATCH_OF((1), (4, 1, 1, 5)), 6, NONE},
@@ -660,7 +670,7 @@ static const struct limit_row limit_rows[] = {
      NO_SECTION},
 };
 
-/* Check of the patch with these two sections; releases both, and the answer. */
+/* Check of the patch with these two sections, and totals; releases both, and the answer. */
 static void check_sections(const char *name, struct bytes type, struct bytes nodes, uint32_t number,
                            struct bytes answer)
 {
@@ -688,10 +698,15 @@ static void check_longest_patch(void)
     struct bytes last = file_of((struct section){silent, empty_lane, 127, empty});
     const struct bytes each = {link.at + 2, link.count - 2}, end = {last.at + 2, last.count - 2};
     struct bytes type = repeated(lane, 127, cue), nodes = repeated(each, 31, end);
-    count(type.count + nodes.count == WOSTHILE_PATCH_FILE_MAX, "sizes", "the longest patch file", 0);
+    size_t length = type.count + nodes.count + WOSTHILE_TOTALS_SECTION;
+    count(length == WOSTHILE_PATCH_FILE_MAX, "sizes", "the longest patch file", length);
     check_sections("the longest patch file", type, nodes, 0, repeated(empty_lane, 127, empty));
     check_sections("a silent too many", repeated(lane, 127, cue), repeated(each, 32, end), 5, none);
-    struct bytes files[] = {link, last};
+    struct bytes longest = patch_of(repeated(lane, 127, cue), repeated(each, 31, end));
+    struct bytes longer = lengthened(longest, WOSTHILE_PATCH_FILE_MAX + 1);
+    struct check_row row = {"a byte behind the longest patch file", longer, 3, none};
+    check_patch(&row);
+    struct bytes files[] = {link, last, longest, longer};
     release(files, sizeof files / sizeof files[0]);
 }
 
@@ -714,9 +729,11 @@ static void check_long_patches(void)
 {
     const struct bytes none = NONE, patch = PATCH_OF((1), (0)), wrong_shape = PATCH_OF((1), (5));
     const struct bytes type_claim = RAW(255, 255, 1), node_claim = RAW(0, 1, 1, 255, 255, 0);
-    struct bytes files[] = {lengthened(patch, 1 << 20),    lengthened(wrong_shape, 1 << 20),
-                            lengthened(type_claim, 65537), lengthened(type_claim, 65536),
-                            lengthened(node_claim, 65540), lengthened(node_claim, 65539)};
+    const struct bytes totals_claim = RAW(0, 1, 1, 0, 1, 0, 255, 255);
+    struct bytes files[] = {lengthened(patch, 1 << 20),      lengthened(wrong_shape, 1 << 20),
+                            lengthened(type_claim, 65537),   lengthened(type_claim, 65536),
+                            lengthened(node_claim, 65540),   lengthened(node_claim, 65539),
+                            lengthened(totals_claim, 65543), lengthened(totals_claim, 65542)};
     struct check_row rows[] = {
         {"a patch file of a mebibyte", files[0], 3, none},
         {"a patch file of a mebibyte and a wrong shape", files[1], 3, none},
@@ -724,6 +741,8 @@ static void check_long_patches(void)
         {"a type section of 65535 bytes, one missing", files[3], 1, none},
         {"a node section of 65535 bytes", files[4], 3, none},
         {"a node section of 65535 bytes, one missing", files[5], 1, none},
+        {"a third section of 65535 bytes", files[6], 3, none},
+        {"a third section of 65535 bytes, one missing", files[7], 1, none},
     };
     for (size_t row = 0; row < sizeof rows / sizeof rows[0]; row++) {
         check_patch(&rows[row]);
@@ -776,7 +795,7 @@ static void check_shared_memory(void)
     wosthile_written joined = wosthile_join(cue, sizeof cue, cue, sizeof cue, cue, sizeof cue, buffer, sizeof buffer);
     count(joined.number == 0 && joined.written == 3 && memcmp(buffer, cue, 3) == 0 && buffer[3] == 9, "Join",
           "all three files are the same bytes", sizeof buffer);
-    const uint8_t patch[] = {0, 1, 1, 0, 1, 2};
+    const uint8_t patch[] = {0, 1, 1, 0, 1, 2, TOTALS(0, 0)};
     wosthile_written checked = wosthile_check(patch, 0, buffer, sizeof buffer);
     count(checked.number == 1 && checked.written == 0, "Check", "a pointer with length 0", sizeof buffer);
     memset(buffer, 9, sizeof buffer);

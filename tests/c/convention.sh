@@ -9,25 +9,35 @@ source "$(dirname "$0")/building.sh"
 
 mkdir "$folder/made" "$folder/empty"
 
-# A program, how it is called with a FILE, and what its answer is: text on standard output, or files in a folder.
+# A program, how it is called with a FILE, and what its answer is: text on standard output, or files in a folder. FOLDER
+# is that of this test.
 programs='
 frame_loop  FILE --fast  text
 rehearsal   FILE 3       text
 timeline    FILE         text
 diagram     FILE         text
 explain     FILE         text
+spare_box   FILE --until 3 FOLDER/carried.patch FOLDER/sent.slice  text
+add_totals  FILE FOLDER/new.show  text
 make_show   examples/shows/lamp_fade.score FILE  files
 '
 
-# A show with nothing wrong; one whose patch is refused, left on a cue; one that ends before its patch does; and a patch.
-# Then a file with the name of a score and the bytes of the refused show, and one with no bytes.
-good=examples/shows/lamp_fade.show
+# A show with nothing wrong, and one that add_totals takes; one whose patch is refused, left on a cue; one that ends before
+# its patch does; and a patch, and one without totals. Then a file with the name of a score and the bytes of the refused
+# show, and one with no bytes.
+shipped=examples/shows/lamp_fade.show
+old=$folder/old.show
 refused=$folder/refused.show
 cut=$folder/cut.show
 patch=$folder/alone.patch
-printf '\0\6\0\1\1\0\1\5' >"$refused"
-printf '\0\6\0\1\1' >"$cut"
-printf '\0\1\1\0\1\0' >"$patch"
+old_patch=$folder/old.patch
+printf '\0\6\0\1\1\0\1\0\0\3\0\1\2' >"$old"
+# shellcheck disable=SC2059 # the totals are a format
+printf "\0\20\0\1\1\0\1\5$zero_totals" >"$refused"
+printf '\0\20\0\1\1' >"$cut"
+# shellcheck disable=SC2059
+printf "\0\1\1\0\1\0$zero_totals" >"$patch"
+printf '\0\1\1\0\1\0' >"$old_patch"
 cp "$refused" "$folder/refused.score"
 : >"$folder/empty.score"
 
@@ -78,7 +88,7 @@ name_words() {
     local command told
     while IFS='|' read -r command told; do
         # shellcheck disable=SC2086 # the command is several words
-        expect 2 none some "$folder"/${command/SHOW/$good}
+        expect 2 none some "$folder"/${command/SHOW/$shipped}
         grep -qF ": $told" "$folder/messages" || wrong "$command: '$told' is due"
     done
 }
@@ -109,7 +119,8 @@ try_other_files() {
         [ "$(cat "$folder/answer" "$folder/messages" | grep '^    The file')" = "$told" ] ||
             wrong "$program: '$told' is due for $file"
     done <<END
-1|$patch|    The file is a patch file and no show; explain and diagram take it with --patch.
+1|$patch|    The file is a patch file and no show; explain, diagram and add_totals take it with --patch.
+1|$old_patch|    The file is a patch file and no show; explain, diagram and add_totals take it with --patch.
 1|$folder/refused.score|    The file is a score; make_show makes a show of it.
 2|examples/shows/lamp_fade.score|    The file is a score; make_show makes a show of it.
 2|examples/shows/lamp_fade.lanes|    The file has the names of lanes; the show beside it ends in .show.
@@ -138,6 +149,9 @@ while read -r program called; do
     build "$program" "examples/$program.c" || exit 1
     try_words "$program"
     read -ra call <<<"${called% *}"
+    call=("${call[@]/#FOLDER/$folder}")
+    good=$shipped
+    [ "$program" = add_totals ] && good=$old
     case ${called##* } in
     text)
         try_shows "$program" "${call[@]}"
@@ -172,6 +186,25 @@ explain --type 0 more|"more" cannot be used here
 explain SHOW more|"more" cannot be used here
 explain SHOW --all more|"more" cannot be used here
 explain --al|"--al" is not one of its words
+spare_box SHOW|the words are: spare_box SHOW
+spare_box --until|the words are: spare_box SHOW
+spare_box --until 3 a b|"--until" cannot be used like this
+spare_box SHOW 3|"3" cannot be used here
+spare_box SHOW --to 3 a b|"--to" is not one of its words
+spare_box SHOW --until 3 a|"--until" cannot be used like this
+spare_box SHOW --until 181 a b|"181" where a number from 0 to 180 is due
+spare_box SHOW --from 181 a b c|"181" where a number from 0 to 180 is due
+spare_box SHOW --from x a b c|"x" where a number from 0 to 180 is due
+spare_box SHOW --until 3 a b more|"more" cannot be used here
+spare_box SHOW --from 3 a b c more|"more" cannot be used here
+spare_box SHOW --compare a b|"--compare" cannot be used like this
+spare_box SHOW --compare a b c more|"more" cannot be used here
+add_totals SHOW|the words are: add_totals OLD NEW
+add_totals a b more|"more" cannot be used here
+add_totals a --new|"--new" is not one of its words
+add_totals --old b|"--old" is not one of its words
+add_totals --patch a|"--patch" cannot be used like this
+add_totals --patch a b more|"more" cannot be used here
 END
 
 # The README's example takes no words.

@@ -1,6 +1,7 @@
 /*
  * Shows that are cut at every byte, and damaged at random: every refusal has a place in its file and counts no cue or
- * level, and a show that ends inside a slice is told so.
+ * level, and a show that ends inside a slice is told so. The third section of the patch, its totals, is damaged byte by
+ * byte, and filled: totals go on from where they begin, up to the greatest.
  *
  *   damaged_shows FILE SHOW..
  */
@@ -8,25 +9,50 @@
 
 enum { DAMAGES = 300 };
 
-/* The refusals of a show as explain tells them: each has a place in its file. */
+/* How many feeds were refused for their totals, in all shows. */
+static size_t full;
+
+/* A feed that is refused for its totals has a slice with nothing wrong, which brings too much or makes too much sent.
+ */
+static void try_full(const struct patch *patch, struct file slice, const char *slice_text)
+{
+    char text[MESSAGE_BYTES];
+    size_t arrived = 0, sent = 0, more_arrived = 0, more_sent = 0;
+    totals_fault_text(text, sizeof text, patch_file(patch), slice);
+    int read = sscanf(text,
+                      "the patch has counted %zu arrived and %zu sent in all; with this slice %zu more would arrive"
+                      " and %zu more be sent",
+                      &arrived, &sent, &more_arrived, &more_sent);
+    bool too_large = arrived + more_arrived > WOSTHILE_TOTAL_MAX || sent + more_sent > WOSTHILE_TOTAL_MAX;
+    expect(slice_text[0] == '\0' && read == 4 && too_large, text, slice);
+    full++;
+}
+
+/* The refusals of a show as explain tells them: each has a place in its file, unless it is for the totals. */
 static size_t try_slices(const struct show *show, struct patch *patch, struct lanes *lanes)
 {
     size_t refused = 0;
+    struct counts totals = totals_of(patch_file(patch));
     for (size_t index = 0; index < show->count; index++) {
         char text[MESSAGE_BYTES];
         struct lane_events events;
         uint8_t output[WOSTHILE_SLICE_FILE_MAX];
         wosthile_fed fed = patch_feed(patch, show->slices[index], output);
-        bool accepted = fed.number == WOSTHILE_ACCEPTED;
+        struct counts now = totals_of(patch_file(patch));
+        counts_add(&totals, &fed);
+        expect(counts_same(&totals, &now), "the totals do not go on", patch_file(patch));
         slice_fault_text(text, sizeof text, lanes, show->slices[index], NULL, show);
-        expect(accepted == (text[0] == '\0'), "the feed and the text disagree", show->slices[index]);
-        expect(accepted || (fed.arrived == 0 && fed.sent == 0), "a refused feed counts", show->slices[index]);
-        if (accepted) {
+        expect(fed.number == WOSTHILE_ACCEPTED || (fed.arrived == 0 && fed.sent == 0), "a refused feed counts",
+               show->slices[index]);
+        if (fed.number == WOSTHILE_ACCEPTED) {
+            expect(text[0] == '\0', "an accepted slice has a fault", show->slices[index]);
             lanes_follow(lanes, show->slices[index], &events);
+        } else if (fed.number == WOSTHILE_FAULT_TOTAL_TOO_LARGE) {
+            try_full(patch, show->slices[index], text);
         } else {
             try_text(text, show->slices[index]);
-            refused++;
         }
+        refused += fed.number != WOSTHILE_ACCEPTED;
     }
     return refused;
 }
@@ -92,6 +118,31 @@ static void try_damages(const char *path, const struct made *show)
     expect(found > DAMAGES / 2, "few damages of the show are found", (struct file){NULL, 0});
 }
 
+/* Each byte of the third section changed: its count is wrong, or the totals are others. Then both totals are full. */
+static void try_damaged_totals(const char *path, const struct made *show)
+{
+    static const uint8_t bytes[] = {0, 1, 7, 8, 9, 255};
+    size_t end = 2 + section_of(file_of(show)).length, begin = end - WOSTHILE_TOTALS_SECTION;
+    for (size_t place = begin; place < end; place++) {
+        for (size_t index = 0; index < sizeof bytes; index++) {
+            struct made hurt = *show;
+            hurt.bytes[place] = bytes[index];
+            bool wrong_count = place < begin + 2 && bytes[index] != show->bytes[place];
+            size_t refused = try_written(path, hurt.bytes, hurt.length);
+            expect(!wrong_count || refused > 0, "a wrong count of totals is not found", file_of(&hurt));
+        }
+    }
+    for (uint8_t below = 0; below < 3; below++) {
+        struct made filled = *show;
+        size_t before = full;
+        memset(filled.bytes + begin + 2, 255, WOSTHILE_TOTALS_SECTION - 2);
+        filled.bytes[begin + 5] = (uint8_t)(255 - below);
+        filled.bytes[begin + 9] = (uint8_t)(255 - below);
+        try_written(path, filled.bytes, filled.length);
+        expect(full > before || below > 0, "full totals are not met", (struct file){NULL, 0});
+    }
+}
+
 static void try_damaged_show(const char *path, const char *written)
 {
     static struct made show;
@@ -106,6 +157,7 @@ static void try_damaged_show(const char *path, const char *written)
     }
     try_cuts(written, &show);
     try_damages(written, &show);
+    try_damaged_totals(written, &show);
 }
 
 int main(int count, char **words)

@@ -102,41 +102,105 @@ explains_each_number() {
         refused 3 'byte 3, behind lane 1: the tree is whole, and 2 bytes of its section follow it' --type '0 3 1 1 1' &&
         refused 3 'byte 3: the last section ends, and 1 byte follows it' --type '0 1 1 1' &&
         refused 3 'byte 6: the tree is whole, and 1 byte of its section follows it' --patch '0 1 1 0 2 5 0' &&
-        refused 3 'byte 6: the last section ends, and 2 bytes follow it' --patch '0 1 1 0 1 5 0 0' &&
         refused 4 'byte 256, behind lane 127: the type has 255 nodes up to here and needs another' \
             --type "1 145 $(times 200 '4 1') 1" &&
         refused 4 'byte 260: the type has 255 nodes up to here and needs another' --patch "0 1 1 1 44 1 $(times 299 4)" &&
         refused 4 'byte 34, node both: its parts give a type of 255 nodes and a type of 255 nodes' \
-            --patch "0 1 1 0 33 $doubled 0" &&
+            --patch "0 1 1 0 33 $doubled 0 $zeros" &&
         refused 5 'byte 67: the patch has 63 nodes up to here and needs another' --patch "0 1 1 0 81 $(times 40 '4 0') 0" &&
-        refused 6 'byte 6, node silent: it carries empty then empty' --patch '0 1 1 0 6 4 1 3 0 0 0' &&
-        refused 7 'byte 9, node left: it takes s beside t, and its input is cue' --patch '0 3 3 1 1 0 3 9 0 5' &&
-        refused 7 'byte 5, node spread: it takes s then (t beside r), and its input is cue' --patch '0 1 1 0 1 13' &&
-        explains_each_slice_number && explains_choices
+        refused 6 'byte 6, node silent: it carries empty then empty' --patch "0 1 1 0 6 4 1 3 0 0 0 $zeros" &&
+        refused 7 'byte 9, node left: it takes s beside t, and its input is cue' --patch "0 3 3 1 1 0 3 9 0 5 $zeros" &&
+        refused 7 'byte 5, node spread: it takes s then (t beside r), and its input is cue' --patch "0 1 1 0 1 13 $zeros" &&
+        explains_wrong_totals && explains_each_slice_number && explains_choices
+}
+
+# The third section: cut, of another length, and with bytes behind it. What is wrong there comes before what is wrong
+# with the types of nodes, here of left on a cue, and behind what is wrong with the nodes' bytes.
+explains_wrong_totals() {
+    local patch='0 1 1 0 1 5' eight='1 2 3 4 5 6 7 8'
+    refused 1 'byte 7: the patch ends inside a count of two bytes' --patch "$patch 0" &&
+        refused 1 'byte 6: the count promises 8 bytes, and 7 follow' --patch "$patch 0 8 1 2 3 4 5 6 7" &&
+        refused 1 'byte 6: the count promises 9 bytes, and 8 follow' --patch "$patch 0 9 $eight" &&
+        refused 1 'byte 6: the count promises 8 bytes, and 0 follow' --patch "$patch 0 8" &&
+        refused 1 'byte 8: the section ends, and has 0 of the 8 bytes of the totals' --patch "$patch 0 0" &&
+        refused 1 'byte 15: the section ends, and has 7 of the 8 bytes of the totals' --patch "$patch 0 7 1 2 3 4 5 6 7" &&
+        refused 1 'byte 15: the section ends, and has 7 of the 8 bytes of the totals' --patch "$patch 0 7 $eight" &&
+        refused 3 'byte 16: the totals are whole, and 1 byte of their section follows them' --patch "$patch 0 9 $eight 9" &&
+        refused 3 'byte 16: the totals are whole, and 248 bytes of their section follow them' \
+            --patch "$patch 1 0 $(times 256 1)" &&
+        refused 3 'byte 16: the totals are whole, and 1 byte of their section follows them' --patch "$patch 0 9 $eight 9 9" &&
+        refused 3 'byte 16: the last section ends, and 2 bytes follow it' --patch "$patch 0 8 $eight 0 0" &&
+        refused 7 'byte 5, node left: it takes s beside t, and its input is cue' --patch "$patch 0 8 $eight" &&
+        refused 2 'byte 5: kind 99 is not listed here; 0 to 17 are' --patch '0 1 1 0 1 99 0 7 1' &&
+        refused 3 'byte 6: the tree is whole, and 1 byte of its section follows it' --patch '0 1 1 0 2 5 0 0 7 1'
+}
+
+# A patch or a show in which the totals are missing, and nothing else is wrong, is told so, with the program that adds
+# them; not so one that is wrong in another way, or whose totals are there in part.
+names_add_totals() {
+    local told='    Nothing else is wrong: it is a patch of before release 1.5.0. The program add_totals gives it totals of zero.'
+    local patch
+    printf '\0\6\0\1\1\0\1\0\0\3\0\1\2' >"$folder/old.show"
+    explains 1 --patch '0 1 1 0 1 0' && tail -n 3 "$folder/out" | diff - <(
+        refusal_of_1
+        echo '    byte 6: the patch ends where its totals are due'
+        echo "$told"
+    ) && explains 1 "$folder/old.show" && tail -n 4 "$folder/out" | diff - <(
+        refusal_of_1
+        echo '    byte 6 of the patch, byte 8 of the show: the patch ends where its totals are due; the length of the patch, at bytes 0 to 1 of the show, says 6'
+        echo "$told"
+        echo 'Without a patch no slice can be fed.'
+    ) || return 1
+    for patch in '0 1 1 0 1 5' '0 1 1 0 1 0 0' '0 1 1 0 1 0 0 8' '0 1 1 0 1 0 0 7 1 2 3 4 5 6 7' '0 1 1' '0 1 1 0 2 4 0'; do
+        explains 1 --patch "$patch" && ! grep 'add_totals' "$folder/out" || return 1
+    done
+}
+
+refusal_of_1() {
+    echo 'The patch is refused with 1: A section is longer than the bytes that remain, or what it holds needs a byte past it.'
+}
+
+# The totals of a patch: of one alone as they are in it, of a show at its start and at its end. The greatest is no fault.
+explains_totals() {
+    explains 0 --patch '0 1 1 0 1 0 0 8 0 0 1 44 255 255 255 255' &&
+        diff - <(sed -n '/^Totals/,/ sent$/p' "$folder/out") <<'END' || return 1
+Totals: 300 arrived, 4294967295 sent in all
+    byte
+       8  300 arrived
+      12  4294967295 sent
+END
+    printf '\0\20\0\1\1\0\1\0\0\10\0\0\1\54\1\0\0\0\0\3\0\1\2' >"$folder/later.show"
+    explains 0 "$folder/later.show" && diff - <(grep -E 'arrived' "$folder/out") <<'END'
+Totals: 300 arrived, 16777216 sent in all
+       8       10  300 arrived
+Cues and levels: 1 arrived, 1 sent.
+In all, by the patch's totals: 301 arrived, 16777217 sent.
+END
 }
 
 # The two types of choose, and where they first differ; the type that a mark carries; choices in slices.
 explains_choices() {
     local type='0 5 3 5 1 2 1' # a cue or a level, and then a cue
-    refused 30 'byte 7, node choose: its parts give cue and level' --patch '0 3 5 1 2 0 3 15 0 0' &&
+    refused 30 'byte 7, node choose: its parts give cue and level' --patch "0 3 5 1 2 0 3 15 0 0 $zeros" &&
         refused 30 'byte 14, node choose: its parts give cue beside level and cue beside (cue then cue); these first differ at their lane 2: level in the first, cue then cue in the second' \
-            --patch '0 9 5 4 1 2 4 1 3 1 1 0 5 10 15 0 0 0' &&
-        refused 7 'byte 5, node choose: it takes s or t, and its input is cue' --patch '0 1 1 0 3 15 0 0' &&
+            --patch "0 9 5 4 1 2 4 1 3 1 1 0 5 10 15 0 0 0 $zeros" &&
+        refused 7 'byte 5, node choose: it takes s or t, and its input is cue' --patch "0 1 1 0 3 15 0 0 $zeros" &&
         refused 4 'byte 5, node mark first: its input is a type of 1 node, and it carries a type of 255 nodes' \
-            --patch "0 1 1 1 0 16 $(times 127 '4 1') 1" &&
+            --patch "0 1 1 1 0 16 $(times 127 '4 1') 1 $zeros" &&
         refused 12 'byte 3, lanes 1 to 2: kind 99 (not listed) where 8 to 10 (either) is due' --slice "$type" '0 3 5 99 1' &&
         refused 14 'byte 3, lanes 1 to 2: kind 8 (none chosen) where 9 or 10 (either) is due; the first part of a crossing has to be complete' \
             --slice "$type" '0 3 6 8 1' &&
         refused 14 'byte 4, lane 1: kind 3 (level awaited) where 1 or 2 (cue) is due' --slice "$type" '0 3 5 9 3' &&
         refused 14 'byte 2, lane 1: kind 8 (none chosen) where 1 or 2 (cue) is due' --slice '0 1 1' '0 1 8' &&
         explains 0 --slice "$type" '0 5 5 10 4 1 44' && grep -qx ' *3    10 second chosen  *lanes 1 to 2' "$folder/out" &&
-        explains 0 --patch '0 1 1 0 2 17 2' && grep -qx ' *carries level' "$folder/out" &&
+        explains 0 --patch "0 1 1 0 2 17 2 $zeros" && grep -qx ' *carries level' "$folder/out" &&
         grep -qx ' *gives level or cue' "$folder/out" && explains_second_choice
 }
 
 # A show that chooses twice: in its second frame the choice has come already.
 explains_second_choice() {
-    printf '\0\10\0\3\5\1\2\0\1\0\0\4\0\2\11\1\0\4\0\2\12\3' >"$folder/twice.show"
+    # shellcheck disable=SC2059 # the totals are a format
+    printf "\0\22\0\3\5\1\2\0\1\0$zero_totals\0\4\0\2\11\1\0\4\0\2\12\3" >"$folder/twice.show"
     explains 1 "$folder/twice.show" &&
         grep -qF 'kind 10 (second chosen) where 1 or 2 (cue) is due; its choice has come already' "$folder/out"
 }
@@ -163,12 +227,12 @@ explains_each_slice_number() {
 }
 
 # Where a count in a show is wrong, its file's length may be, and is told with its place. Each show is a patch of a cue
-# and a slice, with one of them damaged.
+# and a slice, with one of them damaged; Z are totals of zero.
 explains_wrong_lengths() {
     local wrong=0 told bytes
     while IFS='|' read -r told bytes; do
         # shellcheck disable=SC2059 # the bytes are a format
-        printf "$bytes" >"$folder/length.show"
+        printf "${bytes/Z/$zero_totals}" >"$folder/length.show"
         explains 1 "$folder/length.show" && grep -qF "$told" "$folder/out" && continue
         cat "$folder/out"
         echo "'$told' is due"
@@ -177,12 +241,14 @@ explains_wrong_lengths() {
 the patch ends where a section is due; the length of the patch, at bytes 0 to 1 of the show, says 3|\0\3\0\1\1
 the patch ends inside a count of two bytes; the length of the patch, at bytes 0 to 1 of the show, says 4|\0\4\0\1\1\0
 the count promises 9 bytes, and 1 follows; the length of the patch, at bytes 0 to 1 of the show, says 6|\0\6\0\1\1\0\11\0
-the last section ends, and 1 byte follows it; the length of the patch, at bytes 0 to 1 of the show, says 7|\0\7\0\1\1\0\1\0\0
-the slice ends where a section is due; the length of the slice, at bytes 8 to 9 of the show, says 0|\0\6\0\1\1\0\1\0\0\0
-the count promises 2 bytes, and 1 follows; the length of the slice, at bytes 8 to 9 of the show, says 3|\0\6\0\1\1\0\1\0\0\3\0\2\1
-the last section ends, and 3 bytes follow it; the length of the slice, at bytes 8 to 9 of the show, says 6|\0\6\0\1\1\0\1\0\0\6\0\1\1\0\0\0
-the slice's length, at bytes 8 to 9 of the show, says 7, and 1 byte follows; the last 3 bytes are left out|\0\6\0\1\1\0\1\0\0\7\0
-byte 8 of the show is half of the slice's length, and is left out|\0\6\0\1\1\0\1\0\0
+the patch ends inside a count of two bytes; the length of the patch, at bytes 0 to 1 of the show, says 7|\0\7\0\1\1\0\1\0\0
+the count promises 8 bytes, and 1 follows; the length of the patch, at bytes 0 to 1 of the show, says 9|\0\11\0\1\1\0\1\0\0\10\0
+the last section ends, and 1 byte follows it; the length of the patch, at bytes 0 to 1 of the show, says 17|\0\21\0\1\1\0\1\0Z\0
+the slice ends where a section is due; the length of the slice, at bytes 18 to 19 of the show, says 0|\0\20\0\1\1\0\1\0Z\0\0
+the count promises 2 bytes, and 1 follows; the length of the slice, at bytes 18 to 19 of the show, says 3|\0\20\0\1\1\0\1\0Z\0\3\0\2\1
+the last section ends, and 3 bytes follow it; the length of the slice, at bytes 18 to 19 of the show, says 6|\0\20\0\1\1\0\1\0Z\0\6\0\1\1\0\0\0
+the slice's length, at bytes 18 to 19 of the show, says 7, and 1 byte follows; the last 3 bytes are left out|\0\20\0\1\1\0\1\0Z\0\7\0
+byte 18 of the show is half of the slice's length, and is left out|\0\20\0\1\1\0\1\0Z\0
 END
     return "$wrong"
 }
@@ -194,17 +260,21 @@ explains_unread_sections() {
     refused 1 'byte 0: the count promises 65535 bytes, and 60000 follow' --type "255 255 $(times 60000 3)" &&
         refused 1 'byte 0: the count promises 2000 bytes, and 1200 follow' --patch "7 208 $(times 600 '4 1')" &&
         refused 1 'byte 3: the count promises 65535 bytes, and 60000 follow' --patch "0 1 1 255 255 $(times 60000 4)" &&
+        refused 1 'byte 6: the count promises 65535 bytes, and 60000 follow' --patch "0 1 1 0 1 0 255 255 $(times 60000 4)" &&
+        refused 3 'byte 16: the totals are whole, and 59992 bytes of their section follow them' \
+            --patch "0 1 1 0 1 0 234 96 $(times 60000 4)" &&
         refused 11 'byte 0: the count promises 65535 bytes, and 3000 follow' --slice "$type" "255 255 $(times 3000 7)" &&
         refused 11 'byte 0: the count promises 65535 bytes, and 3000 follow' --slice "$type" "255 255 $(times 3000 6)"
 }
 
 # What is accepted; a file does as well as its bytes.
 explains_what_is_accepted() {
-    printf '\0\1\1\0\1\0' >"$folder/patch"
+    # shellcheck disable=SC2059 # the totals are a format
+    printf "\0\1\1\0\1\0$zero_totals" >"$folder/patch"
     explains 0 --type '0 5 4 1 3 2 1' && grep -qx 'Type: cue beside (level then cue)' "$folder/out" &&
         explains 0 --slice '0 3 3 1 2' '0 5 6 2 4 1 44' && grep -q '4 level come 300' "$folder/out" &&
         grep -qx 'The slice is complete. It leaves: empty' "$folder/out" &&
-        explains 0 --patch '0 1 1 0 1 0' && mv "$folder/out" "$folder/by-bytes" &&
+        explains 0 --patch "0 1 1 0 1 0 $zeros" && mv "$folder/out" "$folder/by-bytes" &&
         explains 0 --patch "$folder/patch" && diff "$folder/by-bytes" "$folder/out"
 }
 
@@ -238,16 +308,17 @@ most() {
 explains_most() {
     most 0 '0 1 0' && most 1 '0 1 1' && most 1 '0 1 2' && most 3 '0 5 4 1 3 2 1' && most 1 '0 3 5 1 2' &&
         most 2 '0 5 5 2 4 1 1' && most 1 '0 5 5 4 0 0 2' && most 3 '0 7 3 5 3 1 1 0 2' && most 128 "0 255 $(times 127 '4 2') 2" &&
-        explains 0 --patch '0 5 3 4 1 2 1 0 3 4 0 8' && diff - <(grep 'cues and levels' "$folder/out") <<'END'
+        explains 0 --patch "0 5 3 4 1 2 1 0 3 4 0 8 $zeros" && diff - <(grep 'cues and levels' "$folder/out") <<'END'
 Most cues and levels of the input type: 3
 Most cues and levels of the output type: 4
 END
 }
 
-# What is told of the cues and levels of a patch, from the first to the last: moments 'waits sends' PATCH
+# What is told of the cues and levels of a patch, from the first to the last: moments 'waits sends' PATCH, which gets
+# totals of zero
 moments() {
     local told
-    explains 0 --patch "$2" || return 1
+    explains 0 --patch "$2 $zeros" || return 1
     told=$(sed -n 's/^ *waits for the first .* in what it takes$/waits/p; s/^ *sends at its first feed: .*/sends/p' "$folder/out" |
         paste -sd ' ')
     [ "$told" = "$1" ] && return 0
@@ -299,11 +370,13 @@ explains_longest_types() {
 
 # A patch has one for its input and one for its output; a show's patch too, and none if it is refused.
 explains_longest_of_patches() {
-    printf '\0\6\0\1\1\0\1\5' >"$folder/refused.show"
-    printf '\0\7\0\1\1\0\2\21\2\0\3\0\1\2' >"$folder/marked.show"
-    longest_both 3 3 --patch '0 1 1 0 1 0' &&
-        longest_both 3 6 --patch '0 1 1 0 2 17 2' &&
-        longest_both 9 3 --patch '0 5 3 4 1 2 1 0 1 8' &&
+    # shellcheck disable=SC2059 # the totals are a format
+    printf "\0\20\0\1\1\0\1\5$zero_totals" >"$folder/refused.show"
+    # shellcheck disable=SC2059
+    printf "\0\21\0\1\1\0\2\21\2$zero_totals\0\3\0\1\2" >"$folder/marked.show"
+    longest_both 3 3 --patch "0 1 1 0 1 0 $zeros" &&
+        longest_both 3 6 --patch "0 1 1 0 2 17 2 $zeros" &&
+        longest_both 9 3 --patch "0 5 3 4 1 2 1 0 1 8 $zeros" &&
         longest_both 3 6 "$folder/marked.show" && longest_both 3 6 "$folder/marked.show" --all &&
         explains 1 "$folder/refused.show" && tells_no_longest
 }
@@ -342,9 +415,10 @@ explains_damaged() {
 }
 
 explains_damaged_shows() {
-    local show=$1 length place
+    local show=$1 length patch_end place
     length=$(stat -c %s "$show")
-    for place in $(seq 0 $((length / 7 + 1)) "$length") 1 2 3 4 9 30; do
+    patch_end=$(patch_end "$show")
+    for place in $(seq 0 $((length / 7 + 1)) "$length") 1 2 3 4 9 30 $(seq $((patch_end - 11)) 3 "$patch_end"); do
         head -c "$place" "$show" >"$folder/hurt.show"
         explains_damaged "$folder/hurt.show" || return 1
         { head -c "$place" "$show"; printf '\11'; tail -c "+$((place + 2))" "$show"; } >"$folder/hurt.show"
@@ -368,6 +442,8 @@ holds "all slices" explains_all_slices examples/shows/comet_to_saturn.show 0 240
 holds "all slices of the damaged show" explains_all_slices examples/shows/damaged.show 1 47
 holds "counts that promise too much" explains_unread_sections
 holds "each number" explains_each_number
+holds "totals" explains_totals
+holds "missing totals, and the program that adds them" names_add_totals
 holds "wrong lengths in a show" explains_wrong_lengths
 holds "what is accepted" explains_what_is_accepted
 holds "cues and levels that come in a slice" explains_arrivals

@@ -5,7 +5,8 @@
  *   - while reading, one byte less and the library asks for more; other bytes behind the place change nothing; with a
  *     byte that is due in its place the fault is gone or comes later; and it is never before the byte that was damaged;
  *   - at a node, nothing is wrong before it or in its parts; with a node in its place that takes everything, the fault
- *     is gone or comes later.
+ *     is gone or comes later;
+ *   - in the totals of a patch, every count with every number of bytes behind it has its number and its place.
  *
  * The files are made with the tables of kinds, so these are tried first, by kinds.c.
  */
@@ -13,15 +14,24 @@
 
 enum { TRIALS = 1500 };
 
-enum tree { TYPE, SLICE, NODES };
+/* What a section holds; nodes have totals of zero behind them, and the others nothing. */
+enum tree { TYPE, SLICE, NODES, TOTALS };
 
-/* A file with the section that is tried: it is the last one. */
+/* A file with the section that is tried. */
 struct subject {
     enum tree tree;
     struct file type; /* that a slice is of */
     size_t begins;    /* the count of the section */
     struct made file;
 };
+
+static bool is_patch(const struct subject *subject) { return subject->tree == NODES || subject->tree == TOTALS; }
+
+/* How many bytes the count of the section says. */
+static size_t section_length(const struct subject *subject)
+{
+    return subject->file.bytes[subject->begins] * 256u + subject->file.bytes[subject->begins + 1];
+}
 
 static uint32_t number_of(const struct subject *subject)
 {
@@ -47,12 +57,15 @@ static struct byte_set due_of(const struct subject *subject, struct fault fault)
                                     : patch_due(file, fault);
 }
 
-/* Ends the file behind so many bytes of its last section, and writes the count anew. */
+/* Ends the file behind so many bytes of a section, and writes the count anew; behind nodes totals of zero follow. */
 static void cut_at(struct subject *subject, size_t begins, size_t length)
 {
     subject->file.bytes[begins] = (uint8_t)(length / 256);
     subject->file.bytes[begins + 1] = (uint8_t)(length % 256);
     subject->file.length = begins + 2 + length;
+    if (subject->tree == NODES) {
+        put_zero_totals(&subject->file);
+    }
 }
 
 /* Does a tree have a row for the kind, and does the row have parts? */
@@ -86,13 +99,12 @@ static bool is_left_over(uint32_t number)
 /* Appends a random byte that the library does not refuse; the answer is the number of the file that ends with it. */
 static uint32_t append_byte(struct subject *subject)
 {
-    size_t length = subject->file.length - subject->begins - 2;
+    size_t length = section_length(subject);
     uint32_t number;
     do {
-        subject->file.bytes[subject->file.length] = draw_kind(subject->tree);
+        subject->file.bytes[subject->begins + 2 + length] = draw_kind(subject->tree);
         cut_at(subject, subject->begins, length + 1);
         number = number_of(subject);
-        subject->file.length -= is_refused_kind(number);
     } while (is_refused_kind(number));
     return number;
 }
@@ -102,8 +114,9 @@ static uint32_t grow(struct subject *subject)
 {
     enum { LONGEST = 60 };
     uint32_t number;
+    cut_at(subject, subject->begins, 0);
     do {
-        if (subject->file.length > subject->begins + 2 + LONGEST || subject->file.length == subject->begins) {
+        if (section_length(subject) > LONGEST) {
             cut_at(subject, subject->begins, 0);
         }
         number = append_byte(subject);
@@ -122,15 +135,18 @@ static bool is_later(struct fault now, struct fault before)
            (too_large && now.byte == before.byte);
 }
 
+/* The tree in a section of a patch. */
+static const enum tree section_trees[SECTIONS] = {TYPE, NODES, TOTALS};
+
 /* One byte less: the library asks for more, or has a whole tree and nothing left over. */
 static void try_shorter(struct subject subject, struct fault fault)
 {
     struct file whole = file_of(&subject.file);
     struct subject shorter = subject;
-    cut_at(&shorter, fault.section, fault.byte - fault.section - 2);
-    if (fault.section != subject.begins) {
-        shorter.tree = TYPE;
+    if (is_patch(&subject)) {
+        shorter.tree = section_trees[fault.section];
     }
+    cut_at(&shorter, fault.begins, fault.byte - fault.begins - 2);
     uint32_t number = number_of(&shorter);
     expect(number != fault.number, "a shorter cut gives the number too", whole);
     expect(is_cut_short(number) != is_left_over(fault.number), "a shorter cut has another fault", whole);
@@ -140,8 +156,8 @@ static void try_shorter(struct subject subject, struct fault fault)
 static void try_other_bytes_behind(struct subject subject, struct fault fault, struct patch_tree *tree)
 {
     struct file whole = file_of(&subject.file);
-    struct file rest = {whole.bytes + fault.section, whole.length - fault.section};
-    for (size_t byte = fault.byte + 1; byte < fault.section + 2 + section_of(rest).length; byte++) {
+    struct file rest = {whole.bytes + fault.begins, whole.length - fault.begins};
+    for (size_t byte = fault.byte + 1; byte < fault.begins + 2 + section_of(rest).length; byte++) {
         subject.file.bytes[byte] = (uint8_t)draw(256);
     }
     struct fault now = fault_of(&subject, tree);
@@ -164,9 +180,9 @@ static void try_due(struct subject subject, struct fault fault, struct patch_tre
     if (fault.at == AT_SECTION_END) {
         memmove(subject.file.bytes + fault.byte + 1, subject.file.bytes + fault.byte, whole.length - fault.byte);
         subject.file.length++;
-        size_t count = fault.byte + 1 - fault.section - 2;
-        subject.file.bytes[fault.section] = (uint8_t)(count / 256);
-        subject.file.bytes[fault.section + 1] = (uint8_t)(count % 256);
+        size_t count = fault.byte + 1 - fault.begins - 2;
+        subject.file.bytes[fault.begins] = (uint8_t)(count / 256);
+        subject.file.bytes[fault.begins + 1] = (uint8_t)(count % 256);
     }
     subject.file.bytes[fault.byte] = (uint8_t)byte;
     expect(is_later(fault_of(&subject, tree), fault), "a due byte does not help", file_of(&subject.file));
@@ -187,14 +203,25 @@ static void try_slice_node(const struct subject *subject, struct fault fault)
     }
 }
 
+/* The front of the section that has the fault; of a patch that is read whole, that of its totals. */
+static size_t front_of(const struct subject *subject, struct fault fault)
+{
+    struct file file = file_of(&subject->file);
+    bool is_read = fault.number == WOSTHILE_ACCEPTED || fault.at == AT_NODE;
+    enum section section = is_patch(subject) && is_read ? TOTALS_SECTION : fault.section;
+    if (subject->tree == SLICE) {
+        return slice_front(subject->type, file);
+    }
+    return section == TOTALS_SECTION  ? totals_front(file)
+           : section == NODES_SECTION ? nodes_front(file)
+                                      : type_front(file);
+}
+
 /* The front that is read without a fault ends where the fault is, or with the section. */
 static void try_front(const struct subject *subject, struct fault fault)
 {
     struct file file = file_of(&subject->file);
-    size_t front = subject->tree == SLICE ? slice_front(subject->type, file) : type_front(file);
-    if (subject->tree == NODES && (fault.number == WOSTHILE_ACCEPTED || fault.section > 0)) {
-        front = nodes_front(file);
-    }
+    size_t front = front_of(subject, fault);
     bool at_place = fault.at == AT_BYTE || fault.at == AT_SECTION_END || fault.at == AT_BEHIND;
     if (fault.number == WOSTHILE_ACCEPTED || fault.at == AT_NODE) {
         expect(front == file.length, "a file that is read whole has a shorter front", file);
@@ -240,7 +267,9 @@ static void try_good_node(struct subject subject, const struct patch_tree *tree)
     static struct patch_tree now;
     struct file whole = file_of(&subject.file);
     const struct patch_node *node = &tree->nodes[tree->refused];
-    size_t behind = whole.length - node->end, length = node->byte + sizeof silent + behind;
+    size_t behind = tree->nodes[0].end - node->end, length = node->byte + sizeof silent + behind;
+    subject.tree = NODES;
+    subject.begins = tree->nodes[0].byte - 2;
     memmove(subject.file.bytes + node->byte + sizeof silent, subject.file.bytes + node->end, behind);
     memcpy(subject.file.bytes + node->byte, silent, sizeof silent);
     cut_at(&subject, subject.begins, length - subject.begins - 2);
@@ -271,7 +300,7 @@ static void try_fault_text(const struct subject *subject, struct fault fault)
     struct file file = file_of(&subject->file);
     if (subject->tree == TYPE) {
         type_fault_text(text, sizeof text, file);
-    } else if (subject->tree == NODES) {
+    } else if (is_patch(subject)) {
         patch_fault_text(text, sizeof text, file, NULL, NULL);
     } else if (lanes_start(&lanes, subject->type)) {
         slice_fault_text(text, sizeof text, &lanes, file, NULL, NULL);
@@ -282,8 +311,9 @@ static void try_fault_text(const struct subject *subject, struct fault fault)
     }
 }
 
-/* How often each place and each number has been met, so that a trial that no longer meets one is told. */
-static size_t met_places[AT_NODE + 1], met_numbers[256];
+/* How often each place, each number and each section of a patch has been met, so that it is told if one no longer is.
+ */
+static size_t met_places[AT_NODE + 1], met_numbers[256], met_sections[SECTIONS];
 
 static void try_place(struct subject *subject)
 {
@@ -295,12 +325,13 @@ static void try_place(struct subject *subject)
     try_front(subject, fault);
     met_numbers[fault.number]++;
     if (fault.number == WOSTHILE_ACCEPTED) {
-        if (subject->tree == NODES) {
+        if (is_patch(subject)) {
             try_accepted(&tree, file);
         }
         return;
     }
     met_places[fault.at]++;
+    met_sections[fault.section]++;
     if (fault.at == AT_BYTE) {
         try_shorter(*subject, fault);
         try_other_bytes_behind(*subject, fault, &other);
@@ -317,15 +348,15 @@ static void try_place(struct subject *subject)
     }
 }
 
-/* A file with one byte of its last section changed: nothing is wrong before that byte. */
+/* A file with one byte of its section changed: nothing is wrong before that byte. */
 static void try_one_byte(struct subject subject)
 {
     static struct patch_tree tree;
-    size_t length = subject.file.length - subject.begins - 2, place = subject.begins + 2 + draw((unsigned)length);
+    size_t place = subject.begins + 2 + draw((unsigned)section_length(&subject));
     subject.file.bytes[place] = (uint8_t)(draw(2) == 0 ? draw(256) : draw(20));
     struct fault fault = fault_of(&subject, &tree);
     bool reading = fault.number != WOSTHILE_ACCEPTED && fault.at != AT_NODE;
-    expect(!reading || (fault.byte >= place && fault.section == subject.begins), "a fault before the damage",
+    expect(!reading || (fault.byte >= place && fault.begins == subject.begins), "a fault before the damage",
            file_of(&subject.file));
     try_place(&subject);
 }
@@ -341,8 +372,56 @@ static void try_subject(struct subject *subject)
     try_place(&hurt);
 }
 
-/* Grows a type, a slice of it and nodes on it, and tries all three. */
-static void try_random_files(void)
+/* What the library says of totals with this count and so many bytes there; the number of the patch if they are whole.
+ */
+static uint32_t totals_number(size_t count, size_t there, uint32_t patch_number)
+{
+    enum { TOTALS_BYTES = WOSTHILE_TOTALS_SECTION - 2 };
+    if (there < count || count < TOTALS_BYTES) {
+        return WOSTHILE_FAULT_CUT_SHORT;
+    }
+    return count > TOTALS_BYTES || there > count ? WOSTHILE_FAULT_LEFT_OVER : patch_number;
+}
+
+/* A patch with a third section of another count and other bytes, which are no kinds; its fault is there. */
+static void try_totals_of(struct subject subject, size_t count, size_t there, uint32_t due)
+{
+    static struct patch_tree tree;
+    subject.file.bytes[subject.begins] = 0;
+    subject.file.bytes[subject.begins + 1] = (uint8_t)count;
+    memset(subject.file.bytes + subject.begins + 2, 255, there);
+    subject.file.length = subject.begins + 2 + there;
+    struct fault fault = fault_of(&subject, &tree);
+    bool reading = fault.number == WOSTHILE_FAULT_CUT_SHORT || fault.number == WOSTHILE_FAULT_LEFT_OVER;
+    expect(fault.number == due, "totals have another number", file_of(&subject.file));
+    expect(!reading || (fault.section == TOTALS_SECTION && fault.begins == subject.begins), "a fault before the totals",
+           file_of(&subject.file));
+    try_place(&subject);
+}
+
+/* Cuts the third section of a patch at every byte, and gives it every count around that of totals. */
+static void try_totals(const struct subject *nodes)
+{
+    struct subject subject = *nodes;
+    uint32_t number = number_of(nodes);
+    subject.tree = TOTALS;
+    subject.begins = nodes->file.length - WOSTHILE_TOTALS_SECTION;
+    for (size_t count = 0; count < 12; count++) {
+        for (size_t there = 0; there < 12; there++) {
+            try_totals_of(subject, count, there, totals_number(count, there, number));
+        }
+    }
+    for (subject.file.length = subject.begins; subject.file.length < subject.begins + 2; subject.file.length++) {
+        expect(number_of(&subject) == WOSTHILE_FAULT_CUT_SHORT, "missing totals", file_of(&subject.file));
+        expect(lacks_totals_alone(file_of(&subject.file)) ==
+                   (number == WOSTHILE_ACCEPTED && subject.file.length == subject.begins),
+               "totals that alone are missing", file_of(&subject.file));
+        try_place(&subject);
+    }
+}
+
+/* Grows a type, a slice of it and nodes on it, and tries all three; with some nodes also other totals. */
+static void try_random_files(bool with_totals)
 {
     struct subject type = {.tree = TYPE};
     grow(&type);
@@ -353,6 +432,9 @@ static void try_random_files(void)
     try_subject(&type);
     try_subject(&slice);
     try_subject(&nodes);
+    if (with_totals) {
+        try_totals(&nodes);
+    }
 }
 
 /* A section made of a front, again and again, and an end: a tree that is too large. */
@@ -398,9 +480,9 @@ static void try_large(const struct repeated *large)
     }
     subject.file.length = subject.begins + 2;
     append_front(&subject, large);
-    memset(subject.file.bytes + subject.file.length, large->times == 1 ? WOSTHILE_TYPE_BESIDE : 0, END);
     size_t front = subject.file.length - subject.begins - 2;
     for (size_t end = 0; end < END; end++) {
+        memset(subject.file.bytes + subject.begins + 2 + front, large->times == 1 ? WOSTHILE_TYPE_BESIDE : 0, end);
         cut_at(&subject, subject.begins, front + end);
         try_place(&subject);
     }
@@ -418,6 +500,8 @@ static void expect_all_met(void)
 {
     static const uint8_t numbers[] = {0, 1, 2, 3, 4, 5, 6, 7, 11, 12, 13, 14, 30};
     static const uint8_t places[] = {AT_CUT_COUNT, AT_LARGE_COUNT, AT_SECTION_END, AT_BYTE, AT_BEHIND, AT_NODE};
+    static const uint8_t sections[] = {FIRST_SECTION, NODES_SECTION, TOTALS_SECTION};
+    expect_met("a section was not met", met_sections, sections, sizeof sections);
     expect_met("a number was not met", met_numbers, numbers, sizeof numbers);
     expect_met("a place was not met", met_places, places, sizeof places);
 }
@@ -433,7 +517,7 @@ int main(int count, char **words)
 {
     program_begin("faults\n\nTries the places of faults.\n", count, words);
     for (unsigned trial = 0; trial < TRIALS; trial++) {
-        try_random_files();
+        try_random_files(trial % 50 == 0);
     }
     try_large_trees();
     expect_all_met();

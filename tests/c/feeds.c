@@ -5,7 +5,10 @@
  */
 #include "bytes.h"
 
-/* Output and patch left count if the number is 0; on a refusal both counts are 0. */
+/*
+ * Output and patch left count if the number is 0; on a refusal both counts are 0. Neither patch of a row has totals:
+ * what they are at the start is told where the row is tried, and what is left then has those and the counts.
+ */
 struct feed_row {
     const char *name;
     struct bytes patch, slice;
@@ -233,7 +236,12 @@ static const struct feed_row refused_rows[] = {
     {"unlisted type kind", PATCH_OF((19), (0)), FILE_OF(1), 2, NONE, NONE, COUNTS(0, 0)},
     {"unlisted node kind", PATCH_OF((1), (19)), FILE_OF(1), 2, NONE, NONE, COUNTS(0, 0)},
     {"bytes after the nodes", PATCH_OF((1), (0, 0)), FILE_OF(1), 3, NONE, NONE, COUNTS(0, 0)},
-    {"bytes after the patch", RAW(0, 1, 1, 0, 1, 0, 0), FILE_OF(1), 3, NONE, NONE, COUNTS(0, 0)},
+    {"no third section", RAW(0, 1, 1, 0, 1, 0), FILE_OF(1), 1, NONE, NONE, COUNTS(0, 0)},
+    {"third section of seven bytes", RAW(0, 1, 1, 0, 1, 0, 0, 7, 0, 0, 0, 0, 0, 0, 0), FILE_OF(1), 1, NONE, NONE,
+     COUNTS(0, 0)},
+    {"third section of nine bytes", RAW(0, 1, 1, 0, 1, 0, 0, 9, 0, 0, 0, 0, 0, 0, 0, 0, 0), FILE_OF(1), 3, NONE, NONE,
+     COUNTS(0, 0)},
+    {"bytes after the patch", RAW(0, 1, 1, 0, 1, 0, TOTALS(0, 0), 0), FILE_OF(1), 3, NONE, NONE, COUNTS(0, 0)},
     {"silent is not nullable", PATCH_OF((1), (1, 3, 0, 0)), FILE_OF(1), 6, NONE, NONE, COUNTS(0, 0)},
     {"left on a sequence", PATCH_OF((3, 1, 1), (5)), FILE_OF(5, 1), 7, NONE, NONE, COUNTS(0, 0)},
     {"a node that the slice does not reach", PATCH_OF((3, 1, 1), (9, 0, 5)), FILE_OF(5, 1), 7, NONE, NONE,
@@ -272,6 +280,11 @@ static const struct feed_row refused_rows[] = {
     {"the first fault of the slice, 12 and then 14", PATCH_OF((4, 1, 1), (0)), FILE_OF(7, 200, 5), 12, NONE, NONE,
      COUNTS(0, 0)},
     {"the first fault of the slice, 14 and then 13", PATCH_OF((1), (0)), FILE_OF(3, 1), 14, NONE, NONE, COUNTS(0, 0)},
+
+    {"a total that is full", COUNTED_PATCH_OF((1), (0), WOSTHILE_TOTAL_MAX, 0), FILE_OF(2), 31, NONE, NONE,
+     COUNTS(0, 0)},
+    {"the slice before the totals", COUNTED_PATCH_OF((1), (0), WOSTHILE_TOTAL_MAX, 0), FILE_OF(2, 2), 13, NONE, NONE,
+     COUNTS(0, 0)},
 };
 
 static void count_feed(bool holds, const char *name, size_t output_room, size_t left_room)
@@ -316,7 +329,7 @@ static size_t next_room(size_t room, size_t needed)
 }
 
 /* Each buffer at all of these lengths while the other is one short, exact or long; neither, and both one short. */
-static void check_feed(const struct feed_row *row)
+static void check_all_rooms(const struct feed_row *row)
 {
     size_t output = row->output.count, left = row->left.count, most = WOSTHILE_PATCH_FILE_MAX;
     for (size_t room = 0; room < output + 1500; room = next_room(room, output)) {
@@ -332,6 +345,29 @@ static void check_feed(const struct feed_row *row)
     check_rooms(row, 0, 0);
 }
 
+/* The row with these totals at the start; what is left has more of each, by the counts. */
+static void check_feed_from(const struct feed_row *row, struct counts start)
+{
+    struct feed_row from = *row;
+    from.patch = with_totals(row->patch, start);
+    from.left = with_totals(row->left, sum_of(start, row->counts));
+    check_all_rooms(&from);
+    struct bytes files[] = {from.patch, from.left};
+    release(files, sizeof files / sizeof files[0]);
+}
+
+/* A row that is refused is tried as it stands, an accepted one from no totals and from others. */
+static void check_feed(const struct feed_row *row)
+{
+    const struct counts others = COUNTS(0x01fe02ff, 0x8000ffff);
+    if (row->number != WOSTHILE_ACCEPTED) {
+        check_all_rooms(row);
+        return;
+    }
+    check_feed_from(row, nothing_counted);
+    check_feed_from(row, others);
+}
+
 /* A feed with files of many bytes, all of which are released. */
 static void check_large(struct feed_row row)
 {
@@ -340,7 +376,7 @@ static void check_large(struct feed_row row)
     release(files, sizeof files / sizeof files[0]);
 }
 
-/* The longest files of all: an output of 513 bytes, and a patch of 8482, fed nothing, that is left as it was. */
+/* The longest files of all: an output of 513 bytes, and a patch of 8492, fed nothing, that is left as it was. */
 static void check_longest(void)
 {
     const struct bytes lane = RAW(4, 2), level = RAW(2), pass = RAW(0), none = NONE, spent_lane = RAW(4, 0);
@@ -458,7 +494,10 @@ static void check_limits(void)
                                   13, none, none, COUNTS(0, 0)});
 }
 
-/* One feed of a run, its slice and what it answers; the room is that of the buffer for the patch left. */
+/*
+ * One feed of a run, its slice and what it answers; the room is that of the buffer for the patch left. The patch left
+ * has the totals of the whole run so far.
+ */
 struct run_step {
     struct bytes slice;
     size_t room;
@@ -471,32 +510,37 @@ struct run_step {
 static const struct bytes run_start = PATCH_OF((3, 1, 4, 1, 2), (10, 14, 9, 2, 0));
 
 static const struct run_step run_steps[] = {
-    {FILE_OF(5, 1), 8482, 0, FILE_OF(6, 2, 5, 1), PATCH_OF((3, 1, 4, 1, 2), (10, 0, 0)), COUNTS(0, 1)},
-    {FILE_OF(7, 1, 1), 8482, 14, NONE, NONE, COUNTS(0, 0)},
-    {FILE_OF(5, 2), 11, 20, NONE, NONE, COUNTS(0, 0)},
-    {FILE_OF(5, 2), 12, 0, FILE_OF(5, 2), PATCH_OF((3, 0, 4, 1, 2), (10, 0, 0)), COUNTS(1, 1)},
-    {FILE_OF(6, 2, 7, 2, 3), 8482, 14, NONE, NONE, COUNTS(0, 0)},
-    {FILE_OF(6, 0, 7, 2, 3), 8482, 0, FILE_OF(6, 0, 7, 2, 3), PATCH_OF((4, 0, 2), (10, 0, 0)), COUNTS(1, 1)},
-    {FILE_OF(6, 0, 7, 2, 3), 8482, 14, NONE, NONE, COUNTS(0, 0)},
-    {FILE_OF(7, 0, 4, 1, 44), 8482, 0, FILE_OF(7, 0, 4, 1, 44), PATCH_OF((4, 0, 0), (10, 0, 0)), COUNTS(1, 1)},
-    {FILE_OF(7, 0, 0), 8482, 0, FILE_OF(7, 0, 0), PATCH_OF((4, 0, 0), (10, 0, 0)), COUNTS(0, 0)},
+    {FILE_OF(5, 1), WOSTHILE_PATCH_FILE_MAX, 0, FILE_OF(6, 2, 5, 1),
+     COUNTED_PATCH_OF((3, 1, 4, 1, 2), (10, 0, 0), 0, 1), COUNTS(0, 1)},
+    {FILE_OF(7, 1, 1), WOSTHILE_PATCH_FILE_MAX, 14, NONE, NONE, COUNTS(0, 0)},
+    {FILE_OF(5, 2), 21, 20, NONE, NONE, COUNTS(0, 0)},
+    {FILE_OF(5, 2), 22, 0, FILE_OF(5, 2), COUNTED_PATCH_OF((3, 0, 4, 1, 2), (10, 0, 0), 1, 2), COUNTS(1, 1)},
+    {FILE_OF(6, 2, 7, 2, 3), WOSTHILE_PATCH_FILE_MAX, 14, NONE, NONE, COUNTS(0, 0)},
+    {FILE_OF(6, 0, 7, 2, 3), WOSTHILE_PATCH_FILE_MAX, 0, FILE_OF(6, 0, 7, 2, 3),
+     COUNTED_PATCH_OF((4, 0, 2), (10, 0, 0), 2, 3), COUNTS(1, 1)},
+    {FILE_OF(6, 0, 7, 2, 3), WOSTHILE_PATCH_FILE_MAX, 14, NONE, NONE, COUNTS(0, 0)},
+    {FILE_OF(7, 0, 4, 1, 44), WOSTHILE_PATCH_FILE_MAX, 0, FILE_OF(7, 0, 4, 1, 44),
+     COUNTED_PATCH_OF((4, 0, 0), (10, 0, 0), 3, 4), COUNTS(1, 1)},
+    {FILE_OF(7, 0, 0), WOSTHILE_PATCH_FILE_MAX, 0, FILE_OF(7, 0, 0), COUNTED_PATCH_OF((4, 0, 0), (10, 0, 0), 3, 4),
+     COUNTS(0, 0)},
 };
 
 /* A welcome, then one of two skies: a comet, or a lamp in place of which the patch sends a cue. */
 static const struct bytes choice_start = PATCH_OF((3, 1, 5, 1, 2), (9, 0, 15, 0, 2));
 
 static const struct run_step choice_steps[] = {
-    {FILE_OF(8), 8482, 14, NONE, NONE, COUNTS(0, 0)},
-    {FILE_OF(6, 2, 8), 8482, 0, FILE_OF(6, 2, 1), PATCH_OF((5, 1, 2), (15, 0, 2)), COUNTS(1, 1)},
-    {FILE_OF(8), 8482, 0, FILE_OF(1), PATCH_OF((5, 1, 2), (15, 0, 2)), COUNTS(0, 0)},
-    {FILE_OF(9, 3), 8482, 14, NONE, NONE, COUNTS(0, 0)},
-    {FILE_OF(15), 8482, 12, NONE, NONE, COUNTS(0, 0)},
-    {FILE_OF(9, 1), 5, 20, NONE, NONE, COUNTS(0, 0)},
-    {FILE_OF(9, 1), 6, 0, FILE_OF(1), PATCH_OF((1), (0)), COUNTS(0, 0)},
-    {FILE_OF(8), 8482, 14, NONE, NONE, COUNTS(0, 0)},
-    {FILE_OF(9, 2), 8482, 14, NONE, NONE, COUNTS(0, 0)},
-    {FILE_OF(10, 3), 8482, 14, NONE, NONE, COUNTS(0, 0)},
-    {FILE_OF(2), 8482, 0, FILE_OF(2), PATCH_OF((0), (0)), COUNTS(1, 1)},
+    {FILE_OF(8), WOSTHILE_PATCH_FILE_MAX, 14, NONE, NONE, COUNTS(0, 0)},
+    {FILE_OF(6, 2, 8), WOSTHILE_PATCH_FILE_MAX, 0, FILE_OF(6, 2, 1), COUNTED_PATCH_OF((5, 1, 2), (15, 0, 2), 1, 1),
+     COUNTS(1, 1)},
+    {FILE_OF(8), WOSTHILE_PATCH_FILE_MAX, 0, FILE_OF(1), COUNTED_PATCH_OF((5, 1, 2), (15, 0, 2), 1, 1), COUNTS(0, 0)},
+    {FILE_OF(9, 3), WOSTHILE_PATCH_FILE_MAX, 14, NONE, NONE, COUNTS(0, 0)},
+    {FILE_OF(15), WOSTHILE_PATCH_FILE_MAX, 12, NONE, NONE, COUNTS(0, 0)},
+    {FILE_OF(9, 1), 15, 20, NONE, NONE, COUNTS(0, 0)},
+    {FILE_OF(9, 1), 16, 0, FILE_OF(1), COUNTED_PATCH_OF((1), (0), 1, 1), COUNTS(0, 0)},
+    {FILE_OF(8), WOSTHILE_PATCH_FILE_MAX, 14, NONE, NONE, COUNTS(0, 0)},
+    {FILE_OF(9, 2), WOSTHILE_PATCH_FILE_MAX, 14, NONE, NONE, COUNTS(0, 0)},
+    {FILE_OF(10, 3), WOSTHILE_PATCH_FILE_MAX, 14, NONE, NONE, COUNTS(0, 0)},
+    {FILE_OF(2), WOSTHILE_PATCH_FILE_MAX, 0, FILE_OF(2), COUNTED_PATCH_OF((0), (0), 2, 2), COUNTS(1, 1)},
 };
 
 /* Two patch buffers: each feed is handed the one, and writes the other; they are swapped if it was accepted. */
@@ -527,23 +571,27 @@ static void check_run(const char *name, struct bytes start, const struct run_ste
 static void check_shared_memory(void)
 {
     /* Pass on a cue; its first section is the slice in which the cue has not come. */
-    const uint8_t patch[] = {0, 1, 1, 0, 1, 0};
-    uint8_t output[4] = {9, 9, 9, 9}, left[7] = {9, 9, 9, 9, 9, 9, 9};
-    wosthile_fed fed = wosthile_feed(patch, 6, patch, 3, output, 4, left, 7);
-    bool right = fed.number == 0 && fed.output == 3 && fed.patch == 6 && output[3] == 9 && left[6] == 9;
-    right = right && same_counts(counts_of(fed), nothing_counted);
-    count(right && memcmp(output, patch, 3) == 0 && memcmp(left, patch, 6) == 0, "Feed", "the slice in the patch", 0);
+    const uint8_t patch[] = {0, 1, 1, 0, 1, 0, TOTALS(0, 0)};
+    uint8_t output[4], left[sizeof patch + 1];
+    const size_t length = sizeof patch;
     memset(output, 9, sizeof output);
     memset(left, 9, sizeof left);
-    fed = wosthile_feed(patch, 6, patch, 6, output, 4, left, 7);
+    wosthile_fed fed = wosthile_feed(patch, length, patch, 3, output, 4, left, sizeof left);
+    bool right = fed.number == 0 && fed.output == 3 && fed.patch == length && output[3] == 9 && left[length] == 9;
+    right = right && same_counts(counts_of(fed), nothing_counted);
+    count(right && memcmp(output, patch, 3) == 0 && memcmp(left, patch, length) == 0, "Feed", "the slice in the patch",
+          0);
+    memset(output, 9, sizeof output);
+    memset(left, 9, sizeof left);
+    fed = wosthile_feed(patch, length, patch, length, output, 4, left, sizeof left);
     count(is_refusal(fed, 13) && output[0] == 9 && left[0] == 9, "Feed", "patch and slice are the same bytes", 0);
-    fed = wosthile_feed(patch, 0, patch, 3, output, 4, left, 7);
+    fed = wosthile_feed(patch, 0, patch, 3, output, 4, left, sizeof left);
     count(is_refusal(fed, 1) && output[0] == 9 && left[0] == 9, "Feed", "a patch of length 0", 0);
-    fed = wosthile_feed(patch, 6, patch, 0, output, 4, left, 7);
+    fed = wosthile_feed(patch, length, patch, 0, output, 4, left, sizeof left);
     count(is_refusal(fed, 11) && output[0] == 9 && left[0] == 9, "Feed", "a slice of length 0", 0);
-    fed = wosthile_feed(patch, 6, patch, 3, output, 0, left, 7);
+    fed = wosthile_feed(patch, length, patch, 3, output, 0, left, sizeof left);
     count(is_refusal(fed, 20) && output[0] == 9 && left[0] == 9, "Feed", "an output buffer of length 0", 0);
-    fed = wosthile_feed(patch, 6, patch, 3, output, 4, left, 0);
+    fed = wosthile_feed(patch, length, patch, 3, output, 4, left, 0);
     count(is_refusal(fed, 20) && output[0] == 9 && left[0] == 9, "Feed", "a patch buffer of length 0", 0);
 }
 

@@ -4,10 +4,11 @@
  *   formats PAGE
  *
  * A fence "example" has a call with its answer on each line. Where that gives no counts, the library's are held to the
- * kinds 2 and 4 of the slices. A fence "dump" is a show file in hexadecimal, the table whose first column is "Bytes"
- * explains it, and a fence "run" is what the program prints for it. The page says how many of all these it has, and it
- * has to have an example for every number, for every kind that the library knows and for every operation: so none is
- * lost by a changed fence, and a new kind is not forgotten.
+ * kinds 2 and 4 of the slices; the totals of a patch are bytes of its file, and so are always given. A fence "dump" is
+ * a show file in hexadecimal, the table whose first column is "Bytes" explains it, and a fence "run" is what the
+ * program prints for it. The page says how many of all these it has, and it has to have an example for every number,
+ * for every kind that the library knows and for every operation: so none is lost by a changed fence, and a new kind is
+ * not forgotten.
  */
 #include "bytes.h"
 
@@ -133,12 +134,37 @@ static bool take_section(const char **at, struct built *file)
     return true;
 }
 
+/* The rest of [1 2], the section of the totals of a patch: what arrived and what was sent, four bytes each. */
+static bool take_totals(const char **at, struct built *file)
+{
+    size_t arrived, sent;
+    if (!take_number(at, WOSTHILE_TOTAL_MAX, &arrived) || !take_number(at, WOSTHILE_TOTAL_MAX, &sent) ||
+        !take_word(at, "]")) {
+        return false;
+    }
+    const uint8_t section[] = {TOTALS(arrived, sent)};
+    bool fits = true;
+    for (size_t place = 0; fits && place < sizeof section; place++) {
+        fits = add_byte(file, section[place]);
+    }
+    return fits;
+}
+
+/* The next piece of a file: a section, the totals, or bytes as they are. */
+static bool take_piece(const char **at, struct built *file)
+{
+    if (take_word(at, "(")) {
+        return take_section(at, file);
+    }
+    return take_word(at, "[") ? take_totals(at, file) : take_bytes(at, file);
+}
+
 static bool take_file(const char **at, struct built *file)
 {
     file->count = 0;
     for (;;) {
         size_t before = file->count;
-        bool read = take_word(at, "(") ? take_section(at, file) : take_bytes(at, file);
+        bool read = take_piece(at, file);
         if (!read || file->count == before) {
             return read && before > 0;
         }
@@ -650,15 +676,23 @@ static void compare_run(struct page *page)
 
 /* A kind is listed if the library does not refuse it as unlisted. */
 
-static bool patch_listed(const uint8_t patch[6])
+static bool patch_listed(struct bytes patch)
 {
     uint8_t type[WOSTHILE_TYPE_FILE_MAX];
-    return wosthile_check(patch, 6, type, sizeof type).number != WOSTHILE_FAULT_UNLISTED;
+    return wosthile_check(patch.at, patch.count, type, sizeof type).number != WOSTHILE_FAULT_UNLISTED;
 }
 
-static bool type_kind_listed(uint8_t kind) { return patch_listed((const uint8_t[]){0, 1, kind, 0, 1, 0}); }
+static bool type_kind_listed(uint8_t kind)
+{
+    const struct bytes patch = PATCH_OF((kind), (0));
+    return patch_listed(patch);
+}
 
-static bool node_kind_listed(uint8_t kind) { return patch_listed((const uint8_t[]){0, 1, 0, 0, 1, kind}); }
+static bool node_kind_listed(uint8_t kind)
+{
+    const struct bytes patch = PATCH_OF((0), (kind));
+    return patch_listed(patch);
+}
 
 static bool slice_kind_listed(uint8_t kind)
 {

@@ -63,7 +63,8 @@ static const struct example number_examples[] = {
     [WOSTHILE_FAULT_CUT_SHORT] = {PATCH_OF((1), (4, 0)), FILE_OF(1)},
     [WOSTHILE_FAULT_UNLISTED] = {PATCH_OF((200), (0)), FILE_OF(1)},
     [WOSTHILE_FAULT_LEFT_OVER] = {PATCH_OF((1), (0, 0)), FILE_OF(1)},
-    [WOSTHILE_FAULT_TYPE_TOO_LARGE] = {RAW(1, 0, FOUR_TIMES(FOUR_TIMES(FOUR_TIMES(FOUR_TIMES(3)))), 0, 1, 0),
+    [WOSTHILE_FAULT_TYPE_TOO_LARGE] = {RAW(1, 0, FOUR_TIMES(FOUR_TIMES(FOUR_TIMES(FOUR_TIMES(3)))), 0, 1, 0,
+                                           TOTALS(0, 0)),
                                        FILE_OF(1)},
     [WOSTHILE_FAULT_TOO_MANY_NODES] = {PATCH_OF((1), (FOUR_TIMES(FOUR_TIMES(FOUR_TIMES(10))))), FILE_OF(1)},
     [WOSTHILE_FAULT_NOT_NULLABLE] = {PATCH_OF((1), (1, 1)), FILE_OF(1)},
@@ -74,6 +75,7 @@ static const struct example number_examples[] = {
     [WOSTHILE_FAULT_SLICE_MISPLACED] = {PATCH_OF((1), (0)), FILE_OF(3)},
     [WOSTHILE_FAULT_NO_ROOM] = {PATCH_OF((1), (0)), FILE_OF(1)},
     [WOSTHILE_FAULT_OUTPUTS_DIFFER] = {PATCH_OF((5, 1, 2), (15, 0, 0)), FILE_OF(8)},
+    [WOSTHILE_FAULT_TOTAL_TOO_LARGE] = {COUNTED_PATCH_OF((1), (0), WOSTHILE_TOTAL_MAX, 0), FILE_OF(2)},
 };
 
 /*
@@ -156,6 +158,7 @@ static bool names_number(unsigned number)
     case WOSTHILE_FAULT_SLICE_MISPLACED:
     case WOSTHILE_FAULT_NO_ROOM:
     case WOSTHILE_FAULT_OUTPUTS_DIFFER:
+    case WOSTHILE_FAULT_TOTAL_TOO_LARGE:
         return true;
     }
     return false;
@@ -249,7 +252,7 @@ static void check_numbers(void)
  * The answers of this interface, and where the parts of each are. Whoever changes one of these changes WOSTHILE_ABI,
  * without which a program that was compiled before would read them wrongly.
  */
-enum { INTERFACE = 2 };
+enum { INTERFACE = 3 };
 
 enum { WRITTEN_BYTES = 16, WRITTEN_LENGTH = 8 };
 enum { ADMITTED_BYTES = 12, ADMITTED_COMPLETE = 4, ADMITTED_ARRIVED = 8 };
@@ -296,7 +299,7 @@ static void check_places(void)
 
     wosthile_fed fed =
         wosthile_feed(patch.at, patch.count, slice.at, slice.count, output, sizeof output, left, sizeof left);
-    right = part_of(&fed, 0, 4) == 0 && part_of(&fed, FED_OUTPUT, 8) == 13 && part_of(&fed, FED_PATCH, 8) == 12;
+    right = part_of(&fed, 0, 4) == 0 && part_of(&fed, FED_OUTPUT, 8) == 13 && part_of(&fed, FED_PATCH, 8) == 22;
     right = right && part_of(&fed, FED_ARRIVED, 4) == 3 && part_of(&fed, FED_SENT, 4) == 6;
     count(right, "Feed", "each part at its place", fed.sent);
     fed = wosthile_feed(patch.at, patch.count, cut.at, cut.count, output, sizeof output, left, sizeof left);
@@ -325,11 +328,28 @@ static void check_most_arrivals(void)
     release(files, sizeof files / sizeof files[0]);
 }
 
+/* The greatest total that the header names is reached and not passed, and its section is as long as it says. */
+static void check_greatest_total(void)
+{
+    static uint8_t output[WOSTHILE_SLICE_FILE_MAX], left[WOSTHILE_PATCH_FILE_MAX];
+    const struct bytes below = COUNTED_PATCH_OF((1), (0), WOSTHILE_TOTAL_MAX - 1, 7), slice = FILE_OF(2);
+    const struct bytes at = COUNTED_PATCH_OF((1), (0), WOSTHILE_TOTAL_MAX, 7), totals = RAW(TOTALS(0, 0));
+    count(WOSTHILE_TOTAL_MAX == UINT32_MAX, "the greatest total", "of four bytes", 0);
+    count(totals.count == WOSTHILE_TOTALS_SECTION, "the section of the totals", "its bytes", totals.count);
+    count(number_of_feed(at, slice, true) == WOSTHILE_FAULT_TOTAL_TOO_LARGE, "the greatest total", "is not passed", 0);
+    wosthile_fed fed =
+        wosthile_feed(below.at, below.count, slice.at, slice.count, output, sizeof output, left, sizeof left);
+    struct counts reached = totals_in((struct bytes){left, fed.patch});
+    count(fed.number == 0 && reached.arrived == WOSTHILE_TOTAL_MAX && reached.sent == 8, "the greatest total",
+          "is reached", reached.arrived);
+}
+
 int main(void)
 {
     check_sizes();
     check_places();
     check_most_arrivals();
+    check_greatest_total();
     count(wosthile_abi() == WOSTHILE_ABI, "interface", "the archive's and the header's", wosthile_abi());
     count(WOSTHILE_ABI_FUNCTION() == WOSTHILE_ABI, "interface", "the function named for it", WOSTHILE_ABI_FUNCTION());
     for (size_t family = 0; family < sizeof families / sizeof families[0]; family++) {

@@ -80,6 +80,7 @@ static uint32_t nodes_number(struct file input, const uint8_t *nodes, size_t cou
 {
     struct made patch = section(input.bytes, input.length);
     put(&patch, nodes, count);
+    put_zero_totals(&patch);
     return patch_number(file_of(&patch));
 }
 
@@ -109,7 +110,7 @@ static void try_shape(uint8_t kind)
     }
 }
 
-/* Does a node on a cue stay as it is when it is fed a slice of this kind? */
+/* Does a node on a cue stay as it is when it is fed a slice of this kind? The totals may change. */
 static bool stays(const uint8_t *nodes, size_t count, uint8_t slice_kind)
 {
     static const uint8_t cue = WOSTHILE_TYPE_CUE;
@@ -117,11 +118,11 @@ static bool stays(const uint8_t *nodes, size_t count, uint8_t slice_kind)
     struct made patch = section(&cue, 1), slice = section(&slice_kind, 1), left = {.length = 0};
     uint8_t output[WOSTHILE_SLICE_FILE_MAX];
     put(&patch, nodes, count);
+    put_zero_totals(&patch);
     left.length = wosthile_feed(patch.bytes, patch.length, slice.bytes, slice.length, output, sizeof output, left.bytes,
                                 sizeof left.bytes)
                       .patch;
-    return left.length == patch.length &&
-           memcmp(left.bytes + BEHIND_TYPE, patch.bytes + BEHIND_TYPE, patch.length - BEHIND_TYPE) == 0;
+    return left.length == patch.length && memcmp(left.bytes + BEHIND_TYPE, patch.bytes + BEHIND_TYPE, 2 + count) == 0;
 }
 
 /* A node that takes every input waits if an empty slice leaves it as it is, and one in which a cue comes does not. */

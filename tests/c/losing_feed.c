@@ -9,6 +9,8 @@
  *   arrived    does all, but of several cues and levels that came in a slice counts one
  *   sent       does all, but of several cues and levels that it sends counts one
  *   steps      does all, but counts crossings and choices with the cues and levels that came, however they come
+ *   totals     does all, but leaves the totals of the patch as they were, however slices come
+ *   feeds      does all, but adds one to the total of what arrived, whatever came
  *
  * Without it the feed is that of the library.
  */
@@ -22,7 +24,7 @@ wosthile_fed __real_wosthile_feed(const uint8_t *patch, size_t patch_len, const 
 wosthile_fed __wrap_wosthile_feed(const uint8_t *patch, size_t patch_len, const uint8_t *slice, size_t slice_len,
                                   uint8_t *output, size_t output_len, uint8_t *left, size_t left_len);
 
-enum loss { NOTHING, CROSSING, BEHIND, CHOICE, PATCH, ARRIVED, SENT, STEPS };
+enum loss { NOTHING, CROSSING, BEHIND, CHOICE, PATCH, ARRIVED, SENT, STEPS, TOTALS, FEEDS };
 
 /* An accepted slice as it is read, and as it is written anew. */
 struct copy {
@@ -107,11 +109,11 @@ static bool copy_slice(struct copy *copy, bool emptied)
 static enum loss chosen_loss(void)
 {
     static const char *const words[] = {
-        [CROSSING] = "crossing", [BEHIND] = "behind", [CHOICE] = "choice", [PATCH] = "patch",
-        [ARRIVED] = "arrived",   [SENT] = "sent",     [STEPS] = "steps"};
+        [CROSSING] = "crossing", [BEHIND] = "behind", [CHOICE] = "choice", [PATCH] = "patch", [ARRIVED] = "arrived",
+        [SENT] = "sent",         [STEPS] = "steps",   [TOTALS] = "totals", [FEEDS] = "feeds"};
     const char *word = getenv("LOSING");
     enum loss loss = word == NULL ? NOTHING : CROSSING;
-    while (loss != NOTHING && loss < STEPS && strcmp(word, words[loss]) != 0) {
+    while (loss != NOTHING && loss < FEEDS && strcmp(word, words[loss]) != 0) {
         loss++;
     }
     return loss;
@@ -145,12 +147,26 @@ static wosthile_fed miscounted(wosthile_fed fed, enum loss loss, const uint8_t *
     return fed;
 }
 
+/* Writes wrong totals at the end of the patch left: those of the patch fed, or with one arrival for the feed. */
+static void miscount_totals(enum loss loss, const uint8_t *fed_patch, size_t fed_length, uint8_t *left, size_t length)
+{
+    enum { BOTH = 8, ONE = 4 };
+    if (loss == TOTALS) {
+        memcpy(left + length - BOTH, fed_patch + fed_length - BOTH, BOTH);
+        return;
+    }
+    uint32_t arrived = wosthile_totals_of(fed_patch, fed_length).arrived + 1;
+    for (unsigned byte = 0; byte < ONE; byte++) {
+        left[length - BOTH + byte] = (uint8_t)(arrived >> 8 * (ONE - 1 - byte));
+    }
+}
+
 /* Puts `chain pass` before the nodes of a patch: it sends the same, and is another patch. */
 static size_t with_chain(uint8_t *patch, size_t length)
 {
     size_t nodes = 2 + patch[0] * 256u + patch[1];
-    size_t count = length - nodes;
-    memmove(patch + nodes + 4, patch + nodes + 2, count - 2);
+    size_t count = 2 + patch[nodes] * 256u + patch[nodes + 1];
+    memmove(patch + nodes + 4, patch + nodes + 2, length - nodes - 2);
     patch[nodes] = (uint8_t)(count / 256);
     patch[nodes + 1] = (uint8_t)(count % 256);
     patch[nodes + 2] = WOSTHILE_NODE_CHAIN;
@@ -168,6 +184,10 @@ wosthile_fed __wrap_wosthile_feed(const uint8_t *patch, size_t patch_len, const 
     }
     if (copy.loss == ARRIVED || copy.loss == SENT || copy.loss == STEPS) {
         return miscounted(fed, copy.loss, slice, slice_len);
+    }
+    if (copy.loss == TOTALS || copy.loss == FEEDS) {
+        miscount_totals(copy.loss, patch, patch_len, left, fed.patch);
+        return fed;
     }
     copy_slice(&copy, false);
     if (!copy.lost) {

@@ -8,6 +8,7 @@
 #include "deliveries.h"
 #include "faults.h"
 #include "program.h"
+#include "totals.h"
 
 #include <stdio.h>
 #include <string.h>
@@ -52,6 +53,13 @@ static inline void put(struct made *made, const uint8_t *bytes, size_t count)
     made->bytes[made->length + 1] = (uint8_t)(count % 256);
     memcpy(made->bytes + made->length + 2, bytes, count);
     made->length += 2 + count;
+}
+
+/* Appends totals of zero, with which a patch ends. */
+static inline void put_zero_totals(struct made *made)
+{
+    memcpy(made->bytes + made->length, totals_of_zero, sizeof totals_of_zero);
+    made->length += sizeof totals_of_zero;
 }
 
 static inline struct made section(const uint8_t *bytes, size_t count)

@@ -26,6 +26,9 @@ NODES = ["pass", "silent", "cue", "level", "both", "left", "right", "first", "se
 BOTH, THEN, CHAIN, CHOOSE = 4, 9, 10, 15
 UNLISTED_SLICE = 19
 
+# The bytes of the last section of a patch, with its count.
+TOTALS = 10
+
 
 def run(program, *words, status=0, stdout=subprocess.PIPE):
     """What a program writes to standard output and to the error stream."""
@@ -81,9 +84,10 @@ def section(contents):
     return bytes([len(contents) // 256, len(contents) % 256]) + bytes(contents)
 
 
-def write_show(name, types, nodes, slices=(), lanes="", end=b""):
+def write_show(name, types, nodes, slices=(), lanes="", end=b"", totals=bytes(8)):
     path = FOLDER / f"{name}.show"
-    path.write_bytes(section(section(types) + section(nodes)) + b"".join(section(section(s)) for s in slices) + end)
+    patch = section(types) + section(nodes) + section(totals)
+    path.write_bytes(section(patch) + b"".join(section(section(s)) for s in slices) + end)
     path.with_suffix(".lanes").write_text(lanes, encoding="utf-8")
     return path
 
@@ -92,7 +96,7 @@ def patch_of(show):
     stream = show.read_bytes()
     patch = stream[2:2 + stream[0] * 256 + stream[1]]
     type_end = 2 + patch[0] * 256 + patch[1]
-    return patch, list(patch[2:type_end]), list(patch[type_end + 2:])
+    return patch, list(patch[2:type_end]), list(patch[type_end + 2:-TOTALS])
 
 
 def names_of(show, side):
@@ -571,7 +575,28 @@ def patch_alone_is_drawn():
         no_overlap(alone)
     hint = "The file is a show and no patch"
     assert hint in run("diagram", "--patch", show, status=1)[1]
-    assert hint not in run("diagram", "--patch", "0 1 1 0 1 5", status=1)[1]
+    assert hint not in run("diagram", "--patch", "0 1 1 0 1 5 0 8" + 8 * " 0", status=1)[1]
+
+
+def missing_totals_are_told():
+    """A patch of before totals is refused by both, with the program that adds them; its show too."""
+    stream, patch = SHOWS[0].read_bytes(), patch_of(SHOWS[0])[0]
+    path, alone = FOLDER / "old.show", FOLDER / "old.patch"
+    path.write_bytes(section(patch[:-TOTALS]) + stream[2 + len(patch):])
+    alone.write_bytes(patch[:-TOTALS])
+    for words in ["timeline", path], ["diagram", path], ["diagram", "--patch", alone]:
+        drawn, told = run(*words, status=1)
+        assert drawn == b"" and "refused with 1" in told and "add_totals" in told, told
+
+
+def totals_change_nothing():
+    """What is drawn is the show, whatever its patch has counted before; what full totals refuse is marked."""
+    slices = [[1], [2], [0]]
+    drawn = [run(program, write_show("counted", [CUE], [0], slices, totals=totals))[0]
+             for program in ("timeline", "diagram") for totals in (bytes(8), bytes(range(8)))]
+    assert drawn[0] == drawn[1] and drawn[2] == drawn[3]
+    full = draw("timeline", write_show("full", [CUE], [0], slices, totals=b"\xff" * 8))
+    assert any("refused with 31: " in words for words in titles(full, "refused")), titles(full, "refused")
 
 
 def every_kind_is_drawn():
@@ -680,7 +705,8 @@ def main():
                  counts_can_be_read, counts_of_long_shows_are_added, lateness_is_told, lateness_is_in_its_lane,
                  late_crossings_are_told_from_lanes, choices_are_marked, open_choices_are_offered,
                  arrows_are_seen_beside_cues, long_names_are_whole, nodes_are_boxes, lanes_lead_to_their_names,
-                 chosen_parts_meet, patch_alone_is_drawn, every_kind_is_drawn, largest_patches_are_drawn,
+                 chosen_parts_meet, patch_alone_is_drawn, missing_totals_are_told, totals_change_nothing,
+                 every_kind_is_drawn, largest_patches_are_drawn,
                  documents_have_what_is_drawn, refused_patch_has_status_1, damaged_files_are_survived,
                  unusable_has_status_2]:
         try:

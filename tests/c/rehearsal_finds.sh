@@ -24,7 +24,8 @@ expect() {
 }
 
 # The right feed and wrong ones, with one show: try_show SHOW LOSING.. If steps count as cues and levels they do so in
-# every cut alike, so no cut makes a difference; what Admit counts does.
+# every cut alike, so no cut makes a difference; what Admit counts does. Nor does one if the totals stay as they were;
+# what Feed counts does. Counts of Feed that are wrong do not go with the totals either.
 try_show() {
     local losing
     expect 0 'are the same, byte for byte' "$1"
@@ -33,6 +34,11 @@ try_show() {
     done
     expect 1 '^Feed and Admit do not count the same' "$1" steps
     expect 1 'are the same, byte for byte' "$1" steps
+    expect 1 '^The totals do not go on as Feed counts' "$1" steps
+    expect 1 '^The totals do not go on as Feed counts' "$1" totals
+    expect 1 'are the same, byte for byte' "$1" totals
+    expect 1 'makes a difference' "$1" feeds
+    expect 1 '^The totals do not go on as Feed counts' "$1" feeds
 }
 
 for show in comet_to_saturn two_skies_evening lamp_fade; do
@@ -41,5 +47,5 @@ done
 for show in choose_a_sky_north choose_a_sky_south; do
     try_show "$show" crossing behind patch choice arrived sent
 done
-[ "$failed" -eq 0 ] && echo "the rehearsal finds seven wrong feeds, in five shows, and nothing wrong in the right one"
+[ "$failed" -eq 0 ] && echo "the rehearsal finds nine wrong feeds, in five shows, and nothing wrong in the right one"
 exit "$failed"

@@ -188,14 +188,15 @@ refused_patch() {
     return 1
 }
 
-# The patch file of a score, behind its length, and before its frames: patch_is BYTES SCORE
+# The patch file of a score, behind its length, and before its frames: the sections of its type and its nodes, and totals
+# of zero: patch_is SECTIONS SCORE
 patch_is() {
-    local length
+    local length patch="$1 $zeros"
     makes 0 <<<"$2 frames 1" || return 1
-    length=$(wc -w <<<"$1")
-    [ "$(bytes_of "$folder/made.show" | cut -d ' ' -f "1-$((length + 2))")" = "0 $length $1" ] && return 0
+    length=$(wc -w <<<"$patch")
+    [ "$(bytes_of "$folder/made.show" | cut -d ' ' -f "1-$((length + 2))")" = "0 $length $patch" ] && return 0
     bytes_of "$folder/made.show"
-    echo "'$2' is to give the patch $1"
+    echo "'$2' is to give the patch $patch"
     return 1
 }
 
@@ -226,7 +227,7 @@ joins_lines() {
 1 cue 3
 3 bytes 0 3 6 0 3
 4 level 4 7
-cut 2" && [ "$(bytes_of "$folder/made.show" | cut -d ' ' -f 15-)" = \
+cut 2" && [ "$(bytes_of "$folder/made.show" | cut -d ' ' -f 25-)" = \
         '0 10 0 8 6 7 2 4 1 44 5 2 0 4 0 2 5 0 0 5 0 3 6 0 3 0 5 0 3 4' ]
 }
 
@@ -251,7 +252,7 @@ chosen() {
     shift
     for lane in 2 3 4; do
         printf '%s\n' "${choices/frames 9/frames 1}" '1 cue "bell"' "1 cross to $lane" "$@" | makes 0 || return 1
-        [ "$(bytes_of "$folder/made.show" | cut -d ' ' -f 21-)" = "6 2 $bytes" ] && continue
+        [ "$(bytes_of "$folder/made.show" | cut -d ' ' -f 31-)" = "6 2 $bytes" ] && continue
         bytes_of "$folder/made.show"
         echo "'$*' is to give $bytes"
         return 1

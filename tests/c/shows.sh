@@ -36,20 +36,22 @@ prints_as_stored() {
         diff "$stored" - && diff "$messages" "$folder/messages"
 }
 
-# However the show is cut, the same is sent, as many arrive and are sent in all, and the same is owed at the end.
+# However the show is cut, the same is sent, as many arrive and are sent, the totals at the end are the same, and the same
+# is owed.
 sends_the_same() {
     local show=$1 seed
     sent "$show" --fast >"$folder/recorded"
-    grep -q '^The input is' "$folder/recorded" && grep -q '^Cues and levels: ' "$folder/recorded" || return 1
+    grep -q '^The input is' "$folder/recorded" && grep -q '^Cues and levels: ' "$folder/recorded" &&
+        grep -q '^In all, ' "$folder/recorded" || return 1
     for seed in 1 2 3 19 1000003; do
         sent "$show" --fast --seed "$seed" | diff "$folder/recorded" - || return 1
     done
 }
 
-# What the frame loop sends, how much arrived and was sent in all, and what is owed at the end. In one frame the lanes
-# decide the order, so it is left out; so are the counts of each second, which a late slice changes.
+# What the frame loop sends, how much arrived and was sent, the totals at the end, and what is owed. In one frame the
+# lanes decide the order, so it is left out; so are the counts of each second, which a late slice changes.
 sent() {
-    timeout 60 "$folder/frame_loop" "$@" | grep -E '^(    |The input|Cues and levels)' | sort
+    timeout 60 "$folder/frame_loop" "$@" | grep -E '^(    |The input|Cues and levels|In all, )' | sort
 }
 
 # What the frame loop has printed is on standard input: there is a line for each second, in order, of so many frames; it
@@ -116,23 +118,82 @@ second 3: 1 arrived in 60 slices, 2 sent
 second 4, only 1 frame: nothing arrived in 1 slice, nothing sent
 The show is over: 181 frames, 181 slices, 121 feeds, 60 refused.
 Cues and levels: 1 arrived, 2 sent.
+In all, by the patch's totals: 1 arrived, 2 sent.
 The input is complete: nothing is owed.
 END
 }
 
-# Of one show three programs tell the same counts, and the rehearsal those of every cut.
+# Of one show three programs tell the same counts and the same totals, and the rehearsal those of every cut.
 counts_the_same() {
-    local show=$1
-    "$folder/frame_loop" "$show" --fast | grep '^Cues and levels: ' >"$folder/told" &&
-        "$folder/explain" "$show" | grep '^Cues and levels: ' | diff "$folder/told" - &&
-        "$folder/rehearsal" "$show" 3 | sed -n 's/^Cues and levels, in every cut:/Cues and levels:/p' |
+    local show=$1 lines='^Cues and levels: |^In all, '
+    "$folder/frame_loop" "$show" --fast | grep -E "$lines" >"$folder/told" && [ "$(wc -l <"$folder/told")" -eq 2 ] &&
+        "$folder/explain" "$show" | grep -E "$lines" | diff "$folder/told" - &&
+        "$folder/rehearsal" "$show" 3 | sed 's/^Cues and levels, in every cut:/Cues and levels:/' | grep -E "$lines" |
         diff "$folder/told" -
+}
+
+# A show with other totals in its patch: with_totals ARRIVED SENT SHOW, each total as four bytes for printf
+with_totals() {
+    local show=$3 end
+    end=$(patch_end "$show")
+    head -c "$((end - 8))" "$show"
+    # shellcheck disable=SC2059 # the totals are a format
+    printf "$1$2"
+    tail -c "+$((end + 1))" "$show"
+}
+
+# The totals go on from those that the patch has at the start: 1000 arrived and 70000 sent more, and nothing else changes.
+totals_go_on() {
+    local show=$1 program
+    with_totals '\0\0\3\350' '\0\1\21\160' "$show" >"$folder/later.show"
+    cp "${show%.show}.lanes" "$folder/later.lanes"
+    for program in frame_loop explain rehearsal; do
+        tells_totals "$program" "$show" >"$folder/told" && tells_totals "$program" "$folder/later.show" >"$folder/later" &&
+            awk '/^In all, / { $7 += 1000; $9 += 70000; changed++ } { print } END { exit changed != 1 }' "$folder/told" |
+            diff - "$folder/later" || return 1
+    done
+}
+
+# What a program tells of how much arrived and was sent, and of what is left: tells_totals PROGRAM SHOW
+tells_totals() {
+    local words=()
+    [ "$1" = frame_loop ] && words=(--fast)
+    [ "$1" = rehearsal ] && words=(20)
+    "$folder/$1" "$2" "${words[@]}" 2>"$folder/messages" | grep -E '^(    [^ ]|Cues and levels|In all, |The input is )' |
+        grep -v '^    byte'
+}
+
+# A slice with which a total would be too large is refused with 31, and told with the totals; one with which it gets to
+# the greatest is not. The first of two cues takes the last place: what is behind it stays.
+tells_full_totals() {
+    printf 'type cue beside cue patch pass frames 4\n2 cue 1\n4 cue 2\n' >"$folder/full.score"
+    "$folder/make_show" "$folder/full.score" &&
+        with_totals '\377\377\377\376' '\0\0\0\0' "$folder/full.show" >"$folder/filling.show" &&
+        with_totals '\0\0\0\7' '\377\377\377\376' "$folder/full.show" >"$folder/sending.show" &&
+        tells_full filling 4294967295 1 && tells_full sending 8 4294967295
+}
+
+# tells_full NAME ARRIVED SENT, with the totals that are left
+tells_full() {
+    local show=$folder/$1.show arrived=$2 sent=$3 call
+    for call in "frame_loop $show --fast" "rehearsal $show 3" "explain $show"; do
+        # shellcheck disable=SC2086 # the call is several words
+        "$folder"/$call >"$folder/sent" 2>&1
+        grep -q 'is refused with 31' "$folder/sent" &&
+            grep -qxF "    the patch has counted $arrived arrived and $sent sent in all; with this slice 1 more would arrive and 1 more be sent" \
+                "$folder/sent" && grep -qxF "In all, by the patch's totals: $arrived arrived, $sent sent." "$folder/sent" && continue
+        cat "$folder/sent"
+        echo "$call: 31 is due, with $arrived and $sent"
+        return 1
+    done
+    "$folder/timeline" "$show" 0 3 >"$folder/sent" &&
+        grep -q 'refused with 31: A total of the patch would pass 4,294,967,295' "$folder/sent"
 }
 
 # The two recordings of choose_a_sky have one patch, and are played one way and the other.
 chooses_both_ways() {
     local shows=examples/shows/choose_a_sky length
-    length=$(od -An -tu1 -N2 "${shows}_north.show" | awk '{ print 2 + $1 * 256 + $2 }')
+    length=$(patch_end "${shows}_north.show")
     cmp -n "$length" "${shows}_north.show" "${shows}_south.show" && comes_in 'first chosen: "comet"' "${shows}_north.show" &&
         comes_in 'second chosen: "Southern Cross, dim"' "${shows}_south.show"
 }
@@ -187,9 +248,10 @@ END
 
 # Cut short at some bytes, and damaged there, a show ends by itself: played, refused or not read, never with a fault.
 survives_damage() {
-    local show=$1 length place
+    local show=$1 length patch_end place
     length=$(stat -c %s "$show")
-    for place in $(seq 0 $((length / 17 + 1)) "$length") 1 2 3 4 30 31 32; do
+    patch_end=$(patch_end "$show")
+    for place in $(seq 0 $((length / 17 + 1)) "$length") 1 2 3 4 30 31 32 $(seq $((patch_end - 11)) 3 "$patch_end"); do
         head -c "$place" "$show" >"$folder/cut.show"
         tries "$folder/cut.show" || return 1
         { head -c "$place" "$show"; printf '\377'; tail -c "+$((place + 2))" "$show"; } >"$folder/hurt.show"
@@ -225,7 +287,7 @@ counts_seconds_in_time() {
 
 # A show without slices, whose only lane has no name; the rehearsal has nothing to compare.
 ends_by_itself() {
-    printf '\0\6\0\1\1\0\1\0' >"$folder/empty.show"
+    cue_comes 0 >"$folder/empty.show"
     timeout 60 "$folder/frame_loop" "$folder/empty.show" | grep -q '^The show is over: 0 frames, 0 slices' || return 1
     timeout 60 "$folder/frame_loop" "$folder/empty.show" --fast | grep -q 'still owed: "in 1"' || return 1
     "$folder/rehearsal" "$folder/empty.show" 2>"$folder/messages"
@@ -250,7 +312,8 @@ tells_all_six() {
 # Of a show whose patch is refused nothing else is told: what follows may not be slices.
 tells_refused_patch_alone() {
     local program
-    printf '\0\6\0\1\1\0\1\5\0\7\0' >"$folder/refused.show"
+    # shellcheck disable=SC2059 # the totals are a format
+    printf "\0\20\0\1\1\0\1\5$zero_totals\0\7\0" >"$folder/refused.show"
     for program in frame_loop rehearsal timeline; do
         "$folder/$program" "$folder/refused.show" >"$folder/sent" 2>"$folder/messages"
         [ $? -eq 1 ] && grep -q 'refused with 7' "$folder/messages" && ! grep -q 'file ends' "$folder/messages" || return 1
@@ -259,7 +322,8 @@ tells_refused_patch_alone() {
 
 # A show of one cue that comes so many times: cue_comes TIMES
 cue_comes() {
-    printf '\0\6\0\1\1\0\1\0'
+    # shellcheck disable=SC2059 # the totals are a format
+    printf "\0\20\0\1\1\0\1\0$zero_totals"
     for _ in $(seq "$1"); do
         printf '\0\3\0\1\2'
     done
@@ -294,13 +358,15 @@ tells_counts() {
 END
 }
 
-# The rehearsal's answer ends with the slices that it is not about; if there are none, with what it counted.
+# The rehearsal's answer ends with the slices that it is not about; if there are none, with what it counted and the
+# totals.
 answers_for_all_slices() {
     "$folder/rehearsal" examples/shows/damaged.show 3 2>"$folder/messages" | tail -n 1 |
         grep -qx '5 of 47 recorded slices were refused and left out\.' &&
-        "$folder/rehearsal" examples/shows/lamp_fade.show 3 2>"$folder/messages" | tail -n 2 >"$folder/answer" &&
+        "$folder/rehearsal" examples/shows/lamp_fade.show 3 2>"$folder/messages" | tail -n 3 >"$folder/answer" &&
         head -n 1 "$folder/answer" | grep -q '^All joined outputs and all final patches are the same' &&
-        tail -n 1 "$folder/answer" | grep -qx 'Cues and levels, in every cut: 8 arrived, 10 sent\.'
+        tail -n 2 "$folder/answer" | diff - <(echo 'Cues and levels, in every cut: 8 arrived, 10 sent.' &&
+            echo "In all, by the patch's totals: 8 arrived, 10 sent.")
 }
 
 # For each place at which a show file can be cut: the place, the frame loop's exit status, and what has to be told.
@@ -419,6 +485,7 @@ for show in examples/shows/*.show; do
     holds "$show is counted second by second" counts_every_second "$show"
     holds "$show is counted as its score has it" counts_the_score "$show"
     holds "$show is counted the same by all" counts_the_same "$show"
+    holds "$show counted on from other totals" totals_go_on "$show"
     holds "$show rehearsed" "$folder/rehearsal" "$show" 200
     holds "$show damaged" survives_damage "$show"
 done
@@ -427,6 +494,7 @@ holds "house_fills opens with the greeting" opens_with_the_greeting
 holds "house_fills in the README" readme_plays_house_fills
 holds "seconds in which nothing comes" tells_dead_seconds
 holds "what is owed" tells_owed
+holds "totals that are full" tells_full_totals
 holds "damaged.show says what is wrong with it" tells_all_six
 holds "a refused patch" tells_refused_patch_alone
 holds "counts of refused slices" tells_counts

@@ -21,29 +21,42 @@ static inline bool same(struct bytes one, struct bytes other)
     return one.count == other.count && memcmp(one.at, other.at, one.count) == 0;
 }
 
-/* A patch of a type file and nodes, of which some bytes come first: those of a chain and its first node, or none. */
+/*
+ * A patch that was never fed, of a type file and nodes, of which some bytes come first: those of a chain and its first
+ * node, or none.
+ */
 static inline struct small_file patch_with(struct bytes type, struct bytes front, struct bytes nodes)
 {
+    const struct bytes totals = RAW(TOTALS(0, 0));
     struct small_file patch;
     uint8_t *next = append(patch.bytes, type);
     *next++ = 0;
     *next++ = (uint8_t)(front.count + nodes.count);
-    next = append(append(next, front), nodes);
+    next = append(append(append(next, front), nodes), totals);
     patch.count = (size_t)(next - patch.bytes);
     return patch;
 }
 
-/* What a feed sends, leaves and counts; both files are of no bytes if it is refused. */
+/* The patch with other totals. */
+static inline struct small_file counted(struct small_file patch, struct counts totals)
+{
+    set_totals(patch.bytes, patch.count, totals);
+    return patch;
+}
+
+/* The number of a feed, and what it sends, leaves and counts; both files are of no bytes if it is refused. */
 struct answer {
+    uint32_t number;
     struct small_file output, left;
     struct counts counts;
 };
 
 static inline struct answer feed(struct bytes patch, struct bytes slice)
 {
-    struct answer answer = {{{0}, 0}, {{0}, 0}, COUNTS(0, 0)};
+    struct answer answer = {0, {{0}, 0}, {{0}, 0}, COUNTS(0, 0)};
     wosthile_fed fed =
         wosthile_feed(patch.at, patch.count, slice.at, slice.count, answer.output.bytes, ROOM, answer.left.bytes, ROOM);
+    answer.number = fed.number;
     answer.output.count = fed.output;
     answer.left.count = fed.patch;
     answer.counts = counts_of(fed);
@@ -85,8 +98,8 @@ static inline struct bytes type_in(const struct small_file *patch)
 
 static inline struct bytes nodes_in(const struct small_file *patch)
 {
-    size_t begin = type_in(patch).count + 2;
-    return (struct bytes){patch->bytes + begin, patch->count < begin ? 0 : patch->count - begin};
+    size_t begin = type_in(patch).count + 2, behind = begin + WOSTHILE_TOTALS_SECTION;
+    return (struct bytes){patch->bytes + begin, patch->count < behind ? 0 : patch->count - behind};
 }
 
 #endif

@@ -92,6 +92,9 @@ static void put_section(struct file *file, int forks, int fork, struct leaf leaf
     end(file, contents);
 }
 
+/* The last section of a patch, behind its nodes. */
+static void put_totals(struct file *patch) { put_leaf(patch, LEAF(0, 8, 0, 0, 0, 0, 0, 0, 0, 0)); }
+
 /* Side by side: nothing has come of any lane. */
 static void make_lanes(struct files *files, enum side side)
 {
@@ -167,6 +170,7 @@ static void make_chains(struct file *patch, enum side side)
     put_deep(patch, NODE_FORKS, 10, LEAF(0), side);
     patch->bytes[side == SECOND_PARTS ? patch->length - 1 : contents + NODE_FORKS] = 13;
     end(patch, contents);
+    put_totals(patch);
 }
 
 /* Pairs of silent nodes on a type of 255, each with a type of 7: together they give 31 forks and 32 times 7 nodes. */
@@ -174,6 +178,7 @@ static void make_pairs(struct file *patch, enum side side)
 {
     put_section(patch, TYPE_FORKS, 4, LEAF(1), side);
     put_section(patch, NODE_FORKS, 4, LEAF(1, 4, 4, 0, 0, 4, 0, 0), side);
+    put_totals(patch);
 }
 
 /* Then upon then, pass at the leaves, on sequences with a type of 7 at each leaf. */
@@ -181,6 +186,7 @@ static void make_thens(struct file *patch, enum side side)
 {
     put_section(patch, NODE_FORKS, 3, LEAF(4, 4, 1, 1, 4, 1, 1), side);
     put_section(patch, NODE_FORKS, 9, LEAF(0), side);
+    put_totals(patch);
 }
 
 /* A stream for Feed: sequences, lanes or eithers of cues, nested on one side; and the side on which nodes are nested.
@@ -214,7 +220,7 @@ static void put_complete(struct file *file, int forks, struct depth depth)
     }
 }
 
-/* Forks of one kind above one node, with other leaves beside it. */
+/* The end of a patch: forks of one kind above one node, with other leaves beside it; then the totals. */
 static void put_nodes(struct file *patch, int fork, struct leaf leaf, struct leaf deepest, enum side side)
 {
     size_t contents = begin(patch);
@@ -222,6 +228,7 @@ static void put_nodes(struct file *patch, int fork, struct leaf leaf, struct lea
     put_leaf(patch, deepest);
     put_behind(patch, NODE_FORKS, leaf, side);
     end(patch, contents);
+    put_totals(patch);
 }
 
 /* The empty slice of that type. */
@@ -409,7 +416,7 @@ static int choices_in(enum nest nest)
     return choices;
 }
 
-/* The nodes: beside is the other node of every choose, and pass that of every chain. */
+/* The nodes and the totals: beside is the other node of every choose, and pass that of every chain. */
 static void put_choosing_nodes(struct file *patch, enum nest nest, struct leaf beside, struct leaf deepest,
                                enum side side)
 {
@@ -422,6 +429,7 @@ static void put_choosing_nodes(struct file *patch, enum nest nest, struct leaf b
         put_behind(patch, 1, is_choice(nest, level) ? beside : LEAF(0), side);
     }
     end(patch, contents);
+    put_totals(patch);
 }
 
 /* The slice of so many eithers with a stream below. */

@@ -28,7 +28,10 @@ enum { FORMS = sizeof forms / sizeof forms[0] };
 /* Where the node is: second in a chain behind a node of some kind, or a part of a node of some kind. */
 enum place { BEHIND, FIRST_PART, SECOND_PART, PLACES };
 
-/* A feed by the contents of the sections, and what it counts. The node waits if the nodes left have it still. */
+/*
+ * A feed by the contents of the sections, and what it counts; these counts are the totals left, since the patch was
+ * never fed before. The node waits if the nodes left have it still.
+ */
 struct row {
     const char *name;
     unsigned kind;
@@ -221,28 +224,21 @@ static uint8_t *put_contents(uint8_t *to, struct bytes contents, const struct fo
     return to;
 }
 
-/* Appends a section to a file. */
-static void put_section(struct small_file *file, struct bytes contents, const struct form *form)
-{
-    uint8_t *count_bytes = file->bytes + file->count;
-    uint8_t *end = put_contents(count_bytes + 2, contents, form);
-    count_bytes[0] = 0;
-    count_bytes[1] = (uint8_t)(end - count_bytes - 2);
-    file->count = (size_t)(end - file->bytes);
-}
-
+/* A file of one section. */
 static struct small_file slice_in(struct bytes contents, const struct form *form)
 {
-    struct small_file file = {.count = 0};
-    put_section(&file, contents, form);
+    struct small_file file = {.bytes = {0}};
+    file.count = (size_t)(put_contents(file.bytes + 2, contents, form) - file.bytes);
+    file.bytes[1] = (uint8_t)(file.count - 2);
     return file;
 }
 
 static struct small_file patch_in(struct bytes type, struct bytes nodes, const struct form *form)
 {
-    struct small_file file = slice_in(type, form);
-    put_section(&file, nodes, form);
-    return file;
+    const struct bytes none = NONE;
+    struct small_file type_file = slice_in(type, form), contents = {.count = 0};
+    contents.count = (size_t)(put_contents(contents.bytes, nodes, form) - contents.bytes);
+    return patch_with(file_at(&type_file), none, file_at(&contents));
 }
 
 static size_t waits_met[NODE_KINDS][PLACES], opens_met[NODE_KINDS][PLACES];
@@ -251,7 +247,8 @@ static void check_row(const struct row *row, const struct form *form)
 {
     char name[100];
     struct small_file patch = patch_in(row->type, row->nodes, form), slice = slice_in(row->slice, form);
-    struct small_file output = slice_in(row->output, form), left = patch_in(row->type_left, row->nodes_left, form);
+    struct small_file output = slice_in(row->output, form);
+    struct small_file left = counted(patch_in(row->type_left, row->nodes_left, form), row->counts);
     struct answer answer = feed(file_at(&patch), file_at(&slice));
     bool right = same(file_at(&answer.output), file_at(&output)) && same(file_at(&answer.left), file_at(&left));
     right = right && same_counts(answer.counts, row->counts);
@@ -289,16 +286,17 @@ static struct so_far begin_run(const struct run *run, const struct form *form)
     return so_far;
 }
 
-/* Feeds a slice to the patch so far: it sends this, leaves that, and counts so much. */
-static bool goes_on(struct so_far *so_far, struct bytes slice, struct bytes output, struct bytes left,
+/* Feeds a slice to the patch so far: it sends this, leaves that with the counts of all feeds, and counts so much. */
+static bool goes_on(struct so_far *so_far, struct bytes slice, struct bytes output, struct small_file without_totals,
                     struct counts counts)
 {
     struct answer answer = feed(file_at(&so_far->patch), slice);
     so_far->counts = sum_of(so_far->counts, answer.counts);
+    struct small_file left = counted(without_totals, so_far->counts);
     so_far->patch = answer.left;
     so_far->come = joined(file_at(&so_far->input_type), file_at(&so_far->come), slice);
     so_far->sent = joined(file_at(&so_far->output_type), file_at(&so_far->sent), file_at(&answer.output));
-    return same(file_at(&answer.output), output) && same(file_at(&answer.left), left) &&
+    return same(file_at(&answer.output), output) && same(file_at(&answer.left), file_at(&left)) &&
            same_counts(answer.counts, counts);
 }
 
@@ -309,14 +307,14 @@ static void check_run(const struct run *run, const struct form *form)
     struct small_file empty = so_far.come, waiting = so_far.sent;
     bool stays = so_far.output_type.count > 0;
     for (size_t feeds = 0; feeds < EMPTY_FEEDS; feeds++) {
-        stays = goes_on(&so_far, file_at(&empty), file_at(&waiting), file_at(&so_far.start), nothing_counted) && stays;
+        stays = goes_on(&so_far, file_at(&empty), file_at(&waiting), so_far.start, nothing_counted) && stays;
     }
     count(stays, "empty slices leave the patch as it is", run->name, EMPTY_FEEDS);
     for (size_t index = 0; index < run->number; index++) {
         const struct step *step = &run->steps[index];
         struct small_file slice = slice_in(step->slice, form), output = slice_in(step->output, form);
         struct small_file left = patch_in(step->type_left, step->nodes_left, form);
-        bool right = goes_on(&so_far, file_at(&slice), file_at(&output), file_at(&left), step->counts);
+        bool right = goes_on(&so_far, file_at(&slice), file_at(&output), left, step->counts);
         count(right, form->name, run->name, index);
     }
     struct answer whole = feed(file_at(&so_far.start), file_at(&so_far.come));
@@ -328,10 +326,9 @@ static void check_run(const struct run *run, const struct form *form)
 /* Does the library take nodes of this kind with two parts, and with no part fewer? */
 static bool has_parts(unsigned kind)
 {
-    const uint8_t alone[] = {0, 1, 1, 0, 1, (uint8_t)kind};
-    const uint8_t with_parts[] = {0, 1, 1, 0, 3, (uint8_t)kind, 0, 0};
-    bool cut_short = wosthile_check(alone, sizeof alone, NULL, 0).number == WOSTHILE_FAULT_CUT_SHORT;
-    uint32_t number = wosthile_check(with_parts, sizeof with_parts, NULL, 0).number;
+    const struct bytes alone = PATCH_OF((1), ((uint8_t)kind)), with_parts = PATCH_OF((1), ((uint8_t)kind, 0, 0));
+    bool cut_short = wosthile_check(alone.at, alone.count, NULL, 0).number == WOSTHILE_FAULT_CUT_SHORT;
+    uint32_t number = wosthile_check(with_parts.at, with_parts.count, NULL, 0).number;
     return cut_short && number != WOSTHILE_FAULT_CUT_SHORT && number != WOSTHILE_FAULT_LEFT_OVER &&
            kind != WOSTHILE_NODE_LEVEL;
 }

@@ -6,7 +6,7 @@
  * sends on a slice that is not the empty one or is complete; on any other it sends that its own cue or level is awaited
  * and the patch left is the patch fed, byte for byte. Cut in two, every slice opens the node once or not at all, as it
  * does whole. In a chain the slice that counts is the one that the node before it sends. What it sends is counted, with
- * what came (M-104): cut in two, the counts are those of the whole.
+ * what came (M-104), and both are the totals left (M-105): cut in two, they are those of the whole.
  */
 #include "small_feeds.h"
 #include "small_types.h"
@@ -85,12 +85,14 @@ static void judge_slice(void *context, const struct growing *slice, wosthile_adm
         const struct waiting_node *waiting = &waiting_nodes[which];
         bool opens = meeting != EMPTY_AND_OWED;
         struct small_file patch = patch_with(type, none, waiting->node);
+        const struct counts due = {seen.arrived, opens ? 1 : 0};
         struct small_file left = patch_with(file_at(&type_left), none, opens ? spent_node : waiting->node);
+        left = counted(left, due);
         struct answer answer = feed(file_at(&patch), given);
         bool right = same(file_at(&answer.output), opens ? waiting->sent : waiting->awaited);
         right = right && same(file_at(&answer.left), file_at(&left));
         right = right && (opens || same(file_at(&answer.left), file_at(&patch)));
-        right = right && answer.counts.arrived == seen.arrived && answer.counts.sent == (opens ? 1 : 0);
+        right = right && same_counts(answer.counts, due);
         count(right, waiting->name, type_name(type), slice->count);
     }
 }
@@ -172,10 +174,12 @@ static void chain_slice(void *context, const struct growing *slice, wosthile_adm
         struct small_file left = patch_with(type_in(&first.left), file_at(&front_left), nodes_in(&second.left));
         struct answer answer = feed(file_at(&patch), growing_file(slice));
         bool waits = same(file_at(&answer.output), waiting->awaited);
+        const struct counts due = {seen.arrived, waits ? 0 : 1};
+        left = counted(left, due);
         waited_behind[kind] += waits;
         opened_behind[kind] += !waits;
         bool right = same(file_at(&answer.output), file_at(&second.output)) && answer.output.count > 0;
-        right = right && answer.counts.arrived == seen.arrived && answer.counts.sent == !waits;
+        right = right && same_counts(answer.counts, due);
         count(right && same(file_at(&answer.left), file_at(&left)), waiting->name, type_name(chained->type), kind);
     }
 }

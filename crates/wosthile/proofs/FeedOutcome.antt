@@ -1,36 +1,34 @@
 -- What Feed comes to, by its readers, and what it has to write.
-use mathlib.Core.Path.{_≡_, refl, ap, _∙_}
-use mathlib.Core.List.{List, [], append-nil}
+use mathlib.Core.Path.{_≡_, refl, sym, ap, _∙_}
+use mathlib.Core.Bool.{Bool, true, false}
+use mathlib.Core.List.{List, []}
 use Prim.Native.Nat.{ℕ, _+_, _*_, _-_, _≤_, _<_}
 use native.Mathlib.Omega.{arith}
-use lib.ListN.{length, take, length-append}
+use lib.ListN.{length, take}
 use lib.Seq.{length-take-le}
-use borrow.Author.Tests.{le-leb, lt-leb}
 use Rattle.stream.specs.declared.Fault.{Fault}
-use Rattle.stream.specs.declared.Fault.the-variants.{NoRoom}
+use Rattle.stream.specs.declared.Fault.the-variants.{TotalTooLarge}
 use Rattle.stream.specs.Types.{Ty, size}
 use Rattle.stream.specs.Types.Laws.{limit-is}
-use Rattle.stream.specs.Prefixes.{Prefix, derivative}
+use Rattle.stream.specs.Prefixes.{Prefix, arrivals, derivative}
 use Rattle.stream.specs.Prefixes.Laws.{derivative-size}
-use Rattle.stream.specs.Reading.{Result, accepted, refused, section-bytes}
-use Rattle.stream.specs.Buffers.{at-front}
-use Rattle.stream.specs.TypeFiles.{type-bytes}
-use Rattle.stream.specs.SliceFiles.{prefix-bytes, slice-file-bytes, slice-file}
+use Rattle.stream.specs.Reading.{Result, accepted, refused}
+use Rattle.stream.specs.SliceFiles.{prefix-bytes, slice-file, slice-file-bytes}
 use Rattle.reading.specs.declared.prefixes.PrefixPlace.{PrefixPlace}
 use Rattle.reading.specs.declared.inputs.Input.{Input}
 use Rattle.reading.specs.Inputs.{InputAt}
 use Rattle.reading.specs.TypeReads.Laws.{type-width}
 use Rattle.reading.specs.SliceReads.{PrefixIn}
 use Rattle.reading.specs.SliceReads.Laws.{prefix-bytes-length}
-use Rattle.writing.specs.Writing.Standing.{slice-file-size}
-use Rattle.node.specs.Nodes.{Node, count, node-limit}
+use Rattle.node.specs.Totals.{held}
+use Rattle.node.specs.Nodes.{Node, Patch, count, node-limit}
 use Rattle.node.specs.Nodes.Laws.{output-small}
-use Rattle.node.specs.Feeding.Functions.{sends, leaves}
+use Rattle.node.specs.Feeding.Functions.{sends, leaves, patch-left}
 use Rattle.node.specs.Checking.{typing}
 use Rattle.node.specs.Checking.Laws.{WellTyped, typing-sound, typing-complete}
 use Rattle.node.specs.PatchFiles.{node-bytes, patch-file-bytes, first-pass, second-pass, patch-file}
 use Rattle.patch_reading.specs.declared.PatchPlace.{PatchPlace}
-use Rattle.patch_reading.specs.PatchReads.Laws.{ends-inside, count-within}
+use Rattle.patch_reading.specs.PatchReads.Laws.{count-within}
 use Rattle.patch_reading.specs.PatchReads.{node-width, AcceptedPatch}
 use Rattle.leaf_feeding.specs.declared.Step.{Step}
 use Rattle.leaf_feeding.specs.declared.Stepped.{Stepped as StepAnswer}
@@ -39,47 +37,31 @@ use Rattle.leaf_feeding.specs.Steps.{NodeAnswers, Rooms}
 use Rattle.leaf_feeding.specs.Steps.Laws.{leads-inside, leads-taken, prefix-stands, left-width, was-fed, has-failed}
 use Rattle.feeding.specs.Feeds.{FeedDue}
 use Rattle.meaning.specs.declared.Fed.{Fed}
-use Rattle.meaning.specs.Answers.{FedFiles, feed, with-room, fed as told, after, fed-files}
+use Rattle.meaning.specs.Answers.{FedFiles, takes-slice, feed, with-room, fed as told, after, fed-files}
 use Rattle.meaning.specs.Promises.{FeedPromise}
 use Rattle.wosthile.specs.FeedReads.{FeedRead, Refuses, first-fault}
-use Rattle.wosthile.specs.PatchWriting.{PatchWriteDue}
+use Rattle.wosthile.specs.PatchWriting.{BothDue, FeedsFiles, BothWritten}
+use Rattle.wosthile.specs.TotalsLeft.{Sums, CountsAdded}
 use Rattle.stream.specs.Bounds.{slice-file-limit, twice-node-bytes, node-bytes-limit}
 
--- How the answers of Feed keep its promise.
-module _ (output patch-lent : List ℕ) {patch slice : List ℕ} where
-  pub refused-keeps : (e : Fault) → feed patch slice ≡ refused e
+-- A refusal keeps Feed's promise, and so do files that are due.
+module _ {patch slice : List ℕ} where
+  pub refused-keeps : (output patch-lent : List ℕ) (e : Fault) → feed patch slice ≡ refused e
       → FeedPromise patch slice output patch-lent (told (refused e)) output patch-lent
   unfolding with-room told after
-  refused-keeps e h = record { answers = rw h; output-buffer = rw h; patch-buffer = rw h }
+  refused-keeps output patch-lent e h = record { answers = rw h; output-buffer = rw h; patch-buffer = rw h }
 
-  module _ (files : FedFiles) (h : feed patch slice ≡ accepted files) where
-    pub output-short : length output < length (files .output)
-        → FeedPromise patch slice output patch-lent (told (refused NoRoom)) output patch-lent
-    unfolding with-room told after
-    output-short s =
-        record { answers = rw (h, lt-leb _ _ s); output-buffer = rw (h, lt-leb _ _ s); patch-buffer = rw (h, lt-leb _ _ s) }
+  pub files-keep : {files : FedFiles} {output patch-lent output-after patch-after : List ℕ} {answer : Fed} → feed patch slice ≡ accepted files
+      → FeedsFiles files output patch-lent answer output-after patch-after → FeedPromise patch slice output patch-lent answer output-after patch-after
+  files-keep h fed = record { answers = rw h (fed .answers); output-buffer = rw h (fed .output-buffer); patch-buffer = rw h (fed .patch-buffer) }
 
-    pub patch-short : length (files .output) ≤ length output → length patch-lent < length (files .patch)
-        → FeedPromise patch slice output patch-lent (told (refused NoRoom)) output patch-lent
-    unfolding with-room told after
-    patch-short r s =
-        record {
-          answers = rw (h, le-leb _ _ r, lt-leb _ _ s);
-          output-buffer = rw (h, le-leb _ _ r, lt-leb _ _ s);
-          patch-buffer = rw (h, le-leb _ _ r, lt-leb _ _ s);
-        }
-
-    pub files-keep : length (files .output) ≤ length output → length (files .patch) ≤ length patch-lent
-        → {sent kept came went : ℕ} → sent ≡ length (files .output) → kept ≡ length (files .patch) → came ≡ files .arrived → went ≡ files .sent
-        → {output-after patch-after : List ℕ} → output-after ≡ at-front (files .output) output → patch-after ≡ at-front (files .patch) patch-lent
-        → FeedPromise patch slice output patch-lent (record { number = 0; output = sent; patch = kept; arrived = came; sent = went }) output-after patch-after
-    unfolding with-room told after
-    files-keep r s n m a b o l =
-        record {
-          answers = rw (h, le-leb _ _ r, le-leb _ _ s, n, m, a, b);
-          output-buffer = rw (h, le-leb _ _ r, le-leb _ _ s, o);
-          patch-buffer = rw (h, le-leb _ _ r, le-leb _ _ s, l);
-        }
+-- The counts told are those of the files.
+counts-are : {sent input nodes totals output patch-lent output-after patch-after : List ℕ} {came went arrived gone : ℕ} {answer : Fed}
+    → came ≡ arrived → went ≡ gone → (due : BothDue sent input nodes totals)
+    → BothWritten sent input nodes totals came went output patch-lent answer output-after patch-after
+    → FeedsFiles (record { output = slice-file-bytes (due .output); patch = patch-file-bytes (due .patch); arrived = arrived; sent = gone })
+    output patch-lent answer output-after patch-after
+counts-are a b due wrote = rw (a, b) at (wrote .each due)
 
 -- A patch that is not read, or not typed, and a slice that is not read.
 
@@ -94,7 +76,7 @@ module _ {patch : List ℕ} {place : PatchPlace} (read : AcceptedPatch patch pla
 
   pub slice-unread : {output : Ty} {e : Fault} → typing (read .patch .input) (read .patch .node) ≡ accepted output
       → slice-file (read .patch .input) slice ≡ refused e → feed patch slice ≡ refused e
-  unfolding feed patch-file second-pass
+  unfolding feed patch-file second-pass takes-slice
   slice-unread h k = rw (read .is-accepted, h, k)
 
   -- What is refused with the first fault of the second pass, or else with another: that is Feed's number, if the other is where the patch is
@@ -125,8 +107,8 @@ module _ {patch : List ℕ} {place : PatchPlace} {slice left : List ℕ} {arrive
 
   -- Up to 15 nodes leave at most 2,055 bytes, and all of them 8,223.
 
-  pub few-room : length patch - place .nodes < 16 → twice-node-bytes (count node) ≤ 2 * 2055
-  few-room short = omega (arith, ends-inside (due .read .node-at), count-within node)
+  pub few-room : length patch - 8 - 2 - place .nodes < 16 → twice-node-bytes (count node) ≤ 2 * 2055
+  few-room short = omega (arith, due .read .long, count-within node)
 
   pub nodes-room : twice-node-bytes (count node) ≤ 2 * node-bytes-limit
   nodes-room = omega (arith, few)
@@ -176,11 +158,15 @@ module _ {patch : List ℕ} {place : PatchPlace} {slice left : List ℕ} {arrive
 
   -- The step is done: what is sent and the node left stand in front of the work arrays, and how long both files are.
 
+  abbrev next : Patch
+  next = patch-left (due .read .patch) prefix
+
   abbrev pub files : FedFiles
   files = fed-files (due .read .patch) prefix
 
   pub record Done (sent nodes : List ℕ) (step : Step) : Type 0 where
-    pub feed-is : feed patch slice ≡ accepted files
+    pub output : Ty
+    pub typed : WellTyped input node output
     pub sent-small : step .sent ≤ slice-file-limit
     pub nodes-small : step .kept ≤ node-bytes-limit
     pub sent-inside : step .sent ≤ length sent
@@ -188,24 +174,19 @@ module _ {patch : List ℕ} {place : PatchPlace} {slice left : List ℕ} {arrive
     pub sent-stands : PrefixIn sent (record { start = 0; end = step .sent }) (sends input node prefix)
     pub sent-taken : take (step .sent) sent ≡ prefix-bytes (sends input node prefix) []
     pub nodes-taken : take (step .kept) nodes ≡ node-bytes (leaves input node prefix) []
-    pub output-long : length (files .output) ≡ 2 + step .sent
-    pub patch-long : length (files .patch) ≡ 2 + length left + 2 + step .kept
 
-  typed-feed : {t : Ty} → WellTyped input node t → feed patch slice ≡ accepted files
-  unfolding feed patch-file second-pass
-  typed-feed typed = rw (due .read .is-accepted, typing-complete (typed .types) (typed .fits), due .taken .is-accepted)
 
   pub done : {sent nodes given sent-after nodes-after given-after : List ℕ} {answer : StepAnswer} {step : Step} → slice-file-limit ≡ length sent
       → NodeAnswers (place .nodes + node-width node) input node prefix sent nodes given sent-after nodes-after given-after answer
       → answer ≡ Stepped step → Done sent-after nodes-after step
-  unfolding patch-file-bytes section-bytes
   done {sent = sent} {sent-after = sent-after} {step = step} long answers fed =
       let gave = was-fed (rw fed at answers) in
       let steps = gave .steps in
       let sent-long : step .sent ≡ length (prefix-bytes (sends input node prefix) [])
       = omega (arith, steps .sent, prefix-bytes-length (sends input node prefix) []) in
       record {
-        feed-is = typed-feed (gave .gives);
+        output = _;
+        typed = gave .gives;
         sent-small = omega (arith, long, sent-long, leads-inside (steps .output));
         nodes-small = omega (arith, steps .kept, left-width (gave .gives) (due .taken .is-prefix), few);
         sent-inside = omega (arith, sent-long, leads-inside (steps .output), steps .output .long);
@@ -213,15 +194,6 @@ module _ {patch : List ℕ} {place : PatchPlace} {slice left : List ℕ} {arrive
         sent-stands = rw (steps .sent) (prefix-stands (steps .output));
         sent-taken = leads-taken (steps .output) sent-long;
         nodes-taken = leads-taken (steps .node-left) (steps .kept);
-        output-long = omega (arith, slice-file-size (sends input node prefix), steps .sent);
-        patch-long =
-            omega (
-              arith,
-              length-append (type-bytes (derivative input prefix) []) (section-bytes (node-bytes (leaves input node prefix) []) []),
-              ap length (append-nil (node-bytes (leaves input node prefix) [])),
-              ap length (due .left-is),
-              steps .kept,
-            );
       }
 
   module _ {sent nodes : List ℕ} {step : Step} (is-done : Done sent nodes step) where
@@ -233,28 +205,46 @@ module _ {patch : List ℕ} {place : PatchPlace} {slice left : List ℕ} {arrive
       pub sent-ends : span .end ≤ slice-file-limit
       sent-ends = rw span-is (is-done .sent-small)
 
-    -- The section of what is sent is the output's file.
-    pub section-due : (out : List ℕ) → 2 + step .sent ≤ length out
-        → (length (take (step .sent) sent) ≤ 65535) × (2 + length (take (step .sent) sent) ≤ length out)
-    section-due out room =
-        let long : length (take (step .sent) sent) ≡ step .sent = length-take-le (step .sent) sent (is-done .sent-inside) in
-        (omega (arith, long, is-done .sent-small), omega (arith, long))
+    -- Feed is accepted where the totals left are held, and refused with 31 where they are not.
 
-    pub output-written : (out : List ℕ) {out-after : List ℕ} → out-after ≡ at-front (section-bytes (take (step .sent) sent) []) out
-        → out-after ≡ at-front (files .output) out
-    unfolding slice-file-bytes
-    output-written out e = e ∙ ap (λ body. at-front (section-bytes body []) out) (is-done .sent-taken)
+    pub feed-is : held (next .totals) ≡ true → feed patch slice ≡ accepted files
+    unfolding feed patch-file second-pass takes-slice
+    feed-is h = let typed = is-done .typed in rw (due .read .is-accepted, typing-complete (typed .types) (typed .fits), due .taken .is-accepted, h)
 
-    abbrev pub patch-due : (patch-lent : List ℕ) → 2 + length left + 2 + step .kept ≤ length patch-lent
-        → PatchWriteDue left (take (step .kept) nodes) patch-lent
-    patch-due patch-lent room =
-        let long : length (take (step .kept) nodes) ≡ step .kept = length-take-le (step .kept) nodes (is-done .nodes-inside) in
-        record {
-          type = derivative input prefix;
-          node = leaves input node prefix;
-          input-is = due .left-is;
-          nodes-are = is-done .nodes-taken;
-          small = small-left;
-          countable = omega (arith, long, is-done .nodes-small);
-          room = omega (arith, long);
-        }
+    pub feed-passes : held (next .totals) ≡ false → feed patch slice ≡ refused TotalTooLarge
+    unfolding feed patch-file second-pass takes-slice
+    feed-passes h = let typed = is-done .typed in rw (due .read .is-accepted, typing-complete (typed .types) (typed .fits), due .taken .is-accepted, h)
+
+    module _ {went : ℕ} {totals : List ℕ} {answer : Bool} (went-is : went ≡ arrivals (sends input node prefix)) (sums : CountsAdded patch arrived went totals answer) where
+      -- The totals that were added up are those of the patch left.
+      pub totals-left : Sums (next .totals) totals answer
+      totals-left = rw (due .arrived-is, went-is) at (sums .each (due .read .patch .totals) (due .read .held) (due .read .totals-at))
+
+      -- What is sent and the parts of the patch left, on the work bytes.
+      abbrev pub both-due : answer ≡ true → BothDue (take (step .sent) sent) left (take (step .kept) nodes) totals
+      both-due fit =
+          let sent-long : length (take (step .sent) sent) ≡ step .sent = length-take-le (step .sent) sent (is-done .sent-inside) in
+          let nodes-long : length (take (step .kept) nodes) ≡ step .kept = length-take-le (step .kept) nodes (is-done .nodes-inside) in
+          record {
+            output = sends input node prefix;
+            patch = next;
+            sent-is = is-done .sent-taken;
+            short = omega (arith, sent-long, is-done .sent-small);
+            bytes =
+                record {
+                  input-is = due .left-is;
+                  nodes-are = is-done .nodes-taken;
+                  totals-are = totals-left .bytes fit;
+                  small = small-left;
+                  countable = omega (arith, nodes-long, is-done .nodes-small);
+                };
+          }
+
+      pub both-keep : {output patch-lent output-after patch-after : List ℕ} {told : Fed} → answer ≡ true
+          → BothWritten (take (step .sent) sent) left (take (step .kept) nodes) totals arrived went output patch-lent told output-after patch-after
+          → FeedPromise patch slice output patch-lent told output-after patch-after
+      both-keep fit wrote =
+          files-keep (feed-is (sym (totals-left .told) ∙ fit)) (counts-are (due .arrived-is) went-is (both-due fit) wrote)
+
+      pub passed-keeps : (output patch-lent : List ℕ) → answer ≡ false → FeedPromise patch slice output patch-lent (told (refused TotalTooLarge)) output patch-lent
+      passed-keeps output patch-lent over = refused-keeps output patch-lent TotalTooLarge (feed-passes (sym (totals-left .told) ∙ over))

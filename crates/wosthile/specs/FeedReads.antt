@@ -38,7 +38,7 @@ pub record FeedRead (patch : List ℕ) (place : PatchPlace) (slice : List ℕ) (
 -- And the nodes of the patch have fewer than 16 bytes.
 pub record FewRead (patch : List ℕ) (place : PatchPlace) (slice : List ℕ) (arrived : ℕ) (left : List ℕ) : Type 0 where
   pub reads : FeedRead patch place slice arrived left
-  pub short : length patch - place .nodes < 16
+  pub short : length patch - 8 - 2 - place .nodes < 16
 
 -- And the work bytes for the nodes left have room for every patch of as many nodes.
 pub record SendDue (patch : List ℕ) (place : PatchPlace) (slice : List ℕ) (arrived : ℕ) (left nodes : List ℕ) : Type 0 where

@@ -1,2 +1,3 @@
 pub mod FeedReads
 pub mod PatchWriting
+pub mod TotalsLeft

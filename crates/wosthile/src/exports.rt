@@ -56,15 +56,15 @@ pub extern "C" fn wosthile_longest(ty: &[u8], out: &mut [u8]) -> Written
 // The binary interface that a program is built for: WOSTHILE_ABI of the header.
 #[no_mangle]
 pub extern "C" fn wosthile_abi() -> u32
-    ensures { λ r. ⌜ r ≡ 2 ⌝ }
+    ensures { λ r. ⌜ r ≡ 3 ⌝ }
 {
-    2
+    3
 }
 
 // Named for the number, so that a program built for another interface does not link.
 #[no_mangle]
-pub extern "C" fn wosthile_abi_2() -> u32
-    ensures { λ r. ⌜ r ≡ 2 ⌝ }
+pub extern "C" fn wosthile_abi_3() -> u32
+    ensures { λ r. ⌜ r ≡ 3 ⌝ }
 {
     wosthile_abi()
 }

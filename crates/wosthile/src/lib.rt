@@ -19,6 +19,7 @@ use reading::types::TypePlace;
 use reading::types::TypeRead;
 use reading::types::read_type_file;
 use stream::Fault;
+use totals::add_counts;
 use typing::Typed;
 use typing::type_node;
 use writing::slices::read_slice_file;
@@ -27,9 +28,10 @@ use writing::write_section;
 ghost use Rattle.meaning.specs.Promises.{CheckPromise, AdmitPromise, LeftPromise, JoinPromise, FeedPromise, LongestPromise};
 ghost use Rattle.patch_reading.specs.PatchReads.{AcceptedPatch};
 ghost use Rattle.wosthile.specs.FeedReads.{Refuses, FeedRead, FewRead, SendDue};
-ghost use Rattle.wosthile.specs.PatchWriting.{PatchWriteDue, PatchWritten};
+ghost use Rattle.wosthile.specs.PatchWriting.{PatchWriteDue, PatchWritten, BothDue, BothWritten};
 
 pub mod exports;
+mod totals;
 
 // "Accepted is 0."
 const ACCEPTED: u32 = 0;
@@ -141,14 +143,50 @@ pub fn join(ty: &[u8], first: &[u8], second: &[u8], out: &mut [u8]) -> Written
     }
 }
 
-// Writes the file of a patch, from the bytes of its input type and those of its nodes.
-fn write_patch_file(input: &[u8], nodes: &[u8], out: &mut [u8])
-    requires { ⌜ PatchWriteDue (now input) (now nodes) (now out) ⌝ }
-    ensures { λ _. ⌜ PatchWritten (now (input .entry)) (now (nodes .entry)) (now (out .entry)) (now (out .exit)) ⌝ }
+// Writes the file of a patch, from the bytes of its input type, those of its nodes and those of its totals.
+fn write_patch_file(input: &[u8], nodes: &[u8], totals: &[u8], out: &mut [u8])
+    requires { ⌜ PatchWriteDue (now input) (now nodes) (now totals) (now out) ⌝ }
+    ensures { λ _. ⌜ PatchWritten (now (input .entry)) (now (nodes .entry)) (now (totals .entry)) (now (out .entry)) (now (out .exit)) ⌝ }
 {
     write_section(input, out);
-    let written = 2 + input.len();
-    write_section(nodes, &mut out[written..]);
+    let typed = 2 + input.len();
+    write_section(nodes, &mut out[typed..]);
+    let written = typed + (2 + nodes.len());
+    write_section(totals, &mut out[written..]);
+}
+
+// Writes what is sent and the patch left, if both buffers have room: the bytes of the slice sent, of the type left, of the nodes left and of
+// the totals. `arrived` and `went` are how many cues and levels came and were sent.
+fn write_both(
+    sent: &[u8],
+    left: &[u8],
+    nodes: &[u8],
+    totals: &[u8],
+    arrived: u32,
+    went: u32,
+    out: &mut [u8],
+    next: &mut [u8],
+) -> Fed
+    requires { ⌜ BothDue (now sent) (now left) (now nodes) (now totals) ⌝ }
+    ensures { λ r. ⌜ BothWritten (now (sent .entry)) (now (left .entry)) (now (nodes .entry)) (now (totals .entry)) arrived went (now (out .entry)) (now (next .entry)) r (now (out .exit)) (now (next .exit)) ⌝ }
+{
+    let output = 2 + sent.len();
+    let needed = 2 + left.len() + 2 + nodes.len() + 2 + totals.len();
+    if out.len() < output {
+        return Fed::refused(Fault::NoRoom);
+    }
+    if next.len() < needed {
+        return Fed::refused(Fault::NoRoom);
+    }
+    write_section(sent, out);
+    write_patch_file(left, nodes, totals, next);
+    Fed {
+        number: ACCEPTED,
+        output,
+        patch: needed,
+        arrived,
+        sent: went,
+    }
 }
 
 // Refuses to feed a patch that was read: with the first fault of Check's second pass, which comes before all others, or else with `fault`.
@@ -164,8 +202,9 @@ fn refuse(patch: &[u8], place: PatchPlace, fault: Fault) -> Fed
 }
 
 // Feeds a slice that was read to a patch that was read; `arrived` is how many cues and levels came in the slice, and `left` what it
-// leaves of its input type. The answers are made on work bytes, `nodes` for the nodes left, since both have to be known before a byte of
-// either buffer is written. The step fails exactly if Check refuses the patch.
+// leaves of its input type. The answers are made on work bytes, `nodes` for the nodes left, since all of them have to be known before a byte
+// of either buffer is written: what is sent is counted for the totals, of which 31 comes before 20. The step fails exactly if Check
+// refuses the patch.
 fn send(
     patch: &[u8],
     place: PatchPlace,
@@ -197,24 +236,12 @@ fn send(
         Stepped::Fed(step) => {
             let many = step.sent;
             let kept = step.kept;
-            let output = 2 + many;
-            let needed = 2 + left.len() + 2 + kept;
-            if out.len() < output {
-                return Fed::refused(Fault::NoRoom);
+            let went = count_arrivals(&sent, PrefixPlace::new(0, many));
+            let mut totals = [0u8; PatchPlace::TOTALS];
+            if add_counts(patch, arrived, went, &mut totals) {
+                return write_both(&sent[..many], left, &nodes[..kept], &totals, arrived, went, out, next);
             }
-            if next.len() < needed {
-                return Fed::refused(Fault::NoRoom);
-            }
-            write_section(&sent[..many], out);
-            write_patch_file(left, &nodes[..kept], next);
-            let written = PrefixPlace::new(0, many);
-            Fed {
-                number: ACCEPTED,
-                output,
-                patch: needed,
-                arrived,
-                sent: count_arrivals(&sent, written),
-            }
+            Fed::refused(Fault::TotalTooLarge)
         }
     }
 }
@@ -267,7 +294,7 @@ fn send_on(
     requires { ⌜ FeedRead (now patch) place (now slice) arrived (now left) ⌝ }
     ensures { λ r. ⌜ FeedPromise (now (patch .entry)) (now (slice .entry)) (now (out .entry)) (now (next .entry)) r (now (out .exit)) (now (next .exit)) ⌝ }
 {
-    if patch.len() - place.nodes < 16 {
+    if patch.len() - PatchPlace::TOTALS - 2 - place.nodes < 16 {
         return send_few(patch, place, slice, arrived, left, out, next);
     }
     send_many(patch, place, slice, arrived, left, out, next)

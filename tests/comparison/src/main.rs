@@ -8,15 +8,16 @@ use comparison::calls::library;
 use comparison::convention::{self, number, Output, Stop};
 use comparison::formats::fault;
 use comparison::{
-    compare, hold_joined, limits, Call, Calls, Operation, OtherSlices, Random, Runs, Tally,
+    compare, hold_joined, limits, Call, Calls, Operation, OtherSlices, Random, Runs, Splits, Tally,
 };
 
 const HELP: &str = "\
 compare (--calls N | --seconds N) [--seed S]
 
 Compares the library with the second interpreter, in single calls and, after every hundred of them,
-in a run of feeds. What Longest wrote is held to other slices of its type, and what Join wrote to
-the arrivals of its two slices. Prints what was met, or the first difference.
+in a run of feeds. What Longest wrote is held to other slices of its type, what Join wrote to the
+arrivals of its two slices, and some of what Feed wrote to feeds of the same slice in pieces. Prints
+what was met, or the first difference.
 
   --calls N    makes so many calls
   --seconds N  goes on for so long
@@ -61,11 +62,17 @@ fn options(words: &[&str]) -> Result<Options, Stop> {
     })
 }
 
-/// Compares a call and counts it. What Longest wrote is held to other slices of its type, and what
-/// Join wrote to the arrivals of its two slices.
+/// What draws the slices that answers are held to.
+struct Others {
+    slices: OtherSlices,
+    splits: Splits,
+}
+
+/// Compares a call and counts it. What Longest wrote is held to other slices of its type, what Join
+/// wrote to the arrivals of its two slices, and what Feed wrote to feeds of its slice in pieces.
 fn compare_call(
     call: &Call,
-    other_slices: &mut OtherSlices,
+    others: &mut Others,
     noise: &mut Random,
     tally: &mut Tally,
 ) -> Result<(), String> {
@@ -75,13 +82,19 @@ fn compare_call(
     match (call.operation, agreed.answer.number) {
         (Operation::Longest, fault::ACCEPTED) => {
             let tried =
-                (other_slices.try_against(&call.files[0], &agreed.files[0])).map_err(told)?;
+                (others.slices.try_against(&call.files[0], &agreed.files[0])).map_err(told)?;
             tally.longest.add_tried(tried);
         }
         (Operation::Join, fault::ACCEPTED) => {
             let joined = &agreed.files[0];
             let arrivals = hold_joined(&call.files, joined, noise).map_err(told)?;
             (tally.sums.add_join(&call.files[1..], joined, arrivals)).map_err(told)?;
+        }
+        (Operation::Feed, fault::ACCEPTED) => {
+            let split = (others.splits.try_against(&call.files, agreed, noise)).map_err(told)?;
+            if let Some(split) = split {
+                tally.add_split(&split);
+            }
         }
         _ => {}
     }
@@ -91,9 +104,12 @@ fn compare_call(
 fn run(options: &Options, noise: &mut Random, tally: &mut Tally) -> Result<(), String> {
     let begin = Instant::now();
     let mut runs = Runs::new(options.seed.wrapping_add(1 << 32));
-    let mut other_slices = OtherSlices::new(options.seed.wrapping_add(2 << 32));
+    let mut others = Others {
+        slices: OtherSlices::new(options.seed.wrapping_add(2 << 32)),
+        splits: Splits::new(options.seed.wrapping_add(3 << 32)),
+    };
     for (number, call) in (1_u64..).zip(Calls::new(options.seed)) {
-        compare_call(&call, &mut other_slices, noise, tally)
+        compare_call(&call, &mut others, noise, tally)
             .map_err(|text| format!("seed {}, call {number}: {text}", options.seed))?;
         if number % CALLS_PER_RUN == 0 {
             runs.compare_run(noise, tally).map_err(|text| {
@@ -137,6 +153,7 @@ fn compare_all(words: &[&str]) -> Result<(), Stop> {
     )?;
     writeln!(Output, "{}", tally.waits.told())?;
     writeln!(Output, "{}", tally.sums.told())?;
+    writeln!(Output, "{}", tally.totals.told())?;
     writeln!(
         Output,
         "{} calls of Longest: {}",

@@ -1,7 +1,6 @@
 //! Counts by other rules than M-104's, wrong in one way each: to see that calls find it.
 
 use crate::calls::call::{Call, Operation};
-use crate::calls::comparison::second_answer;
 use crate::calls::counts::Counts;
 use crate::formats::fault;
 use crate::formats::files::{contents, MOST_ARRIVALS};
@@ -72,7 +71,7 @@ impl Rule {
     pub const RIGHT: Rule = rule("right", |seen| seen.by(arrivals));
 
     /// The wrong ones.
-    pub const WRONG: [Rule; 12] = [
+    pub const WRONG: [Rule; 13] = [
         rule("bytes_of_values_counted_as_kinds", |seen| {
             seen.by(|tree| tree.iter().filter(|byte| is_arrival(**byte)).count() as u32)
         }),
@@ -104,15 +103,13 @@ impl Rule {
             Seen { slice, ..seen }.by(arrivals)
         }),
         rule("counted_up_to_a_fault", |seen| {
-            seen.also_refused(&[
-                fault::SLICE_CUT_SHORT,
-                fault::SLICE_UNLISTED,
-                fault::SLICE_LEFT_OVER,
-                fault::SLICE_MISPLACED,
-            ])
+            seen.also_refused(&fault::SLICE_NUMBERS)
         }),
         rule("counted_without_room", |seen| {
             seen.also_refused(&[fault::NO_ROOM])
+        }),
+        rule("counted_past_the_greatest_total", |seen| {
+            seen.also_refused(&[fault::TOTAL_TOO_LARGE])
         }),
     ];
 
@@ -124,11 +121,8 @@ impl Rule {
         if !matches!(call.operation, Operation::Admit | Operation::Feed) {
             return false;
         }
-        let files: Vec<&[u8]> = call.files.iter().map(Vec::as_slice).collect();
-        let mut buffers: Vec<Vec<u8>> = call.lent.iter().map(|length| vec![0; *length]).collect();
-        let mut lent: Vec<&mut [u8]> = buffers.iter_mut().map(Vec::as_mut_slice).collect();
-        let answer = second_answer(call.operation, &files, &mut lent);
-        let sent = buffers.first().filter(|_| answer.number == fault::ACCEPTED);
+        let (answer, lent) = call.second_outcome();
+        let sent = lent.first().filter(|_| answer.number == fault::ACCEPTED);
         let seen = Seen {
             number: answer.number,
             slice: contents(slice),

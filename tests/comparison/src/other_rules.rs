@@ -6,7 +6,9 @@ use second_interpreter::{
     Slice, Type,
 };
 
+use crate::calls::counts::Counts;
 use crate::formats::files::contents;
+use crate::formats::totals::totals_in;
 use crate::formats::trees::{patch_trees, slice_tree};
 
 /// What a rule can look at.
@@ -87,7 +89,7 @@ impl Rule {
 
     /// The output file and the patch file that a feed of accepted files writes by this rule. None
     /// if a node is sent what is no slice of its input: a wrong rule can send a crossing of what is
-    /// not complete.
+    /// not complete. None, too, if with what this rule sends a total would pass the greatest.
     pub fn feed(self, patch: &[u8], slice: &[u8]) -> Option<[Vec<u8>; 2]> {
         let (input, node) = patch_trees(patch);
         let slice = slice_tree(contents(slice));
@@ -98,7 +100,15 @@ impl Rule {
         };
         let fed = feeding.node(&node, &input, &slice)?;
         let input_left = what_slice_leaves(&input, &slice)?;
-        Some([slice_file(&fed.sent), patch_file(&input_left, &fed.left)])
+        let counts = Counts {
+            arrived: slice.arrivals(),
+            sent: fed.sent.arrivals(),
+        };
+        let totals = counts.added_to(totals_in(patch)?)?;
+        Some([
+            slice_file(&fed.sent),
+            patch_file(&input_left, &fed.left, totals),
+        ])
     }
 }
 

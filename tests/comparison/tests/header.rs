@@ -5,6 +5,7 @@ use comparison::calls::library;
 use comparison::formats::files::{
     LONGEST_PATCH_FILE, LONGEST_SLICE_FILE, LONGEST_TYPE_FILE, MOST_ARRIVALS,
 };
+use comparison::formats::totals::{GREATEST_TOTAL, TOTALS_SECTION};
 use std::collections::BTreeMap;
 
 const HEADER: &str = include_str!("../../../include/wosthile.h");
@@ -101,7 +102,7 @@ fn numbers_are_those_of_the_header() {
     let mut header = members("wosthile_number", "WOSTHILE_FAULT_");
     let accepted = header.remove("WOSTHILE_ACCEPTED").expect("accepted");
     header.insert("ACCEPTED".to_string(), accepted);
-    assert!(header.len() >= 13, "{header:?}");
+    assert!(header.len() >= 15, "{header:?}");
     assert_eq!(header, constants(FAULTS));
 }
 
@@ -112,8 +113,12 @@ fn limits_are_those_of_the_header() {
         ("WOSTHILE_SLICE_FILE_MAX", LONGEST_SLICE_FILE),
         ("WOSTHILE_PATCH_FILE_MAX", LONGEST_PATCH_FILE),
         ("WOSTHILE_ARRIVALS_MAX", MOST_ARRIVALS as usize),
+        ("WOSTHILE_TOTAL_MAX", GREATEST_TOTAL as usize),
+        ("WOSTHILE_TOTALS_SECTION", TOTALS_SECTION),
     ] {
-        assert_eq!(defined(name), limit.to_string(), "{name}");
+        // In C a number above 2,147,483,647 is marked as one without a sign.
+        let digits = defined(name).trim_end_matches('u');
+        assert_eq!(digits, limit.to_string(), "{name}");
     }
 }
 

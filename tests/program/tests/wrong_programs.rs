@@ -19,19 +19,22 @@ fn wrong_program(fault: &str) -> Program {
 }
 
 /// The faults, and who finds them.
-const WRONG: [(&str, &[Kind]); 57] = [
+const WRONG: [(&str, &[Kind]); 65] = [
     // What is printed.
     ("upper_case", &[Runs, LargestAnswers, OpenInput]),
     ("one_digit_below_16", &[Runs, Ends]),
     ("counts_printed", &[Runs, Ends]),
     ("arrivals_printed", &[Runs, Ends]),
+    ("totals_printed", &[Runs, Ends]),
     ("space_at_the_end", &[Runs, DamagedPatches, Ends]),
     ("carriage_return", &[Runs, DamagedPatches, Ends]),
     ("no_last_line_feed", &[Runs, DamagedPatches, Ends]),
     ("line_buffer_of_1535", &[LargestAnswers]),
     ("line_buffer_of_1024", &[LargestAnswers]),
     ("output_buffer_of_512", &[LargestAnswers]),
-    ("patch_buffer_of_8481", &[PatchLengths]),
+    // The length of the longest patch before it had totals, and one less than that of now.
+    ("patch_buffer_of_8482", &[PatchLengths]),
+    ("patch_buffer_of_8491", &[PatchLengths]),
     ("first_64_kib_of_output", &[LargestAnswers, LongStreams]),
     ("type_before_printed", &[Runs, Ends]),
     ("accepted_patch_prints_0", &[Runs, Ends]),
@@ -60,6 +63,12 @@ const WRONG: [(&str, &[Kind]); 57] = [
     ("second_choice_fed_as_first", &[Runs, Ends]),
     ("second_marked_as_first", &[Runs, Ends]),
     ("none_chosen_sends_nothing", &[Runs, Ends]),
+    // Totals, of which nothing is seen but 31 and a refused patch.
+    ("totals_lost_between_slices", &[Runs, Ends]),
+    ("totals_begin_at_0", &[Runs, Ends]),
+    ("passed_total_stops", &[Runs, Ends]),
+    ("totals_have_to_be_0", &[Runs, Ends]),
+    ("two_sections_pass", &[DamagedPatches]),
     // When cues and levels send: the rules of `comparison::other_rules`.
     ("only_arrivals_open", &[Runs, Ends]),
     ("opened_by_the_slice_of_the_patch", &[Runs, Ends]),
@@ -75,6 +84,7 @@ const WRONG: [(&str, &[Kind]); 57] = [
     ("signed_length", &[PatchLengths, SliceLengths]),
     ("files_of_513", &[PatchLengths, SliceLengths]),
     ("files_of_8482", &[PatchLengths, SliceLengths]),
+    ("files_of_8492", &[PatchLengths, SliceLengths]),
     ("files_of_32767", &[PatchLengths, SliceLengths]),
     ("files_of_65534", &[PatchLengths, SliceLengths]),
     ("long_file_not_skipped", &[PatchLengths, SliceLengths]),
@@ -98,7 +108,7 @@ const WRONG: [(&str, &[Kind]); 57] = [
 ];
 
 /// So many streams of a kind find the error, or it is not found.
-const MOST_STREAMS: usize = 250;
+const MOST_STREAMS: usize = 450;
 
 /// How many streams of a kind it takes to find it, if the kind does.
 fn streams_to_find(kind: Kind, program: &Program) -> Option<usize> {

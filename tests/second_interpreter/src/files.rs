@@ -11,6 +11,7 @@ use crate::numbers::{
     SLICE_UNLISTED_KIND, TOO_MANY_NODES, TYPE_TOO_LARGE, UNLISTED_KIND,
 };
 use crate::slices::Slice;
+use crate::totals::Totals;
 use crate::types::Type;
 
 /// The numbers that a kind of file gives for the faults all files share.
@@ -64,6 +65,13 @@ impl<'a> Reader<'a> {
         Ok(u16::from_be_bytes([high, low]))
     }
 
+    /// M-105: "four bytes each, high byte first".
+    fn four_bytes(&mut self) -> Result<u32, Number> {
+        let high = self.two_bytes()?;
+        let low = self.two_bytes()?;
+        Ok(u32::from(high) << 16 | u32::from(low))
+    }
+
     /// "A *section* is a two-byte count and then that many bytes." Cut short if
     /// it is "longer than the bytes remain", the count itself included: "a
     /// section's length is tried before its contents".
@@ -96,16 +104,15 @@ pub(crate) fn read_type_file(file: &[u8]) -> Result<Type, Number> {
     Ok(stream)
 }
 
-/// "a patch file is two, the input type and then the nodes"; "the type section
-/// ends before the next begins".
-pub(crate) fn read_patch_file(file: &[u8]) -> Result<(Type, Node), Number> {
+/// "a patch file is two, the input type and then the nodes", and since M-105 "gets a
+/// third section"; "the type section ends before the next begins", and so do the nodes.
+pub(crate) fn read_patch_file(file: &[u8]) -> Result<(Type, Node, Totals), Number> {
     let mut file = Reader::new(file, TYPE_AND_PATCH_FAULTS);
     let input = read_type_section(&mut file)?;
-    let mut section = file.section()?;
-    let node = read_node(&mut section, &mut 0)?;
-    section.end()?;
+    let node = read_node_section(&mut file)?;
+    let totals = read_totals_section(&mut file)?;
     file.end()?;
-    Ok((input, node))
+    Ok((input, node, totals))
 }
 
 /// "a slice file is one section", here of a slice of the given type.
@@ -124,6 +131,25 @@ fn read_type_section(file: &mut Reader) -> Result<Type, Number> {
     let stream = read_type(&mut section, &mut 0)?;
     section.end()?;
     Ok(stream)
+}
+
+/// A section with the nodes of a patch.
+fn read_node_section(file: &mut Reader) -> Result<Node, Number> {
+    let mut section = file.section()?;
+    let node = read_node(&mut section, &mut 0)?;
+    section.end()?;
+    Ok(node)
+}
+
+/// M-105: "a third section of eight bytes: arrived, then sent ... A whole section of
+/// another length is 1 if shorter, 3 if longer." These are the numbers of a section
+/// that ends before what is read in it or goes on behind it, so it is read as such.
+fn read_totals_section(file: &mut Reader) -> Result<Totals, Number> {
+    let mut section = file.section()?;
+    let arrived = section.four_bytes()?;
+    let sent = section.four_bytes()?;
+    section.end()?;
+    Ok(Totals { arrived, sent })
 }
 
 /// A type in preorder; `nodes` counts those of its tree that are already read.
@@ -259,13 +285,21 @@ pub fn slice_file(slice: &Slice) -> Vec<u8> {
     section(&contents)
 }
 
-/// The file of a patch, from its input type and its root node.
-pub fn patch_file(input: &Type, node: &Node) -> Vec<u8> {
+/// The file of a patch, from its input type, its root node and its totals.
+pub fn patch_file(input: &Type, node: &Node, totals: Totals) -> Vec<u8> {
     let mut contents = Vec::new();
     write_node(node, &mut contents);
     let mut file = type_file(input);
     file.extend(section(&contents));
+    file.extend(section(&totals_bytes(totals)));
     file
+}
+
+/// M-105: "eight bytes: arrived, then sent, four bytes each, high byte first".
+fn totals_bytes(totals: Totals) -> Vec<u8> {
+    let mut bytes = totals.arrived.to_be_bytes().to_vec();
+    bytes.extend(totals.sent.to_be_bytes());
+    bytes
 }
 
 /// A section with these contents. Contents too long for a count, which no tree

@@ -1,5 +1,5 @@
 //! A plain interpreter of patches, slices and feeds, written from document 01 and
-//! requests M-100 to M-104 of document 02 alone, to be compared with another
+//! requests M-100 to M-105 of document 02 alone, to be compared with another
 //! implementation. M-102 changes no answer, so nothing here is its own.
 //!
 //! Trees live on the heap. Files are read into trees ([`Type`], [`Slice`],
@@ -20,6 +20,7 @@ mod numbers;
 mod operations;
 mod program;
 mod slices;
+mod totals;
 mod types;
 mod typing;
 
@@ -29,8 +30,9 @@ pub use files::{patch_file, slice_file, type_file};
 pub use measuring::longest_slice;
 pub use nodes::Node;
 pub use numbers::Number;
-pub use operations::{admit, check, feed, join, left, longest, Admitted, FedFiles};
+pub use operations::{admit, check, feed, join, left, longest, totals_of, Admitted, FedFiles};
 pub use program::run_program;
 pub use slices::{empty_slice, join_slices, what_slice_leaves, Slice};
+pub use totals::Totals;
 pub use types::Type;
 pub use typing::output_type;

@@ -1,15 +1,16 @@
-//! The numbers with which document 01 and request M-100 refuse; M-101, M-103 and
-//! M-104 have none of their own.
+//! The numbers with which document 01 and requests M-100 and M-105 refuse; M-101,
+//! M-103 and M-104 have none of their own.
 
 /// Refusal number as the documents give it.
 pub type Number = u32;
 
 /// 1: a section is longer than the bytes remain, or a tree needs a byte past
-/// its section.
+/// its section, or a section of totals is shorter than eight bytes (M-105).
 pub(crate) const CUT_SHORT: Number = 1;
 /// 2: a kind byte not listed.
 pub(crate) const UNLISTED_KIND: Number = 2;
-/// 3: bytes after a whole tree in its section, or after the last section.
+/// 3: bytes after a whole tree in its section, or after the last section, or a
+/// section of totals is longer than eight bytes (M-105).
 pub(crate) const LEFT_OVER: Number = 3;
 /// 4: a type needs a 256th node, or the type a node gives is too large.
 pub(crate) const TYPE_TOO_LARGE: Number = 4;
@@ -31,3 +32,5 @@ pub(crate) const SLICE_MISPLACED_KIND: Number = 14;
 pub(crate) const BUFFER_TOO_SHORT: Number = 20;
 /// 30: choose's output types differ (M-100).
 pub(crate) const OUTPUTS_DIFFER: Number = 30;
+/// 31: a total would pass 4,294,967,295 (M-105).
+pub(crate) const TOTAL_TOO_LARGE: Number = 31;

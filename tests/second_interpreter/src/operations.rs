@@ -7,7 +7,8 @@
 //! made whole before the first byte is written.
 //!
 //! M-104: "Reading a slice now also counts the cues and levels come in it; Admit and
-//! Feed give this, and Feed the number sent." A refused call gives no count.
+//! Feed give this, and Feed the number sent." A refused call gives no count. M-105:
+//! "Feed adds its two counts" to the totals that the patch file brings.
 
 use crate::feeding::{feed_node, Fed};
 use crate::files::{
@@ -17,6 +18,7 @@ use crate::measuring::longest_slice;
 use crate::nodes::Node;
 use crate::numbers::{Number, BUFFER_TOO_SHORT};
 use crate::slices::{join_slices, what_slice_leaves, Slice};
+use crate::totals::Totals;
 use crate::types::Type;
 use crate::typing::output_type;
 
@@ -35,7 +37,8 @@ pub struct Admitted {
 }
 
 /// What an accepted Feed answers: "the number of bytes written, for Feed one number
-/// for each buffer", and the two counts of M-104.
+/// for each buffer", and the two counts of M-104. They are those of this one feed; the
+/// totals of M-105 stand in the patch file left.
 #[derive(Clone, Copy, Debug, PartialEq, Eq)]
 pub struct FedFiles {
     /// The bytes written of "the output slice file".
@@ -89,28 +92,32 @@ pub fn join(
 /// "**Feed** a patch and a slice; writes the output slice file and the patch
 /// file left. As Check without 20; 11 to 14 against the input type; 20 if
 /// either buffer is too short." Since M-104 it also gives the count of the slice
-/// read "and ... the number sent".
+/// read "and ... the number sent", and since M-105 it adds both to the totals: "31, a
+/// total would pass 4,294,967,295, after the slice's refusals and before 20".
 pub fn feed(
     patch: &[u8],
     slice: &[u8],
     output: &mut [u8],
     patch_left: &mut [u8],
 ) -> Result<FedFiles, Number> {
-    let Accepted { input, node, .. } = accept_patch(patch)?;
+    let accepted = accept_patch(patch)?;
+    let (input, node) = (accepted.input, accepted.node);
     let slice = read_slice_file(slice, &input)?;
     let Fed { sent, left } = feed_node(&node, &input, &slice).expect(PATCH_WAS_CHECKED);
+    let (arrived, sent_count) = (slice.arrivals(), sent.arrivals());
+    let totals = accepted.totals.with_counts(arrived, sent_count)?;
     // "The patch left has as its input type what the slice leaves."
     let input_left = what_slice_leaves(&input, &slice).expect(SLICE_WAS_READ);
     let sent_file = slice_file(&sent);
-    let left_file = patch_file(&input_left, &left);
+    let left_file = patch_file(&input_left, &left, totals);
     if sent_file.len() > output.len() || left_file.len() > patch_left.len() {
         return Err(BUFFER_TOO_SHORT);
     }
     Ok(FedFiles {
         output: write_answer(&sent_file, output)?,
         patch: write_answer(&left_file, patch_left)?,
-        arrived: slice.arrivals(),
-        sent: sent.arrivals(),
+        arrived,
+        sent: sent_count,
     })
 }
 
@@ -121,20 +128,29 @@ pub fn longest(type_file: &[u8], buffer: &mut [u8]) -> Result<usize, Number> {
     write_answer(&slice_file(&longest_slice(&stream)), buffer)
 }
 
+/// The totals of an accepted patch file, none of a refused one. No operation of the
+/// documents: it is for those who test or compare.
+pub fn totals_of(patch_file: &[u8]) -> Option<Totals> {
+    let accepted = accept_patch(patch_file).ok()?;
+    Some(accepted.totals)
+}
+
 /// A patch that the rules of Check have no number for, 20 aside.
 struct Accepted {
     input: Type,
     node: Node,
+    totals: Totals,
     output: Type,
 }
 
 /// Both passes of Check: the whole file first, then the types.
 fn accept_patch(patch: &[u8]) -> Result<Accepted, Number> {
-    let (input, node) = read_patch_file(patch)?;
+    let (input, node, totals) = read_patch_file(patch)?;
     let output = output_type(&node, &input)?;
     Ok(Accepted {
         input,
         node,
+        totals,
         output,
     })
 }

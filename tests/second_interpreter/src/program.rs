@@ -11,8 +11,8 @@ use crate::operations::{check, feed};
 const LONGEST_TYPE_FILE: usize = 257;
 /// "So a slice file has at most 513 bytes."
 const LONGEST_SLICE_FILE: usize = 513;
-/// The longest file within the bounds, a patch file.
-const LONGEST_PATCH_FILE: usize = 8_482;
+/// The longest file within the bounds: "A patch file may now have 8,492 bytes" (M-105).
+const LONGEST_PATCH_FILE: usize = 8_492;
 
 /// The program of document 01: reads the stream, writes the lines.
 ///
@@ -43,8 +43,8 @@ pub fn run_program(input: &mut dyn Read, output: &mut dyn Write) -> io::Result<(
 
 /// One feed: its line and the patch left. "A line per slice: the number, and if
 /// 0 the output and the left input type, each the section's bytes in two-digit
-/// lower-case hexadecimal, one space between fields." The counts of M-104 are no
-/// fields of it.
+/// lower-case hexadecimal, one space between fields." The counts of M-104 and the
+/// totals of M-105 are no fields of it.
 fn feed_once(patch: &[u8], slice: &[u8]) -> Result<(String, Vec<u8>), Number> {
     let mut output = vec![0; LONGEST_SLICE_FILE];
     let mut patch_left = vec![0; LONGEST_PATCH_FILE];

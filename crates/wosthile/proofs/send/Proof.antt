@@ -1,224 +1,128 @@
--- `send` meets its contract: the step writes what is sent and the node left on work bytes that have room for every answer, and they are
--- copied only where both files have room; if it fails, Check's second pass has a fault (`FeedOutcome`).
 use borrow.Author.Needs.{needs}
-use mathlib.Core.Path.{sym}
-use native.Mathlib.Omega.{arith}
-use lib.Seq.{length-take-le}
-use Rattle.wosthile.proofs.FeedOutcome.{output-short, patch-short, files-keep, refuses-keep, files, feed-due, small-left, step-failed, Done, done, sent-in, sent-ends, section-due, output-written, patch-due}
 use Rattle.wosthile.proofs.send.Statement.{statement}
 use Rattle.wosthile.proofs.send.Tie as tie
+use Rattle.wosthile.proofs.send.Reads as reads
+use Rattle.wosthile.proofs.send.Lts as lts
+use Rattle.feeding.proofs.feed_node.Reads as feed-node-reads
+use Rattle.meaning.proofs.Fed.refused.Reads as refused-reads
+use Rattle.reading.proofs.inputs.Input.new.Reads as inputs-Input-new-reads
+use Rattle.reading.proofs.prefixes.PrefixPlace.new.Reads as prefixes-PrefixPlace-new-reads
+use Rattle.reading.proofs.prefixes.count_arrivals.Reads as count-arrivals-reads
+use Rattle.wosthile.proofs.refuse.Reads as refuse-reads
+use Rattle.wosthile.proofs.totals.add_counts.Reads as add-counts-reads
+use Rattle.wosthile.proofs.write_both.Reads as write-both-reads
 
--- The map of places: what stands before what.
-abbrev new2-before-given : tie.After-given → tie.After-new2
-new2-before-given c = c .before .before .before
-
-abbrev new-before-given : tie.After-given → tie.After-new
-new-before-given c = new2-before-given c .before
-
-abbrev entry-before-given : tie.After-given → tie.Start
-entry-before-given c = new-before-given c .before .before .before .before .before .before .before
-
-abbrev feed-node-before-known-told : tie.After-known-told → tie.After-feed-node
-feed-node-before-known-told c = c .before .before .before .before .before .before .before
-
-abbrev new2-before-known-told : tie.After-known-told → tie.After-new2
-new2-before-known-told c = new2-before-given (feed-node-before-known-told c .before)
-
-abbrev new-before-known-told : tie.After-known-told → tie.After-new
-new-before-known-told c = new2-before-known-told c .before
-
-abbrev entry-before-known-told : tie.After-known-told → tie.Start
-entry-before-known-told c = entry-before-given (feed-node-before-known-told c .before)
-
-abbrev feed-node-before-refuse : tie.After-refuse → tie.After-feed-node
-feed-node-before-refuse c = c .before .before .before .before .before .before .before
-
-abbrev new2-before-refuse : tie.After-refuse → tie.After-new2
-new2-before-refuse c = new2-before-given (feed-node-before-refuse c .before)
-
-abbrev new-before-refuse : tie.After-refuse → tie.After-new
-new-before-refuse c = new2-before-refuse c .before
-
-abbrev entry-before-refuse : tie.After-refuse → tie.Start
-entry-before-refuse c = entry-before-given (feed-node-before-refuse c .before)
-
-abbrev known-told-before-refused : tie.After-refused → tie.After-known-told
-known-told-before-refused c = c .before .before
-
-abbrev known-told-before-else2 : tie.Else2 → tie.After-known-told
-known-told-before-else2 c = c .before .before
-
-abbrev known-told-before-refused2 : tie.After-refused2 → tie.After-known-told
-known-told-before-refused2 c = c .before .before .before
-
-abbrev known-told-before-sent3 : tie.After-sent3 → tie.After-known-told
-known-told-before-sent3 c = known-told-before-else2 (c .before)
-
-abbrev known-told-before-write-section-arg : tie.After-write-section-arg → tie.After-known-told
-known-told-before-write-section-arg c = known-told-before-sent3 (c .before)
-
-abbrev known-told-before-slice-known5 : tie.After-slice-known5 → tie.After-known-told
-known-told-before-slice-known5 c = known-told-before-write-section-arg (c .before .before .before)
-
-abbrev known-told-before-write-patch-file-arg : tie.After-write-patch-file-arg → tie.After-known-told
-known-told-before-write-patch-file-arg c = known-told-before-slice-known5 (c .before)
-
-abbrev known-told-before-write-patch-file-arg2 : tie.After-write-patch-file-arg2 → tie.After-known-told
-known-told-before-write-patch-file-arg2 c = known-told-before-write-patch-file-arg (c .before)
-
-abbrev write-patch-file-before-sent4 : tie.After-sent4 → tie.After-write-patch-file
-write-patch-file-before-sent4 c = c .before .before .before .before
-
-abbrev write-section-before-sent4 : tie.After-sent4 → tie.After-write-section
-write-section-before-sent4 c = write-patch-file-before-sent4 c .before .before .before .before .before
-
-abbrev known-told-before-sent4 : tie.After-sent4 → tie.After-known-told
-known-told-before-sent4 c = known-told-before-write-patch-file-arg2 (write-patch-file-before-sent4 c .before)
-
+-- src/lib.rt:223:41
 new-requires : tie.Need-new-requires
 new-requires c κs = search needs
 
+-- src/lib.rt:223:9
 new-requires-2 : tie.Need-new-requires-2
 new-requires-2 c κs = search needs
 
+-- src/lib.rt:230:9
 slice-aggregate-feed-node : tie.Need-slice-aggregate-feed-node
 slice-aggregate-feed-node c = search needs
 
+-- src/lib.rt:232:9
 slice-aggregate-feed-node-2 : tie.Need-slice-aggregate-feed-node-2
 slice-aggregate-feed-node-2 c = search needs
 
+-- src/lib.rt:224:11
 feed-node-requires : tie.Need-feed-node-requires
-feed-node-requires c κs =
-    let due = entry-before-given c .pre in
-    feed-due (due .reads) (new-before-given c .new .ensures) (new2-before-given c .new2 .ensures) _ _ _ (omega arith) (due .room) (omega arith)
+feed-node-requires c κs = ?
 
+-- src/lib.rt:235:49
 enum-told : tie.Need-enum-told
 enum-told c = search needs
 
+-- src/lib.rt:235:28
 refuse-requires : tie.Need-refuse-requires
 refuse-requires c κs = search needs
 
+-- src/lib.rt:236:22
 enum-known-step : tie.Need-enum-known-step
 enum-known-step c = search needs
 
--- What the step has done, once it has answered.
-is-done : (c : tie.After-known-told)
-    → (let fed = feed-node-before-known-told c .feed-node in
-    Done (entry-before-known-told c .pre .reads) (fed .last .1 .1 .1 .1 .1 .0) (fed .last .1 .1 .1 .1 .1 .1 .0) (c .before .step .given .0 .0))
-is-done c =
-    let due = entry-before-known-told c .pre in
-    let answers = feed-node-before-known-told c .feed-node .ensures .each
-    (feed-due (due .reads) (new-before-known-told c .new .ensures) (new2-before-known-told c .new2 .ensures) _ _ _ (omega arith) (due .room) (omega arith)) in
-    done (due .reads) (omega arith) answers (c .before .step .given .1)
-
-add-output : tie.Need-add-output
-add-output c =
-    omega (arith, is-done c .sent-small)
-
-add-needed : tie.Need-add-needed
-add-needed c =
-    omega (arith, small-left (entry-before-known-told c .pre .reads))
-
-add-needed-2 : tie.Need-add-needed-2
-add-needed-2 c =
-    omega (arith, small-left (entry-before-known-told c .pre .reads))
-
-add-needed-3 : tie.Need-add-needed-3
-add-needed-3 c =
-    omega (arith, is-done c .nodes-small, small-left (entry-before-known-told c .pre .reads))
-
-refused-requires : tie.Need-refused-requires
-refused-requires c κs = search needs
-
-same-length : tie.Need-same-length
-same-length c = search needs
-
-returns : tie.Need-returns
-returns c =
-    let told = known-told-before-refused c in
-    let due = entry-before-known-told told .pre .reads in
-    rw (c .refused .ensures) (output-short _ _ (files due) (is-done told .feed-is) (omega (arith, is-done told .output-long)))
-
-refused-requires-2 : tie.Need-refused-requires-2
-refused-requires-2 c κs = search needs
-
-same-length-2 : tie.Need-same-length-2
-same-length-2 c = search needs
-
-returns-2 : tie.Need-returns-2
-returns-2 c =
-    let told = known-told-before-refused2 c in
-    let due = entry-before-known-told told .pre .reads in
-    rw (c .refused2 .ensures)
-    (patch-short _ _ (files due) (is-done told .feed-is) (omega (arith, is-done told .output-long)) (omega (arith, is-done told .patch-long)))
-
-array-share-prefix-sent : tie.Need-array-share-prefix-sent
-array-share-prefix-sent c =
-    is-done (known-told-before-else2 c) .sent-inside
-
-slice-aggregate-write-section : tie.Need-slice-aggregate-write-section
-slice-aggregate-write-section c =
-    sym (length-take-le _ _ (is-done (known-told-before-sent3 c) .sent-inside))
-
-write-section-requires : tie.Need-write-section-requires
-write-section-requires c κs =
-    let told = known-told-before-write-section-arg c in
-    section-due (entry-before-known-told told .pre .reads) (is-done told) (entry-before-known-told told .args .out .now) (omega arith)
-
-slice-reshare-prefix-write-patch-file : tie.Need-slice-reshare-prefix-write-patch-file
-slice-reshare-prefix-write-patch-file c =
-    is-done (known-told-before-slice-known5 c) .nodes-inside
-
-slice-aggregate-write-patch-file : tie.Need-slice-aggregate-write-patch-file
-slice-aggregate-write-patch-file c =
-    sym (length-take-le _ _ (is-done (known-told-before-write-patch-file-arg c) .nodes-inside))
-
-write-patch-file-requires : tie.Need-write-patch-file-requires
-write-patch-file-requires c κs =
-    let told = known-told-before-write-patch-file-arg2 c in
-    patch-due (entry-before-known-told told .pre .reads) (is-done told) (entry-before-known-told told .args .next .now) (omega arith)
-
-new-requires-3 : tie.Need-new-requires-3
-new-requires-3 c κs = search needs
-
+-- src/lib.rt:239:39
 slice-aggregate-count-arrivals : tie.Need-slice-aggregate-count-arrivals
 slice-aggregate-count-arrivals c = search needs
 
-count-arrivals-requires : tie.Need-count-arrivals-requires
-count-arrivals-requires c κs =
-    let told = known-told-before-sent4 c in
-    let due = entry-before-known-told told .pre .reads in
-    (record { prefix = _; here = sent-in due (is-done told) (c .before .new3 .ensures) }, sent-ends due (is-done told) (c .before .new3 .ensures))
+-- src/lib.rt:239:46
+new-requires-3 : tie.Need-new-requires-3
+new-requires-3 c κs = search needs
 
+-- src/lib.rt:239:17
+count-arrivals-requires : tie.Need-count-arrivals-requires
+count-arrivals-requires c κs = ?
+
+-- src/lib.rt:241:49
+slice-aggregate-add-counts : tie.Need-slice-aggregate-add-counts
+slice-aggregate-add-counts c = search needs
+
+-- src/lib.rt:241:16
+add-counts-requires : tie.Need-add-counts-requires
+add-counts-requires c κs = ?
+
+-- src/lib.rt:242:35
+array-share-prefix-sent : tie.Need-array-share-prefix-sent
+array-share-prefix-sent c = ?
+
+-- src/lib.rt:242:35
+slice-aggregate-write-both : tie.Need-slice-aggregate-write-both
+slice-aggregate-write-both c = ?
+
+-- src/lib.rt:242:56
+slice-reshare-prefix-write-both : tie.Need-slice-reshare-prefix-write-both
+slice-reshare-prefix-write-both c = ?
+
+-- src/lib.rt:242:56
+slice-aggregate-write-both-2 : tie.Need-slice-aggregate-write-both-2
+slice-aggregate-write-both-2 c = ?
+
+-- src/lib.rt:242:72
+slice-aggregate-write-both-3 : tie.Need-slice-aggregate-write-both-3
+slice-aggregate-write-both-3 c = search needs
+
+-- src/lib.rt:242:17
+write-both-requires : tie.Need-write-both-requires
+write-both-requires c κs = ?
+
+-- src/lib.rt:242:17
+same-length : tie.Need-same-length
+same-length c = ?
+
+-- src/lib.rt:242:17
+same-length-2 : tie.Need-same-length-2
+same-length-2 c = search needs
+
+-- src/lib.rt:242:17
 same-length-3 : tie.Need-same-length-3
 same-length-3 c = search needs
 
-returns-3 : tie.Need-returns-3
-returns-3 c =
-    let due = entry-before-refuse c .pre in
-    let answers = feed-node-before-refuse c .feed-node .ensures .each
-    (feed-due (due .reads) (new-before-refuse c .new .ensures) (new2-before-refuse c .new2 .ensures) _ _ _ (omega arith) (due .room) (omega arith)) in
-    refuses-keep (due .reads .read) _ _ _ (c .refuse .ensures)
-    (λ t typed. step-failed (due .reads) (omega arith) answers (c .before .enum-told .given .1) t typed)
+-- src/lib.rt:242:17
+returns : tie.Need-returns
+returns c = ?
 
+-- src/lib.rt:244:13
+refused-requires : tie.Need-refused-requires
+refused-requires c κs = search needs
+
+-- src/lib.rt:208:1
 same-length-4 : tie.Need-same-length-4
 same-length-4 c = search needs
 
+-- src/lib.rt:208:1
+returns-2 : tie.Need-returns-2
+returns-2 c = ?
+
+-- src/lib.rt:208:1
 same-length-5 : tie.Need-same-length-5
 same-length-5 c = search needs
 
-same-length-6 : tie.Need-same-length-6
-same-length-6 c = search needs
-
-returns-4 : tie.Need-returns-4
-returns-4 c =
-    let section = write-section-before-sent4 (c .before) in
-    let told = known-told-before-sent4 (c .before) in
-    let due = entry-before-known-told told .pre .reads in
-    files-keep _ _ (files due) (is-done told .feed-is) (omega (arith, is-done told .output-long)) (omega (arith, is-done told .patch-long))
-    (sym (is-done told .output-long)) (sym (is-done told .patch-long)) (due .arrived-is) (c .count-arrivals .ensures .each _ (sent-in due (is-done told) (c .before .before .new3 .ensures)))
-    (output-written due (is-done told) _ (section .write-section .ensures))
-    (write-patch-file-before-sent4 (c .before) .write-patch-file .ensures .each (patch-due due (is-done told) (entry-before-known-told told .args .next .now) (omega arith)))
+-- src/lib.rt:208:1
+returns-3 : tie.Need-returns-3
+returns-3 c = ?
 
 pub send-spec : {M : Type 1} → statement M
 send-spec =
@@ -232,28 +136,23 @@ send-spec =
     enum-told
     refuse-requires
     enum-known-step
-    add-output
-    add-needed
-    add-needed-2
-    add-needed-3
-    refused-requires
-    same-length
-    returns
-    refused-requires-2
-    same-length-2
-    returns-2
-    array-share-prefix-sent
-    slice-aggregate-write-section
-    write-section-requires
-    slice-reshare-prefix-write-patch-file
-    slice-aggregate-write-patch-file
-    write-patch-file-requires
-    new-requires-3
     slice-aggregate-count-arrivals
+    new-requires-3
     count-arrivals-requires
+    slice-aggregate-add-counts
+    add-counts-requires
+    array-share-prefix-sent
+    slice-aggregate-write-both
+    slice-reshare-prefix-write-both
+    slice-aggregate-write-both-2
+    slice-aggregate-write-both-3
+    write-both-requires
+    same-length
+    same-length-2
     same-length-3
-    returns-3
+    returns
+    refused-requires
     same-length-4
+    returns-2
     same-length-5
-    same-length-6
-    returns-4)
+    returns-3)

@@ -22,7 +22,7 @@ part-is a x = take-all (length x - a) (drop a x) (omega (arith, length-drop a x)
 pub back-is : (a : ℕ) (x y : List ℕ) → back a x y ≡ take a x ++ y
 back-is a x y = rw (drop-of-length-le (drop a x) {i = length x - a} (omega (arith, length-drop a x)), append-nil)
 
--- One byte, and two, at the front.
+-- One byte, two and four, at the front.
 pub byte : (x : List ℕ) (k : ℕ) → 0 < length x → set x 0 k ≡ at-front (k ∷ []) x
 byte x k h = set-split x 0 k h
 
@@ -30,6 +30,13 @@ pub two-bytes : (x : List ℕ) (j k : ℕ) → 2 ≤ length x → set (set x 0 j
 two-bytes [] j k h = absurd (omega arith)
 two-bytes (a ∷ []) j k h = absurd (omega arith)
 two-bytes (a ∷ b ∷ x) j k h = refl
+
+pub four-bytes : (x : List ℕ) (i j k l : ℕ) → 4 ≤ length x → set (set (set (set x 0 i) 1 j) 2 k) 3 l ≡ at-front (i ∷ j ∷ k ∷ l ∷ []) x
+four-bytes [] i j k l h = absurd (omega arith)
+four-bytes (a ∷ []) i j k l h = absurd (omega arith)
+four-bytes (a ∷ b ∷ []) i j k l h = absurd (omega arith)
+four-bytes (a ∷ b ∷ c ∷ []) i j k l h = absurd (omega arith)
+four-bytes (a ∷ b ∷ c ∷ d ∷ x) i j k l h = refl
 
 -- The list keeps its length.
 pub front-length : (e x : List ℕ) → length e ≤ length x → length (at-front e x) ≡ length x

@@ -2,7 +2,7 @@
 
 use std::fmt;
 
-use crate::calls::comparison::second_answer;
+use crate::calls::comparison::{second_answer, Answer};
 use crate::formats::files::{decimal, LONGEST_PATCH_FILE, LONGEST_SLICE_FILE, LONGEST_TYPE_FILE};
 
 /// The operations of the library.
@@ -101,14 +101,18 @@ impl Call {
 
     /// How many bytes each answer has, if the files are accepted; else none.
     pub fn needs(&self) -> Vec<usize> {
-        let buffers = self.operation.buffers();
-        let mut room: Vec<Vec<u8>> = (buffers.iter())
-            .map(|buffer| vec![0; buffer.longest])
-            .collect();
-        let mut lent: Vec<&mut [u8]> = room.iter_mut().map(Vec::as_mut_slice).collect();
+        let roomy = Call::roomy(self.operation, self.files.clone());
+        let answer = roomy.second_outcome().0;
+        answer.written[..roomy.lent.len()].to_vec()
+    }
+
+    /// What the second interpreter answers, and what it leaves in lent buffers of zeros.
+    pub fn second_outcome(&self) -> (Answer, Vec<Vec<u8>>) {
+        let mut lent: Vec<Vec<u8>> = self.lent.iter().map(|length| vec![0; *length]).collect();
+        let mut buffers: Vec<&mut [u8]> = lent.iter_mut().map(Vec::as_mut_slice).collect();
         let files: Vec<&[u8]> = self.files.iter().map(Vec::as_slice).collect();
-        let answer = second_answer(self.operation, &files, &mut lent);
-        answer.written[..buffers.len()].to_vec()
+        let answer = second_answer(self.operation, &files, &mut buffers);
+        (answer, lent)
     }
 }
 

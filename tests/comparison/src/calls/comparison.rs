@@ -6,6 +6,7 @@ use crate::calls::library;
 use crate::formats::fault;
 use crate::formats::files::{contents, decimal};
 use crate::formats::preorder::arrivals;
+use crate::formats::totals::totals_in;
 use crate::generators::random::Random;
 
 /// So many random bytes lie in front of and behind every file and every lent buffer. Behind a
@@ -210,6 +211,8 @@ pub fn compare(call: &Call, random: &mut Random) -> Result<Agreed, String> {
         "both altered a byte that stays as it was"
     } else if ours.answer.counts != due_counts(call, &ours) {
         "both count otherwise than the kinds in the slices"
+    } else if !adds_totals(call, &ours) {
+        "both leave other totals than those of the patch and the counts"
     } else {
         return Ok(agreed(ours));
     };
@@ -242,6 +245,17 @@ fn due_counts(call: &Call, outcome: &Outcome) -> Counts {
         },
         _ => Counts::default(),
     }
+}
+
+/// If a patch was fed, the patch left has its totals and the counts, by the bytes of both files.
+fn adds_totals(call: &Call, outcome: &Outcome) -> bool {
+    let answer = &outcome.answer;
+    if call.operation != Operation::Feed || answer.number != fault::ACCEPTED {
+        return true;
+    }
+    let left = &outcome.lent[1].bytes()[..answer.written[1]];
+    let due = totals_in(&call.files[0]).and_then(|totals| answer.counts.added_to(totals));
+    due.is_some() && totals_in(left) == due
 }
 
 fn agreed(outcome: Outcome) -> Agreed {

@@ -41,7 +41,7 @@ pub struct Fed {
 }
 
 /// The binary interface that these declarations are of.
-pub const ABI: u32 = 2;
+pub const ABI: u32 = 3;
 
 extern "C" {
     fn wosthile_abi() -> u32;

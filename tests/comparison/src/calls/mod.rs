@@ -1,5 +1,6 @@
 //! One call, made to the library and to the second interpreter, and the two answers compared.
 
+pub(crate) mod apart;
 pub(crate) mod asking;
 pub mod call;
 pub mod comparison;

@@ -6,7 +6,7 @@ pub const ACCEPTED: u32 = 0;
 pub const CUT_SHORT: u32 = 1;
 /// A kind of a type or a node is not listed.
 pub const UNLISTED: u32 = 2;
-/// Bytes lie behind a type or the nodes, or behind the last section.
+/// Bytes lie behind a type, the nodes or the totals, or behind the last section.
 pub const LEFT_OVER: u32 = 3;
 /// A type needs a 256th node.
 pub const TYPE_TOO_LARGE: u32 = 4;
@@ -28,3 +28,13 @@ pub const SLICE_MISPLACED: u32 = 14;
 pub const NO_ROOM: u32 = 20;
 /// The two nodes of a choose give different types.
 pub const OUTPUTS_DIFFER: u32 = 30;
+/// A total of the patch would pass the greatest one.
+pub const TOTAL_TOO_LARGE: u32 = 31;
+
+/// Those of a refused slice.
+pub const SLICE_NUMBERS: [u32; 4] = [
+    SLICE_CUT_SHORT,
+    SLICE_UNLISTED,
+    SLICE_LEFT_OVER,
+    SLICE_MISPLACED,
+];

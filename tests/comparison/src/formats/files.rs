@@ -1,11 +1,15 @@
 //! Files as bytes. A section is a count of two bytes, the high byte first, and then its contents.
 
+use second_interpreter::Totals;
+
+use crate::formats::totals::totals_section;
+
 /// The length of the longest type file that is accepted.
 pub const LONGEST_TYPE_FILE: usize = 257;
 /// That of the longest slice file.
 pub const LONGEST_SLICE_FILE: usize = 513;
 /// That of the longest patch file.
-pub const LONGEST_PATCH_FILE: usize = 8_482;
+pub const LONGEST_PATCH_FILE: usize = 8_492;
 
 /// The most cues and levels that come in one slice: the leaves of a type of 255 nodes.
 pub const MOST_ARRIVALS: u32 = 128;
@@ -18,9 +22,14 @@ pub fn section(contents: &[u8]) -> Vec<u8> {
     file
 }
 
-/// The file of a patch: the tree of its input type, and its nodes.
+/// The file of a patch that was never fed: the tree of its input type, its nodes, and totals of 0.
 pub fn patch(tree: &[u8], nodes: &[u8]) -> Vec<u8> {
-    [section(tree), section(nodes)].concat()
+    patch_with_totals(tree, nodes, Totals::default())
+}
+
+/// The file of a patch: the tree of its input type, its nodes, and its totals.
+pub fn patch_with_totals(tree: &[u8], nodes: &[u8], totals: Totals) -> Vec<u8> {
+    [section(tree), section(nodes), totals_section(totals)].concat()
 }
 
 /// What the count of a file says; 0 where there is no whole count.
@@ -35,6 +44,18 @@ pub fn count(file: &[u8]) -> usize {
 pub fn contents(file: &[u8]) -> &[u8] {
     let end = file.len().min(2 + count(file));
     file.get(2..end).unwrap_or(&[])
+}
+
+/// Where a file's first section ends, if it is whole.
+fn section_end(file: &[u8]) -> Option<usize> {
+    let end = 2 + count(file);
+    (2..=file.len()).contains(&end).then_some(end)
+}
+
+/// Where the nodes of a patch file end, if its first two sections are whole. Its totals are behind.
+pub fn nodes_end(patch: &[u8]) -> Option<usize> {
+    let type_end = section_end(patch)?;
+    Some(type_end + section_end(&patch[type_end..])?)
 }
 
 /// Overwrites the count, if the file has one.

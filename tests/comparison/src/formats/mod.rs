@@ -4,4 +4,5 @@ pub mod fault;
 pub mod files;
 pub mod kinds;
 pub mod preorder;
+pub mod totals;
 pub(crate) mod trees;

@@ -1,5 +1,5 @@
-//! The ways in which a patch file can be damaged: each section as any other file, both together,
-//! and its nodes so that only the second pass can tell.
+//! The ways in which a patch file can be damaged: each section as any other file, all together, its
+//! nodes so that only the second pass can tell, and its totals, alone and beside such a fault.
 
 use crate::formats::files::{count, section, set_count};
 use crate::formats::kinds::node_kind::{
@@ -11,6 +11,7 @@ use crate::formats::preorder::{carries_type, is_node_fork, is_type_leaf, roots, 
 use crate::generators::damage::{damage, few_bytes, type_about_the_limit, NODE_KINDS, TYPE_KINDS};
 use crate::generators::patches::{any_patch, patch_of, MOST_FORKS};
 use crate::generators::random::Random;
+use crate::generators::totals::damage_totals;
 use crate::generators::types::{self, write_type, Style};
 
 /// The kinds of nodes with two parts.
@@ -42,7 +43,8 @@ const UNLISTED: u8 = 200;
 /// Puts a fault in a patch file, or at least changes it.
 pub fn damage_patch(random: &mut Random, file: &mut Vec<u8>) {
     let mut nodes = split(file);
-    match random.below(18) {
+    let mut totals = split(&mut nodes);
+    match random.below(22) {
         0 => *file = type_about_the_limit(random),
         1 => nodes = nodes_about_the_limit(random),
         2 => carry_about_the_limit(random, &mut nodes),
@@ -55,21 +57,43 @@ pub fn damage_patch(random: &mut Random, file: &mut Vec<u8>) {
         5 => (*file, nodes) = (few_bytes(random, TYPE_KINDS), few_bytes(random, NODE_KINDS)),
         6 => {
             file.append(&mut nodes);
+            file.append(&mut totals);
             damage(random, file, NODE_KINDS);
         }
         7..=8 => damage(random, file, TYPE_KINDS),
         9..=10 => damage(random, &mut nodes, NODE_KINDS),
         11..=13 => refit(random, &mut nodes),
         14..=15 => (*file, nodes) = outputs_that_differ(random),
-        _ => {
+        16..=17 => {
             refit(random, &mut nodes);
             refit(random, &mut nodes);
         }
+        18..=19 => damage_totals(random, &mut totals),
+        _ => {
+            damage_totals(random, &mut totals);
+            (*file, nodes) = fault_of_the_second_pass(random);
+        }
     }
     file.append(&mut nodes);
+    file.append(&mut totals);
 }
 
-/// Takes the node section off a patch file; what is left is the type section.
+/// The type and the nodes of a patch that can be read and often has a fault: 4, 6, 7 or 30.
+fn fault_of_the_second_pass(random: &mut Random) -> (Vec<u8>, Vec<u8>) {
+    match random.below(3) {
+        0 => given_about_the_limit(random),
+        1 => outputs_that_differ(random),
+        _ => {
+            let mut file = any_patch(random);
+            let mut nodes = split(&mut file);
+            split(&mut nodes);
+            refit(random, &mut nodes);
+            (file, nodes)
+        }
+    }
+}
+
+/// Takes off a file what is behind its first section.
 fn split(file: &mut Vec<u8>) -> Vec<u8> {
     let end = file.len().min(2 + count(file));
     file.split_off(end)
@@ -137,8 +161,9 @@ fn nodes_about_the_limit(random: &mut Random) -> Vec<u8> {
         2 => tree.extend([random.pick(&[PASS, CHAIN]), random.pick(&[PASS, UNLISTED])]),
         _ => {
             let forks = random.between(MOST_FORKS, MOST_FORKS + 3);
-            let mut file = patch_of(random, forks);
-            return split(&mut file);
+            let mut nodes = split(&mut patch_of(random, forks));
+            split(&mut nodes);
+            return nodes;
         }
     }
     section(&tree)

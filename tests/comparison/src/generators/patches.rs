@@ -11,6 +11,7 @@ use crate::formats::kinds::node_kind::{
 use crate::formats::trees::type_of;
 use crate::generators::random::Random;
 use crate::generators::slices::value;
+use crate::generators::totals::any_totals;
 use crate::generators::types::{self, write_type, Shape};
 
 /// A patch of 63 nodes has so many forks.
@@ -146,7 +147,7 @@ pub fn full_patch(random: &mut Random) -> Vec<u8> {
 pub fn waiting_patch(random: &mut Random) -> Vec<u8> {
     let style = Style::crossing(random);
     let (input, root) = Grower { random, style }.waiting();
-    patch_file(&input, &root.node)
+    patch_file(&input, &root.node, any_totals(random))
 }
 
 /// A patch file with so many forks among its nodes, and one leaf more than that.
@@ -159,7 +160,7 @@ pub fn patch_of(random: &mut Random, forks: usize) -> Vec<u8> {
 fn grown(random: &mut Random, style: Style, input: &Type, forks: usize) -> Vec<u8> {
     let mut grower = Grower { random, style };
     let root = grower.grow(input, forks, Type::LIMIT);
-    patch_file(input, &root.node)
+    patch_file(input, &root.node, any_totals(random))
 }
 
 /// How many forks the next patch has: mostly few, often as many as the limit allows.

@@ -1,8 +1,11 @@
 //! Demand 3, held to a run from the outside: by calls of the library alone.
 
+use second_interpreter::Totals;
+
 use crate::calls::asking::{Asking, Fed};
 use crate::calls::counts::Counts;
 use crate::formats::files::{contents, section};
+use crate::formats::totals::totals_in;
 
 /// The slices and the outputs of the accepted feeds so far, each joined in order, and the sums of
 /// their counts.
@@ -17,6 +20,7 @@ pub struct Joined {
 #[derive(Clone, Debug)]
 pub struct Demand {
     start: Vec<u8>,
+    totals: Totals,
     /// The type files of the start.
     input: Vec<u8>,
     output: Vec<u8>,
@@ -29,10 +33,24 @@ impl Demand {
     pub fn new(asking: &mut Asking, start: &[u8]) -> Result<Self, String> {
         Ok(Demand {
             start: start.to_vec(),
+            totals: totals_in(start).ok_or("the patch at the start has no totals")?,
             input: section(contents(start)),
             output: asking.check(start)?,
             joined: None,
         })
+    }
+
+    /// The same start, and nothing has been fed yet.
+    pub fn anew(&self) -> Self {
+        Demand {
+            joined: None,
+            ..self.clone()
+        }
+    }
+
+    /// The patch at the start.
+    pub fn start(&self) -> &[u8] {
+        &self.start
     }
 
     /// What was accepted so far.
@@ -42,7 +60,8 @@ impl Demand {
 
     /// After an accepted feed: the patch left is accepted, its input type is what the joined slices
     /// leave, and its output type is what the joined outputs leave. The joined slices have as many
-    /// arrivals as all feeds counted together, and so have the joined outputs.
+    /// arrivals as all feeds counted together, and so have the joined outputs; the totals of the
+    /// patch left are those at the start and these sums.
     pub fn after(&mut self, asking: &mut Asking, slice: &[u8], fed: &Fed) -> Result<(), String> {
         let joined = match self.joined.take() {
             None => Joined {
@@ -63,6 +82,9 @@ impl Demand {
         if counted != joined.counts {
             return Err("joined, slices or outputs do not have the sums of the counts".to_string());
         }
+        if totals_in(&fed.left) != joined.counts.added_to(self.totals) {
+            return Err("the totals left are not those at the start and the counts".to_string());
+        }
         let given = asking.check(&fed.left)?;
         let input_left = asking.left(&self.input, &joined.slices)?;
         let output_left = asking.left(&self.output, &joined.outputs)?;
@@ -77,8 +99,9 @@ impl Demand {
     }
 
     /// At any point: the joined slices, fed as one to the patch at the start, are accepted, send
-    /// the joined outputs, and leave the patch that the run left; if none was accepted, that is the
-    /// patch at the start. What came and was sent is counted as in all feeds together.
+    /// the joined outputs, and leave the patch that the run left, its totals included; if none was
+    /// accepted, that is the patch at the start. What came and was sent is counted as in all feeds
+    /// together.
     pub fn as_one(&self, asking: &mut Asking, patch: &[u8]) -> Result<(), String> {
         let Some(joined) = &self.joined else {
             return if patch == self.start {
@@ -97,5 +120,14 @@ impl Demand {
         } else {
             Ok(())
         }
+    }
+
+    /// The stream of this run was cut anew, and left this patch: what was joined and counted is the
+    /// same, and so is the patch.
+    pub fn as_anew(&self, asking: &mut Asking, anew: &Self, patch: &[u8]) -> Result<(), String> {
+        if anew.joined != self.joined {
+            return Err("cut anew, the stream is not the same as before".to_string());
+        }
+        anew.as_one(asking, patch)
     }
 }

@@ -14,6 +14,7 @@ use crate::generators::slices::{one_arrival, slice_at, Come, Pace};
 use crate::runs::demand::Demand;
 use crate::runs::recut::recut;
 use crate::runs::room::Room;
+use crate::runs::split::split;
 use crate::tallies::feeds::Position;
 use crate::tallies::sums::Sums;
 use crate::tallies::waits::Waits;
@@ -22,6 +23,7 @@ use crate::tallies::Tally;
 mod demand;
 pub(crate) mod recut;
 mod room;
+pub(crate) mod split;
 
 /// An accepted feed of a run: the patch that it was handed, its slice, what it sent and left.
 #[derive(Clone, Debug)]
@@ -85,7 +87,7 @@ impl Runs {
     }
 
     /// Makes one run, compares every call, and holds demand 3 and the room that Longest gives to
-    /// it; then cuts its stream anew.
+    /// it; then cuts its stream anew, by joining its slices and by cutting what was joined.
     pub fn compare_run(&mut self, noise: &mut Random, tally: &mut Tally) -> Result<(), String> {
         let plan = Plan::any(&mut self.random);
         let old = self.random.chance(30);
@@ -99,6 +101,7 @@ impl Runs {
             steps: Vec::new(),
             patch: start.clone(),
             slice: Vec::new(),
+            number: fault::ACCEPTED,
             waits: Waits::default(),
             sums: Sums::default(),
         };
@@ -109,12 +112,18 @@ impl Runs {
         tally.runs.add_run(&run.steps, run.feeds, old);
         tally.waits.add_run(&run.steps, &run.waits);
         tally.sums.add_run(&run.sums).map_err(told)?;
+        tally.totals.add_run(&start, &run.patch);
         if !run.steps.is_empty() {
             let mut asking = Asking { noise };
             let anew = recut(&mut self.random, &mut asking, &demand, &run.steps).map_err(told)?;
             tally.runs.add_recut(&anew);
             tally.waits.add_recut(&anew, &run.waits);
             tally.sums.add_recut(anew.summed);
+        }
+        let split = split(&mut self.random, &mut Asking { noise }, &demand).map_err(told)?;
+        if let Some(split) = split {
+            let after = run.steps.len();
+            (tally.totals).add_split(&split, Position::InRun { after });
         }
         Ok(())
     }
@@ -143,8 +152,9 @@ struct Run {
     steps: Vec<Step>,
     /// The bytes that the last accepted feed wrote, or those of the start.
     patch: Vec<u8>,
-    /// The slice of the last call, accepted or not.
+    /// The slice of the last call, accepted or not, and its number.
     slice: Vec<u8>,
+    number: u32,
     waits: Waits,
     sums: Sums,
 }
@@ -164,15 +174,17 @@ impl Run {
             self.feeds += 1;
             self.slice.clone_from(&call.files[1]);
             let agreed = compare(&call, noise)?;
+            self.number = agreed.answer.number;
             tally.runs.add_feed(agreed.answer.number, &call.files[1])?;
             tally.arrivals.add(&call, &agreed)?;
+            let position = Position::InRun {
+                after: self.steps.len(),
+            };
+            tally.totals.add(&call, &agreed, position)?;
             if agreed.answer.number != fault::ACCEPTED {
                 self.sums.refuse(agreed.answer.number, &call.files[1]);
                 continue;
             }
-            let position = Position::InRun {
-                after: self.steps.len(),
-            };
             let effects = tally.feeds.add(position, &call.files, &agreed)?;
             self.waits.follow(&effects)?;
             self.sums.accept(agreed.answer.counts);
@@ -232,7 +244,9 @@ impl Run {
         if self.feeds < self.plan.empty {
             return slice_at(random, Pace::NOTHING, left);
         }
-        if self.feeds < self.plan.empty + self.plan.single {
+        // Where much would pass the greatest total, little might not.
+        let was_too_much = self.number == fault::TOTAL_TOO_LARGE && random.chance(50);
+        if self.feeds < self.plan.empty + self.plan.single || was_too_much {
             return one_arrival(random, left);
         }
         let pace = match random.below(20) {

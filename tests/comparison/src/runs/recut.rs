@@ -26,10 +26,9 @@ pub fn recut(
     run: &Demand,
     steps: &[Step],
 ) -> Result<Anew, String> {
-    let start = &steps[0].patch;
     let mut anew = Anew::default();
-    let mut demand = Demand::new(asking, start)?;
-    let mut patch = start.clone();
+    let mut demand = run.anew();
+    let mut patch = run.start().to_vec();
     let most = random.pick(&[2, 3, 8, 30]);
     let mut rest = steps;
     while !rest.is_empty() {
@@ -47,10 +46,7 @@ pub fn recut(
         patch = fed.left;
         rest = others;
     }
-    if demand.joined() != run.joined() {
-        return Err("cut anew, the stream is not the same as before".to_string());
-    }
-    demand.as_one(asking, &patch)?;
+    run.as_anew(asking, &demand, &patch)?;
     Ok(anew)
 }
 

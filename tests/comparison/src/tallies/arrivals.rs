@@ -92,12 +92,13 @@ const FEATURES: [Feature; 9] = [
 const SLICES: [&str; 3] = ["admitted", "fed", "sent"];
 
 /// The refusals that can come after something was counted.
-const REFUSALS: [u32; 5] = [
+const REFUSALS: [u32; 6] = [
     fault::SLICE_CUT_SHORT,
     fault::SLICE_UNLISTED,
     fault::SLICE_LEFT_OVER,
     fault::SLICE_MISPLACED,
     fault::NO_ROOM,
+    fault::TOTAL_TOO_LARGE,
 ];
 
 /// The operations that count: the columns of the table of refusals.

@@ -5,6 +5,7 @@ use std::fmt;
 use crate::calls::call::{Call, Operation};
 use crate::calls::comparison::Agreed;
 use crate::formats::fault;
+use crate::runs::split::Split;
 use crate::tallies::arrivals::ArrivalTally;
 use crate::tallies::feeds::{FeedTally, Position};
 use crate::tallies::longest::LongestTally;
@@ -12,6 +13,7 @@ use crate::tallies::patches::PatchTally;
 use crate::tallies::runs::RunTally;
 use crate::tallies::streams::StreamTally;
 use crate::tallies::sums::SumTally;
+use crate::tallies::totals::TotalTally;
 use crate::tallies::waits::WaitTally;
 
 mod arrivals;
@@ -24,11 +26,12 @@ mod runs;
 mod shares;
 mod streams;
 pub(crate) mod sums;
+mod totals;
 pub(crate) mod waits;
 mod walk;
 
 /// The numbers that the operations can answer.
-const NUMBERS: [u32; 14] = [
+const NUMBERS: [u32; 15] = [
     fault::ACCEPTED,
     fault::CUT_SHORT,
     fault::UNLISTED,
@@ -43,6 +46,7 @@ const NUMBERS: [u32; 14] = [
     fault::SLICE_MISPLACED,
     fault::NO_ROOM,
     fault::OUTPUTS_DIFFER,
+    fault::TOTAL_TOO_LARGE,
 ];
 
 /// Fewer calls than this are not judged by what they met: what is seldom, late in a run, might be
@@ -64,6 +68,7 @@ fn is_possible(operation: Operation, number: u32) -> bool {
         | fault::SLICE_LEFT_OVER
         | fault::SLICE_MISPLACED => operation.takes_slice(),
         fault::NO_ROOM => operation != Operation::Admit,
+        fault::TOTAL_TOO_LARGE => operation == Operation::Feed,
         _ => true,
     }
 }
@@ -81,6 +86,8 @@ pub struct Tally {
     pub arrivals: ArrivalTally,
     /// The sums of counts, in joins and in runs.
     pub sums: SumTally,
+    /// The totals of patches, alone and in runs.
+    pub totals: TotalTally,
     /// The calls of Longest, and what was tried against their answers.
     pub longest: LongestTally,
     /// The runs, whose feeds are not among the calls.
@@ -100,6 +107,7 @@ impl Tally {
         self.counts[operation as usize][column] += 1;
         self.complete += u64::from(answer.complete);
         self.arrivals.add(call, agreed)?;
+        self.totals.add(call, agreed, Position::Alone)?;
         match (operation, answer.number) {
             (Operation::Check, _) => self.patches.add(&call.files[0], answer),
             (Operation::Admit | Operation::Left | Operation::Join, fault::ACCEPTED) => {
@@ -114,6 +122,11 @@ impl Tally {
             _ => {}
         }
         Ok(())
+    }
+
+    /// Counts a slice of a feed outside runs that was cut into pieces.
+    pub fn add_split(&mut self, split: &Split) {
+        self.totals.add_split(split, Position::Alone);
     }
 
     /// All calls of an operation outside runs.
@@ -142,6 +155,7 @@ impl Tally {
         gaps.extend(self.feeds.gaps());
         gaps.extend(self.arrivals.gaps());
         gaps.extend(self.sums.gaps());
+        gaps.extend(self.totals.gaps());
         gaps.extend(self.longest.gaps());
         gaps.extend(self.runs.gaps());
         gaps.extend(self.waits.gaps());
@@ -193,6 +207,7 @@ impl fmt::Display for Tally {
         )?;
         write!(out, "\n{}\n{}", self.streams, self.patches)?;
         write!(out, "\n{}\n{}\n{}", self.feeds, self.longest, self.runs)?;
-        write!(out, "\n{}\n{}\n{}", self.waits, self.arrivals, self.sums)
+        write!(out, "\n{}\n{}\n{}", self.waits, self.arrivals, self.sums)?;
+        write!(out, "\n{}", self.totals)
     }
 }

@@ -14,13 +14,14 @@ use crate::runs::{is_spent, Step};
 use crate::tallies::feeds::LATE;
 
 /// The numbers that a feed in a run can answer: its patch is always accepted.
-const NUMBERS: [u32; 6] = [
+const NUMBERS: [u32; 7] = [
     fault::ACCEPTED,
     fault::SLICE_CUT_SHORT,
     fault::SLICE_UNLISTED,
     fault::SLICE_LEFT_OVER,
     fault::SLICE_MISPLACED,
     fault::NO_ROOM,
+    fault::TOTAL_TOO_LARGE,
 ];
 
 /// How often something was met, by its name.

@@ -17,9 +17,21 @@ pub struct Sums {
     arriving: usize,
     sending: usize,
     /// Whether a slice with arrivals was refused since something came last, and whether one was
-    /// between two feeds in which something came: with another number than 20, and with 20.
-    refused: [bool; 2],
-    between: [bool; 2],
+    /// between two feeds in which something came, by [`refusal`].
+    refused: [bool; REFUSALS],
+    between: [bool; REFUSALS],
+}
+
+/// Slices are refused for a fault, with 20, and with 31.
+const REFUSALS: usize = 3;
+
+/// Which of them it is.
+fn refusal(number: u32) -> usize {
+    match number {
+        fault::NO_ROOM => 1,
+        fault::TOTAL_TOO_LARGE => 2,
+        _ => 0,
+    }
 }
 
 impl Sums {
@@ -31,7 +43,7 @@ impl Sums {
             for (between, refused) in self.between.iter_mut().zip(self.refused) {
                 *between |= refused;
             }
-            self.refused = [false; 2];
+            self.refused = [false; REFUSALS];
             self.arriving += 1;
         }
     }
@@ -39,7 +51,7 @@ impl Sums {
     /// After a refused feed.
     pub fn refuse(&mut self, number: u32, slice: &[u8]) {
         if self.arriving > 0 && arrivals(contents(slice)) > 0 {
-            self.refused[usize::from(number == fault::NO_ROOM)] = true;
+            self.refused[refusal(number)] = true;
         }
     }
 }
@@ -63,7 +75,7 @@ pub struct SumTally {
     shares: [u64; SHARES.len()],
     several_arriving: u64,
     several_sending: u64,
-    between: [u64; 2],
+    between: [u64; REFUSALS],
     /// Feeds of streams cut anew whose counts are the sums of several.
     summed: u64,
     joins: [u64; JOINS.len()],
@@ -122,8 +134,8 @@ impl SumTally {
         )
     }
 
-    fn named(&self) -> [(u64, &'static str); 6] {
-        let [by_fault, without_room] = self.between;
+    fn named(&self) -> [(u64, &'static str); 7] {
+        let [by_fault, without_room, by_total] = self.between;
         [
             (
                 self.several_arriving,
@@ -131,11 +143,15 @@ impl SumTally {
             ),
             (
                 by_fault,
-                "runs in which a slice with arrivals was refused, not with 20, between two such feeds",
+                "runs in which a slice with arrivals was refused for a fault between two such feeds",
             ),
             (
                 without_room,
                 "runs in which a slice with arrivals was refused with 20 between two such feeds",
+            ),
+            (
+                by_total,
+                "runs in which a slice with arrivals was refused with 31 between two such feeds",
             ),
             (
                 self.several_sending,

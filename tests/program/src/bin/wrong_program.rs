@@ -8,12 +8,13 @@ use std::os::unix::fs::FileTypeExt;
 
 use comparison::formats::fault;
 use comparison::formats::files::{
-    contents, count, LONGEST_PATCH_FILE, LONGEST_SLICE_FILE, LONGEST_TYPE_FILE,
+    contents, count, nodes_end, LONGEST_PATCH_FILE, LONGEST_SLICE_FILE, LONGEST_TYPE_FILE,
 };
 use comparison::formats::kinds::slice_kind::{FIRST_CHOSEN, NONE_CHOSEN, NOTHING, SECOND_CHOSEN};
 use comparison::formats::preorder::{arrivals, choices, slice_roots};
+use comparison::formats::totals::{totals_in, totals_section, with_totals};
 use comparison::other_rules::Rule;
-use second_interpreter::{check, feed};
+use second_interpreter::{check, feed, Totals};
 
 /// A buffer of this size is what faults of reading and writing are about.
 const READ: usize = 65_536;
@@ -74,6 +75,7 @@ impl Wrong {
             }
             return Ok(());
         };
+        let start = self.with_other_totals(start);
         let checked = check(&start, &mut [0; LONGEST_TYPE_FILE]);
         let ignored = self.is("differing_outputs_pass") && checked == Err(fault::OUTPUTS_DIFFER);
         if let Some(number) = checked.err().filter(|_| !ignored) {
@@ -92,7 +94,10 @@ impl Wrong {
             match self.fed(&patch, &slice) {
                 Ok((line, left)) => {
                     self.line(&line)?;
-                    if !self.keeps_patch(&slice) {
+                    if self.is("totals_lost_between_slices") {
+                        patch = with_totals(&left, totals_in(start).unwrap_or_default())
+                            .unwrap_or(left);
+                    } else if !self.keeps_patch(&slice) {
                         patch = left;
                     }
                 }
@@ -100,6 +105,7 @@ impl Wrong {
                     self.line(&number.to_string())?;
                     match self.fault.as_str() {
                         "refused_slice_stops" => return Ok(()),
+                        "passed_total_stops" if number == fault::TOTAL_TOO_LARGE => return Ok(()),
                         "refused_slice_starts_anew" => patch = start.to_vec(),
                         "refused_slice_clears_patch" => patch.fill(0),
                         _ => {}
@@ -108,6 +114,23 @@ impl Wrong {
             }
         }
         Ok(())
+    }
+
+    /// The patch at the start, as some faults see it.
+    fn with_other_totals(&self, start: Vec<u8>) -> Vec<u8> {
+        match self.fault.as_str() {
+            "totals_begin_at_0" => with_totals(&start, Totals::default()).unwrap_or(start),
+            "two_sections_pass" if nodes_end(&start) == Some(start.len()) => {
+                [start, totals_section(Totals::default())].concat()
+            }
+            // It is refused as one with bytes left over.
+            "totals_have_to_be_0"
+                if totals_in(&start).is_some_and(|totals| totals != Totals::default()) =>
+            {
+                [start, vec![0]].concat()
+            }
+            _ => start,
+        }
     }
 
     /// Whether the patch stays though the slice was accepted.
@@ -136,7 +159,8 @@ impl Wrong {
         let (mut output, mut left) = (vec![0; LONGEST_SLICE_FILE], vec![0; LONGEST_PATCH_FILE]);
         let fed = feed(patch, slice, &mut output, &mut left)?;
         let short = self.is("output_buffer_of_512") && fed.output > 512
-            || self.is("patch_buffer_of_8481") && fed.patch > 8_481;
+            || self.is("patch_buffer_of_8482") && fed.patch > 8_482
+            || self.is("patch_buffer_of_8491") && fed.patch > 8_491;
         if short {
             return Err(fault::NO_ROOM);
         }
@@ -161,11 +185,16 @@ impl Wrong {
         } else {
             &left
         };
-        let counts = if self.is("arrivals_printed") {
-            let [arrived, sent] = [slice, &sent].map(|file| arrivals(contents(file)));
-            format!(" {arrived} {sent}")
-        } else {
-            String::new()
+        let counts = match self.fault.as_str() {
+            "arrivals_printed" => {
+                let [arrived, sent] = [slice, &sent].map(|file| arrivals(contents(file)));
+                format!(" {arrived} {sent}")
+            }
+            "totals_printed" => {
+                let totals = totals_in(&left).unwrap_or_default();
+                format!(" {} {}", totals.arrived, totals.sent)
+            }
+            _ => String::new(),
         };
         let sent = self.field(&match self.fault.as_str() {
             "second_marked_as_first" => with_other_kind(&sent, SECOND_CHOSEN, FIRST_CHOSEN),
@@ -258,6 +287,7 @@ impl Wrong {
         match self.fault.as_str() {
             "files_of_513" => file.truncate(513),
             "files_of_8482" => file.truncate(8_482),
+            "files_of_8492" => file.truncate(8_492),
             "files_of_32767" => file.truncate(32_767),
             "files_of_65534" => file.truncate(65_534),
             _ => {}

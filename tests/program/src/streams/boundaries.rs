@@ -22,7 +22,7 @@ pub fn about(turn: usize, random: &mut Random) -> Vec<Vec<u8>> {
     let mut show = if turn % 3 == 2 {
         Show::any(random)
     } else {
-        Show::sized(random, 3..=12, 40)
+        Show::sized(random, 3..=12, 50)
     };
     show.come(random, Pace::NOTHING);
     let pace = Pace::any(random);

@@ -1,13 +1,15 @@
 //! Streams that end: short ones, cut at every byte.
 
-use comparison::formats::files::{patch, section};
+use comparison::formats::files::{patch, patch_with_totals, section};
+use comparison::formats::totals::GREATEST_TOTAL;
 use comparison::Random;
+use second_interpreter::Totals;
 
 use crate::formats::stream;
 use crate::streams::shows::short_run;
 
 /// A short stream has at most so many bytes.
-const SHORT: usize = 110;
+const SHORT: usize = 120;
 
 /// The stream cut at every length, and whole. The first turns have streams of their own.
 pub fn at_every_byte(turn: usize, random: &mut Random) -> Vec<Vec<u8>> {
@@ -23,6 +25,7 @@ pub fn at_every_byte(turn: usize, random: &mut Random) -> Vec<Vec<u8>> {
             section(&[8]),
             section(&[9, 2]),
         ]),
+        7 => totals(),
         _ => short(random),
     };
     (0..=whole.len()).map(|end| whole[..end].to_vec()).collect()
@@ -78,6 +81,23 @@ fn choices() -> Vec<u8> {
         section(&[5, 9, 2]),
         section(&[6, 2, 8]),
         section(&[10, 0]),
+    ])
+}
+
+/// What arrives comes to the greatest total and passes it, and what is sent does the same; between
+/// and behind, slices that do not are accepted.
+fn totals() -> Vec<u8> {
+    let totals = Totals {
+        arrived: GREATEST_TOTAL - 1,
+        sent: GREATEST_TOTAL - 2,
+    };
+    stream(&[
+        patch_with_totals(&[4, 1, 4, 0, 1], &[4, 0, 3, 1, 44], totals),
+        section(&[7, 2, 7, 0, 2]),
+        section(&[7, 1, 7, 0, 1]),
+        section(&[7, 2, 7, 0, 1]),
+        section(&[7, 0, 7, 0, 2]),
+        section(&[7, 0, 7, 0, 1]),
     ])
 }
 

@@ -4,6 +4,7 @@
 use comparison::formats::files::{patch, set_count, LONGEST_PATCH_FILE, LONGEST_SLICE_FILE};
 use comparison::formats::kinds::node_kind::{CHAIN, SILENT};
 use comparison::formats::kinds::type_kind::{BESIDE, CUE, EMPTY};
+use comparison::formats::totals::TOTALS_SECTION;
 use comparison::generators::slices::Pace;
 use comparison::Random;
 
@@ -81,14 +82,15 @@ pub fn of_patch(turn: usize, random: &mut Random) -> Vec<u8> {
     let mut show = if largest {
         Show::of(largest_patch())
     } else {
-        Show::sized(random, 1..=60, 300)
+        Show::sized(random, 1..=60, 310)
     };
     show.come(random, Pace::NOTHING);
     show.come(random, Pace::ALL);
     let mut files = show.files().to_vec();
     if !largest {
         let length = PATCH_LENGTHS[turn / 4 % PATCH_LENGTHS.len()];
-        let last = random.pick(&[0, 2 + show.input().len()]);
+        let totals = files[0].len() - TOTALS_SECTION;
+        let last = random.pick(&[0, 2 + show.input().len(), totals]);
         files[0] = fill(random, FILLINGS[turn % 4], files[0].clone(), last, length);
     }
     stream(&files)

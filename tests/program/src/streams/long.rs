@@ -10,7 +10,7 @@ const LONG: usize = 1_200_000;
 
 /// A stream in which most slices bring nothing.
 pub fn small_slices(random: &mut Random) -> Vec<u8> {
-    let mut show = Show::sized(random, 7..=15, 30);
+    let mut show = Show::sized(random, 7..=15, 40);
     let seldom = Pace {
         come: 1,
         cross: 0,

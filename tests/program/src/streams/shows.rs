@@ -2,9 +2,10 @@
 
 use std::ops::RangeInclusive;
 
-use comparison::formats::files::{contents, section, LONGEST_TYPE_FILE};
+use comparison::formats::files::{contents, section, LONGEST_TYPE_FILE, MOST_ARRIVALS};
+use comparison::formats::totals::{totals_in, GREATEST_TOTAL};
 use comparison::generators::damage::{damage, few_bytes, SLICE_KINDS};
-use comparison::generators::feeds::accepted_patch;
+use comparison::generators::feeds::{accepted_patch, patch_left};
 use comparison::generators::patch_damage::damage_patch;
 use comparison::generators::patches::any_patch;
 use comparison::generators::slices::{one_arrival, slice_at, slice_of, Come, Pace};
@@ -12,11 +13,29 @@ use comparison::Random;
 
 use crate::formats::{stream, LONGEST_FILE};
 
+/// Whether the slices of a stream can bring a total of this patch past the greatest. In all of them
+/// together no more can arrive than in the longest of one, and no more can be sent.
+fn might_pass(patch: &[u8]) -> bool {
+    let totals = totals_in(patch).unwrap_or_default();
+    totals.arrived.max(totals.sent) > GREATEST_TOTAL - MOST_ARRIVALS
+}
+
+/// What a slice leaves of a type, if it is one of that type.
+fn type_left(type_file: &[u8], slice: &[u8]) -> Option<Vec<u8>> {
+    let mut left = vec![0; LONGEST_TYPE_FILE];
+    let length = second_interpreter::left(type_file, slice, &mut left).ok()?;
+    left.truncate(length);
+    Some(left)
+}
+
 /// A show under way.
 #[derive(Clone, Debug)]
 pub struct Show {
     files: Vec<Vec<u8>>,
-    /// What the slices so far leave of the input type.
+    /// Whether a slice might be refused with 31.
+    might_pass: bool,
+    /// The patch that the slices so far leave. Where none of them might be refused with 31, only its
+    /// first section: the input type is found faster than the patch.
     left: Vec<u8>,
     /// The length of the stream so far.
     length: usize,
@@ -25,8 +44,14 @@ pub struct Show {
 impl Show {
     /// A show of this patch, which has to be accepted.
     pub fn of(patch: Vec<u8>) -> Self {
+        let might_pass = might_pass(&patch);
         Show {
-            left: contents(&patch).to_vec(),
+            might_pass,
+            left: if might_pass {
+                patch.clone()
+            } else {
+                section(contents(&patch))
+            },
             length: 2 + patch.len(),
             files: vec![patch],
         }
@@ -42,7 +67,7 @@ impl Show {
     pub fn sized(random: &mut Random, nodes: RangeInclusive<usize>, longest: usize) -> Self {
         loop {
             let show = Show::any(random);
-            if nodes.contains(&show.left.len()) && show.length <= 2 + longest {
+            if nodes.contains(&show.input().len()) && show.length <= 2 + longest {
                 return show;
             }
         }
@@ -68,30 +93,50 @@ impl Show {
         self.length
     }
 
+    /// The tree of what is left of the input type.
+    fn input_left(&self) -> &[u8] {
+        contents(&self.left)
+    }
+
     /// A slice of what is left.
     pub fn slice(&self, random: &mut Random, pace: Pace) -> Vec<u8> {
-        section(&slice_at(random, pace, &self.left).slice)
+        section(&slice_at(random, pace, self.input_left()).slice)
     }
 
     /// Adds a slice at this pace.
     pub fn come(&mut self, random: &mut Random, pace: Pace) {
-        let come = slice_at(random, pace, &self.left);
+        let come = slice_at(random, pace, self.input_left());
         self.add(come);
     }
 
+    /// Adds a slice of what is left, which is refused with 31 or accepted.
     fn add(&mut self, come: Come) {
-        self.left = come.left;
-        self.push(section(&come.slice));
+        let slice = section(&come.slice);
+        if self.might_pass {
+            self.feed(slice);
+        } else {
+            self.left = section(&come.left);
+            self.push(slice);
+        }
     }
 
     /// Adds any bytes as a slice file, at most as many as a length can say.
     pub fn feed(&mut self, mut file: Vec<u8>) {
         file.truncate(LONGEST_FILE);
-        let mut rest = [0; LONGEST_TYPE_FILE];
-        if let Ok(length) = second_interpreter::left(&section(&self.left), &file, &mut rest) {
-            self.left = contents(&rest[..length]).to_vec();
+        let left = if self.might_pass {
+            patch_left(&self.left, &file)
+        } else {
+            type_left(&self.left, &file)
+        };
+        if let Some(left) = left {
+            self.left = left;
         }
         self.push(file);
+    }
+
+    fn push(&mut self, file: Vec<u8>) {
+        self.length += 2 + file.len();
+        self.files.push(file);
     }
 
     /// Adds a slice that need not fit.
@@ -102,15 +147,10 @@ impl Show {
             0 => file.clone_from(&self.files[self.files.len() - 1]),
             1 => file = few_bytes(random, SLICE_KINDS),
             2 => file = Vec::new(),
-            3 => file = section(&self.left),
+            3 => file = section(self.input_left()),
             _ => damage(random, &mut file, SLICE_KINDS),
         }
         self.feed(file);
-    }
-
-    fn push(&mut self, file: Vec<u8>) {
-        self.length += 2 + file.len();
-        self.files.push(file);
     }
 
     /// Often adds slices that bring nothing, as while the house fills, up to so many; and then one
@@ -122,7 +162,7 @@ impl Show {
         for _ in 0..random.between(1, most) {
             self.come(random, Pace::NOTHING);
         }
-        let come = one_arrival(random, &self.left);
+        let come = one_arrival(random, self.input_left());
         self.add(come);
     }
 

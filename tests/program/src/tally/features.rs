@@ -2,6 +2,8 @@
 
 use comparison::formats::files::contents;
 use comparison::formats::preorder::{brings, choices};
+use comparison::formats::totals::totals_in;
+use second_interpreter::Totals;
 
 use crate::formats::{line_ends, refuses_patch, Parts};
 use crate::running::delivery::Delivery;
@@ -36,7 +38,7 @@ pub fn way(delivery: &Delivery) -> usize {
 }
 
 /// What has to be met in some stream.
-pub const FEATURES: [&str; 20] = [
+pub const FEATURES: [&str; 22] = [
     "no bytes at all",
     "end inside the patch's length",
     "end inside the patch file",
@@ -57,6 +59,8 @@ pub const FEATURES: [&str; 20] = [
     "choice that is never made",
     "slices that bring nothing in front of the first arrival",
     "ten of them or more",
+    "accepted patch with totals other than 0",
+    "slice refused with 31 between two that are accepted",
 ];
 
 /// Whether each feature is there.
@@ -90,7 +94,28 @@ pub fn features(case: &Case, parts: &Parts, output: &[u8]) -> [bool; FEATURES.le
         never,
         waits > 0,
         waits >= 10,
+        !refused && has_totals(parts),
+        passes_between(&lines),
     ]
+}
+
+/// Whether the patch was fed before, as far as its totals tell.
+fn has_totals(parts: &Parts) -> bool {
+    let patch = parts.files.first();
+    patch.is_some_and(|(_, file)| totals_in(file).unwrap_or_default() != Totals::default())
+}
+
+/// Whether a total would have been passed, and slices in front of that one and behind it were
+/// accepted.
+fn passes_between(lines: &[&[u8]]) -> bool {
+    let passed = lines
+        .iter()
+        .enumerate()
+        .filter(|(_, line)| **line == b"31\n");
+    let is_some_accepted = |lines: &[&[u8]]| lines.iter().any(|line| is_accepted(line));
+    passed
+        .map(|(at, _)| lines.split_at(at))
+        .any(|(before, behind)| is_some_accepted(before) && is_some_accepted(behind))
 }
 
 /// The accepted slices of a stream.

@@ -17,12 +17,13 @@ const JUDGED_FROM: u64 = 2_000;
 
 /// The numbers of slices. 20 is none of them, nor of those of patches: the program's buffers are
 /// long enough.
-const SLICE_NUMBERS: [u32; 5] = [
+const SLICE_NUMBERS: [u32; 6] = [
     fault::ACCEPTED,
     fault::SLICE_CUT_SHORT,
     fault::SLICE_UNLISTED,
     fault::SLICE_LEFT_OVER,
     fault::SLICE_MISPLACED,
+    fault::TOTAL_TOO_LARGE,
 ];
 
 /// Under a title what was met, by its name.
@@ -82,7 +83,7 @@ impl Tally {
             let known = if refuses_patch(output) {
                 count(&mut self.patch_numbers, &PATCH_NUMBERS, number)
             } else {
-                let whole = usize::from(matches!(number, fault::ACCEPTED | fault::SLICE_LEFT_OVER));
+                let whole = usize::from(has_whole_slice(number));
                 let length = files.next().ok_or("more lines than slices")?;
                 count(&mut self.slice_lengths[whole], &SLICE_LENGTHS, length);
                 count(&mut self.slice_numbers, &SLICE_NUMBERS, number)
@@ -149,6 +150,14 @@ impl Tally {
         }
         gaps
     }
+}
+
+/// Whether a slice that is answered with this number is whole, though bytes may be behind it.
+fn has_whole_slice(number: u32) -> bool {
+    matches!(
+        number,
+        fault::ACCEPTED | fault::SLICE_LEFT_OVER | fault::TOTAL_TOO_LARGE
+    )
 }
 
 fn zip<Name: fmt::Display>(

@@ -6,13 +6,13 @@
 use second_interpreter::{
     admit, check, empty_slice, every_slice, every_type, feed, join, join_slices, left,
     longest_slice, patch_file, slice_file, type_file, what_slice_leaves, Admitted, FedFiles, Slice,
-    Type,
+    Totals, Type,
 };
 
-use crate::common::{answered, come_in, fed_and_counted, patch, section};
+use crate::common::{answered, come_in, fed_and_counted, patch, patch_with, section};
 use crate::cuts::cuts;
 use crate::exhaustive::every_string;
-use crate::generator::{full_type, random_node, random_slice, random_type, Random};
+use crate::generator::{full_type, random_node, random_slice, random_totals, random_type, Random};
 use crate::properties::Run;
 use crate::refusals::with;
 
@@ -327,10 +327,10 @@ fn refused_calls_give_the_number_alone() {
 #[test]
 fn short_buffers_give_the_number_alone() {
     let (start, slice) = (patch(&[4, 1, 2], &[0]), section(&[7, 2, 4, 0, 0]));
-    for (output_length, left_length) in [(6, 8), (7, 7), (0, 0), (7, 8), (9, 9)] {
+    for (output_length, left_length) in [(6, 18), (7, 17), (0, 0), (7, 18), (9, 19)] {
         let (mut output, mut left) = (vec![7; output_length], vec![9; left_length]);
         let answer = feed(&start, &slice, &mut output, &mut left);
-        if output_length < 7 || left_length < 8 {
+        if output_length < 7 || left_length < 18 {
             assert_eq!(answer, Err(20));
             assert_eq!(
                 (output, left),
@@ -339,13 +339,17 @@ fn short_buffers_give_the_number_alone() {
         } else {
             let expected = FedFiles {
                 output: 7,
-                patch: 8,
+                patch: 18,
                 arrived: 2,
                 sent: 2,
             };
             assert_eq!(answer, Ok(expected));
             assert_eq!(output[..7], slice);
-            assert_eq!(left[..8], patch(&[4, 0, 0], &[0]));
+            let totals = Totals {
+                arrived: 2,
+                sent: 2,
+            };
+            assert_eq!(left[..18], patch_with(&[4, 0, 0], &[0], totals));
         }
     }
 }
@@ -358,14 +362,14 @@ fn refused_feeds_of_a_run_add_nothing() {
         (run.arrived, run.sent)
     };
     assert_eq!(run.feed(&section(&[7, 2, 3]), 8, 9), 20);
-    assert_eq!(run.feed(&section(&[7, 2]), 513, 8_482), 11);
+    assert_eq!(run.feed(&section(&[7, 2]), 513, 8_492), 11);
     assert_eq!(counts(&run), (0, 0));
-    assert_eq!(run.feed(&section(&[7, 2, 3]), 513, 8_482), 0);
+    assert_eq!(run.feed(&section(&[7, 2, 3]), 513, 8_492), 0);
     assert_eq!(counts(&run), (1, 2));
-    assert_eq!(run.feed(&section(&[7, 2, 4, 0, 0]), 513, 8_482), 14);
-    assert_eq!(run.feed(&section(&[7, 0, 4, 2, 2]), 0, 8_482), 20);
+    assert_eq!(run.feed(&section(&[7, 2, 4, 0, 0]), 513, 8_492), 14);
+    assert_eq!(run.feed(&section(&[7, 0, 4, 2, 2]), 0, 8_492), 20);
     assert_eq!(counts(&run), (1, 2));
-    assert_eq!(run.feed(&section(&[7, 0, 4, 2, 2]), 513, 8_482), 0);
+    assert_eq!(run.feed(&section(&[7, 0, 4, 2, 2]), 513, 8_492), 0);
     assert_eq!(counts(&run), (2, 4));
 }
 
@@ -656,7 +660,7 @@ fn random_patches_in_two_pieces() {
     for _ in 0..3_000 {
         let input = random_type(&mut random, 11);
         let node = random_node(&mut random, &input, 11);
-        let start = patch_file(&input, &node);
+        let start = patch_file(&input, &node, random_totals(&mut random));
         for progress in [3, 6, 8] {
             let whole = random_slice(&mut random, &input, progress);
             counted.expect_every_cut(&start, &whole);
@@ -671,7 +675,7 @@ fn feed_counts_as_admit_does() {
     for _ in 0..5_000 {
         let input = some_type(&mut random);
         let node = random_node(&mut random, &input, 30);
-        let start = patch_file(&input, &node);
+        let start = patch_file(&input, &node, random_totals(&mut random));
         let output = answered(|buffer| check(&start, buffer)).expect("accepted");
         let slice = slice_file(&random_slice(&mut random, &input, 5));
         let given = fed_and_counted(&start, &slice).expect("a slice of the type");

@@ -245,7 +245,7 @@ fn longest_files() {
         nodes.extend(left_deep(4, 0, 127));
     }
     let file = patch(&left_deep(4, 2, 127), &nodes);
-    assert_eq!(file.len(), 8_482);
+    assert_eq!(file.len(), 8_492);
     // Both of two 255s is too large, so this patch ends in the second pass.
     assert_eq!(answered(|buffer| check(&file, buffer)), Err(4));
     // In chains each silent stands alone.
@@ -255,7 +255,7 @@ fn longest_files() {
         nodes.extend(left_deep(4, 0, 127));
     }
     let file = patch(&left_deep(4, 2, 127), &nodes);
-    assert_eq!(file.len(), 8_482);
+    assert_eq!(file.len(), 8_492);
     let mut slice = vec![7; 127];
     slice.extend([4, 255, 254].repeat(128));
     assert_eq!(section(&slice).len(), 513);
@@ -265,4 +265,7 @@ fn longest_files() {
         fed(&file, &section(&slice)),
         Ok((section(&sent), patch(&left_deep(4, 0, 127), &nodes)))
     );
+    // One byte more is left over.
+    let longer = [&file[..], &[0]].concat();
+    assert_eq!(fed(&longer, &section(&slice)), Err(3));
 }

@@ -2,7 +2,7 @@
 
 use second_interpreter::{check, join, Number};
 
-use crate::common::{answered, fed, is_complete, patch, section};
+use crate::common::{answered, fed, is_complete, patch, section, TOTALS_SECTION};
 use crate::kinds::{expect_feeds, expect_joins, Join};
 use crate::refusals::{nodes_number, patch_number, slice_number, type_number, with};
 
@@ -446,7 +446,7 @@ fn thirty_one_choices_deep() {
             let slice = with(vec![mark; depth], &[8]);
             let (sent, file) = fed(&patch(stream, nodes), &section(&slice)).expect("fits");
             assert_eq!(sent, section(&[1]));
-            assert_eq!(file.len(), 2 * (2 + 63 - 2 * depth));
+            assert_eq!(file.len(), 2 * (2 + 63 - 2 * depth) + TOTALS_SECTION);
         }
         let whole = with(vec![mark; 31], &[2]);
         let answer = fed(&patch(stream, nodes), &section(&whole));
@@ -463,7 +463,7 @@ fn longest_patch_with_marks() {
     for _ in 0..32 {
         nodes.extend(with(vec![17], &row(127)));
     }
-    assert_eq!(patch(&row(127), &nodes).len(), 8_482);
+    assert_eq!(patch(&row(127), &nodes).len(), 8_492);
     assert_eq!(nodes_number(&row(127), &nodes), 4);
     nodes.extend([18]);
     assert_eq!(nodes_number(&row(127), &nodes), 3);

@@ -11,7 +11,7 @@ use second_interpreter::{
 
 use crate::common::{answered, fed, patch};
 use crate::exhaustive::every_string;
-use crate::generator::{random_node, random_slice, random_type, Random};
+use crate::generator::{random_node, random_slice, random_totals, random_type, Random};
 use crate::openings::OPENERS;
 use crate::properties::Run;
 use crate::waiting::Met;
@@ -193,14 +193,14 @@ fn cut_patches_keep_demand_3_in_files() {
         let whole = random_slice(&mut random, &input, 6);
         let empty = slice_file(&empty_slice(&input));
         for (p, q) in cuts(&whole) {
-            let mut run = Run::new(&input, &node);
+            let mut run = Run::new(&input, &node, random_totals(&mut random));
             for _ in 0..random.below(3) {
-                assert_eq!(run.feed(&empty, 513, 8_482), 0);
+                assert_eq!(run.feed(&empty, 513, 8_492), 0);
             }
             run.holds();
-            assert_eq!(run.feed(&slice_file(&p), 513, 8_482), 0);
+            assert_eq!(run.feed(&slice_file(&p), 513, 8_492), 0);
             run.holds();
-            assert_eq!(run.feed(&slice_file(&q), 513, 8_482), 0);
+            assert_eq!(run.feed(&slice_file(&q), 513, 8_492), 0);
             run.holds();
         }
     }

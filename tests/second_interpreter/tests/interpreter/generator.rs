@@ -1,6 +1,6 @@
 //! Random types, slices and patches from a deterministic generator.
 
-use second_interpreter::{output_type, Node, Slice, Type};
+use second_interpreter::{output_type, Node, Slice, Totals, Type};
 
 /// Marsaglia's xorshift with 64 bits.
 pub struct Random(u64);
@@ -128,6 +128,31 @@ pub fn random_slice(random: &mut Random, stream: &Type, progress: usize) -> Slic
             }
         }
     }
+}
+
+/// Totals to which any slice and output can be added 60,000 times and more, often at
+/// the end of a byte.
+pub fn random_totals(random: &mut Random) -> Totals {
+    let mut total = || match random.below(4) {
+        0 => 0,
+        1 => [255, 65_535, 16_777_215][random.below(3)],
+        _ => random.below(4_280_000_000) as u32,
+    };
+    Totals {
+        arrived: total(),
+        sent: total(),
+    }
+}
+
+/// Totals of which each is often so near the limit that a few feeds reach it.
+pub fn nearly_full_totals(random: &mut Random) -> Totals {
+    let mut totals = random_totals(random);
+    for total in [&mut totals.arrived, &mut totals.sent] {
+        if random.once_in(2) {
+            *total = u32::MAX - random.below(6) as u32;
+        }
+    }
+    totals
 }
 
 /// A node that takes the type, of at most so many nodes.

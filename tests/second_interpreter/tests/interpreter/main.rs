@@ -13,4 +13,5 @@ mod openings;
 mod program;
 mod properties;
 mod refusals;
+mod totals;
 mod waiting;

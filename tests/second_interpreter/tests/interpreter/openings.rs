@@ -325,7 +325,7 @@ fn expect_run(stream: &[u8], nodes: &[u8], steps: &[Step]) {
             Ok((section(sent), left.clone())),
             "type {stream:?}, nodes {nodes:?}, slice {slice:?}"
         );
-        assert_eq!(run.feed(&section(slice), 513, 8_482), 0);
+        assert_eq!(run.feed(&section(slice), 513, 8_492), 0);
         run.holds();
         file = left;
     }
@@ -631,16 +631,16 @@ fn once_sent_no_more() {
 #[test]
 fn refused_feeds_open_nothing() {
     let mut run = Run::of_files(section(&[1]), patch(&[1], &[2]));
-    // Waiting leaves a patch file of six bytes, opening one of seven.
-    assert_eq!(run.feed(&section(&[2]), 3, 6), 20);
-    assert_eq!(run.feed(&section(&[1]), 3, 5), 20);
-    assert_eq!(run.feed(&section(&[1]), 3, 6), 0);
+    // Waiting leaves a patch file of 16 bytes, opening one of 17.
+    assert_eq!(run.feed(&section(&[2]), 3, 16), 20);
+    assert_eq!(run.feed(&section(&[1]), 3, 15), 20);
+    assert_eq!(run.feed(&section(&[1]), 3, 16), 0);
     run.holds();
-    assert_eq!(run.feed(&section(&[2]), 2, 7), 20);
-    assert_eq!(run.feed(&with(section(&[2]), &[0]), 3, 7), 13);
-    assert_eq!(run.feed(&section(&[0]), 3, 7), 14);
-    assert_eq!(run.feed(&section(&[1]), 3, 6), 0);
+    assert_eq!(run.feed(&section(&[2]), 2, 17), 20);
+    assert_eq!(run.feed(&with(section(&[2]), &[0]), 3, 17), 13);
+    assert_eq!(run.feed(&section(&[0]), 3, 17), 14);
+    assert_eq!(run.feed(&section(&[1]), 3, 16), 0);
     run.holds();
-    assert_eq!(run.feed(&section(&[2]), 3, 7), 0);
+    assert_eq!(run.feed(&section(&[2]), 3, 17), 0);
     run.holds();
 }

@@ -49,7 +49,8 @@ fn lamps_wait_while_the_house_fills() {
 
 #[test]
 fn counts_are_on_no_line() {
-    // Two arrive and three are sent; M-104 gives the program nothing to print.
+    // Two arrive and three are sent; neither M-104 nor M-105 gives the program more to
+    // print.
     let input = stream(&[
         patch(&[3, 1, 4, 1, 1], &[13]),
         section(&[6, 2, 7, 2, 1]),

@@ -4,11 +4,13 @@ use std::collections::HashMap;
 
 use second_interpreter::{
     admit, check, empty_slice, feed, feed_node, join, join_slices, left, longest, output_type,
-    patch_file, slice_file, type_file, what_slice_leaves, Fed, Node, Number, Slice, Type,
+    patch_file, slice_file, type_file, what_slice_leaves, Fed, Node, Number, Slice, Totals, Type,
 };
 
-use crate::common::{answered, fed, fed_and_counted, is_complete, Given};
-use crate::generator::{damaged, random_node, random_slice, random_type, Random};
+use crate::common::{answered, fed, fed_and_counted, is_complete, section, Given};
+use crate::generator::{
+    damaged, nearly_full_totals, random_node, random_slice, random_totals, random_type, Random,
+};
 use crate::waiting::Met;
 
 /// A random type of a random size.
@@ -37,6 +39,15 @@ fn some_patch(random: &mut Random) -> (Type, Node) {
 fn some_slice(random: &mut Random, stream: &Type) -> Slice {
     let progress = random.below(9);
     random_slice(random, stream, progress)
+}
+
+/// Random totals, now and then so large that a run reaches the limit.
+fn some_totals(random: &mut Random) -> Totals {
+    if random.once_in(3) {
+        nearly_full_totals(random)
+    } else {
+        random_totals(random)
+    }
 }
 
 /// What a slice leaves, where it is a slice of the type.
@@ -113,8 +124,9 @@ fn one_feed_keeps_the_types() {
     for _ in 0..10_000 {
         let (input, node) = some_patch(&mut random);
         let output = output_type(&node, &input).expect("well-typed");
-        let file = patch_file(&input, &node);
-        assert!(file.len() <= 8_482);
+        let totals = random_totals(&mut random);
+        let file = patch_file(&input, &node, totals);
+        assert!(file.len() <= 8_492);
         assert_eq!(
             answered(|buffer| check(&file, buffer)),
             Ok(type_file(&output))
@@ -126,10 +138,18 @@ fn one_feed_keeps_the_types() {
         let input_left = leaves(&input, &slice);
         assert_eq!(output_type(&left, &input_left), Ok(leaves(&output, &sent)));
         assert!(left.count() <= node.count());
-        assert_eq!(
-            fed(&file, &slice_file(&slice)),
-            Ok((slice_file(&sent), patch_file(&input_left, &left)))
-        );
+        let (arrived, sent_count) = (slice.arrivals(), sent.arrivals());
+        let totals_left = Totals {
+            arrived: totals.arrived + arrived,
+            sent: totals.sent + sent_count,
+        };
+        let expected = Given {
+            output: slice_file(&sent),
+            left: patch_file(&input_left, &left, totals_left),
+            arrived,
+            sent: sent_count,
+        };
+        assert_eq!(fed_and_counted(&file, &slice_file(&slice)), Ok(expected));
     }
 }
 
@@ -150,7 +170,7 @@ fn generated_patches_use_every_kind() {
 
 /// The kind byte of a node.
 fn kind_of(node: &Node) -> u8 {
-    patch_file(&Type::Empty, node)[5]
+    patch_file(&Type::Empty, node, Totals::default())[5]
 }
 
 /// Adds each node of the tree under its kind.
@@ -226,7 +246,8 @@ fn choose_asks_for_one_output_type() {
         let first = random_node(&mut random, &s, 5);
         let second = random_node(&mut random, &t, 5);
         let outputs = (output_type(&first, &s), output_type(&second, &t));
-        let file = patch_file(&Type::either(s, t), &Node::choose(first, second));
+        let (input, node) = (Type::either(s, t), Node::choose(first, second));
+        let file = patch_file(&input, &node, random_totals(&mut random));
         let answer = answered(|buffer| check(&file, buffer));
         if outputs.0 == outputs.1 {
             assert_eq!(answer, outputs.0.map(|given| type_file(&given)));
@@ -255,8 +276,8 @@ pub struct Run {
 
 impl Run {
     /// A run before its first feed.
-    pub fn new(input: &Type, node: &Node) -> Run {
-        Run::of_files(type_file(input), patch_file(input, node))
+    pub fn new(input: &Type, node: &Node, totals: Totals) -> Run {
+        Run::of_files(type_file(input), patch_file(input, node, totals))
     }
 
     /// The same from the files of the input type and of the patch.
@@ -331,10 +352,10 @@ impl Run {
 #[test]
 fn demand_3_on_random_runs() {
     let mut random = Random::new(0x5EED_0006);
-    let (mut accepted, mut refused, mut met) = (0, 0, Met::default());
+    let (mut accepted, mut refused, mut full, mut met) = (0, 0, 0, Met::default());
     for _ in 0..3_000 {
         let (mut input, mut node) = some_patch(&mut random);
-        let mut run = Run::new(&input, &node);
+        let mut run = Run::new(&input, &node, some_totals(&mut random));
         let empties = random.below(4);
         for feeds in 0..empties + random.below(8) {
             // Progress 0 gives the empty slice.
@@ -350,7 +371,7 @@ fn demand_3_on_random_runs() {
                     run.feed(&bad, 600, 9_000)
                 }
                 1 => run.feed(&file, random.below(20), random.below(40)),
-                _ => run.feed(&file, 513, 8_482),
+                _ => run.feed(&file, 513, 8_492),
             };
             if number == 0 {
                 met.add(&node, &input, &slice);
@@ -359,12 +380,14 @@ fn demand_3_on_random_runs() {
                 accepted += 1;
             } else {
                 refused += 1;
+                full += usize::from(number == 31);
             }
             run.holds();
         }
         run.holds();
     }
     assert!(accepted > 3_000 && refused > 1_000, "{accepted} {refused}");
+    assert!(full > 300, "{full}");
     assert!(met.waiting > 1_000 && met.opening > 1_000, "{met:?}");
 }
 
@@ -407,7 +430,7 @@ fn damaged_files_are_judged() {
             type_file(&input),
             slice_file(&slice),
             slice_file(&next),
-            patch_file(&input, &node),
+            patch_file(&input, &node, random_totals(&mut random)),
         ];
         let hurt = random.below(files.len());
         files[hurt] = damaged(&mut random, &files[hurt]);
@@ -432,12 +455,12 @@ fn damaged_files_are_judged() {
 #[test]
 fn bytes_from_nowhere_are_judged() {
     let mut random = Random::new(0x5EED_0008);
-    let mut seen = [false; 31];
+    let mut seen = [false; 32];
     for _ in 0..200_000 {
         let stream = small_bytes(&mut random, 7);
         let nodes = small_bytes(&mut random, 19);
         let slice = small_bytes(&mut random, 12);
-        let patch = [stream.clone(), nodes].concat();
+        let patch = [stream.clone(), nodes, eight_bytes(&mut random)].concat();
         let number = fed(&patch, &slice).err().unwrap_or(0);
         seen[number as usize] = true;
         let checked = answered(|buffer| check(&patch, buffer)).err().unwrap_or(0);
@@ -452,7 +475,7 @@ fn bytes_from_nowhere_are_judged() {
         let last = if of_type { admitted } else { 20 };
         assert_eq!(longest(&stream, &mut []), Err(last));
     }
-    for number in [0, 1, 2, 3, 6, 7, 11, 12, 13, 14] {
+    for number in [0, 1, 2, 3, 6, 7, 11, 12, 13, 14, 31] {
         assert!(seen[number], "{number} never came");
     }
 }
@@ -470,4 +493,15 @@ fn small_bytes(random: &mut Random, kinds: usize) -> Vec<u8> {
         bytes.push(random.below(kinds) as u8);
     }
     bytes
+}
+
+/// A section of totals, mostly of eight bytes, and of these mostly the largest or zero.
+fn eight_bytes(random: &mut Random) -> Vec<u8> {
+    let length = if random.once_in(12) {
+        random.below(12)
+    } else {
+        8
+    };
+    let byte = [0, 255, random.byte()][random.below(3)];
+    section(&vec![byte; length])
 }

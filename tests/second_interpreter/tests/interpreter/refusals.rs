@@ -82,7 +82,9 @@ fn sections_of_a_patch_file() {
     assert_eq!(patch_number(&[0, 1, 0, 0, 2, 18]), 1);
     assert_eq!(patch_number(&[0, 1, 0, 0, 1, 18]), 2);
     assert_eq!(patch_number(&[0, 1, 0, 0, 2, 0, 18]), 3);
-    assert_eq!(patch_number(&[0, 1, 0, 0, 1, 0, 18]), 3);
+    // Behind the nodes the third section begins; `totals` has more of it.
+    assert_eq!(patch_number(&[0, 1, 0, 0, 1, 0, 18]), 1);
+    assert_eq!(patch_number(&with(patch(&[0], &[0]), &[18])), 3);
     // The type section ends before the next begins.
     assert_eq!(patch_number(&[0, 2, 0, 0]), 3);
     assert_eq!(patch_number(&[0, 1, 6]), 2);
@@ -390,21 +392,22 @@ fn too_short_buffers_of_feed() {
     let start = patch(&[1], &[10, 14, 9, 2, 0]);
     let slice = section(&[1]);
     for output_length in 3..8 {
-        for left_length in 6..11 {
+        for left_length in 16..21 {
             let mut output = vec![7; output_length];
             let mut left = vec![9; left_length];
             let answer = feed(&start, &slice, &mut output, &mut left);
-            if output_length < 5 || left_length < 8 {
+            if output_length < 5 || left_length < 18 {
                 assert_eq!(answer, Err(20));
                 assert_eq!(output, vec![7; output_length]);
                 assert_eq!(left, vec![9; left_length]);
             } else {
                 let answer = answer.map(|written| (written.output, written.patch));
-                assert_eq!(answer, Ok((5, 8)));
+                assert_eq!(answer, Ok((5, 18)));
                 assert_eq!(output[..5], [0, 3, 6, 2, 1]);
                 assert_eq!(left[..8], [0, 1, 1, 0, 3, 10, 0, 0]);
+                assert_eq!(left[8..18], [0, 8, 0, 0, 0, 0, 0, 0, 0, 1]);
                 assert_eq!(output[5..], vec![7; output_length - 5]);
-                assert_eq!(left[8..], vec![9; left_length - 8]);
+                assert_eq!(left[18..], vec![9; left_length - 18]);
             }
         }
     }

@@ -3,10 +3,10 @@
 
 use second_interpreter::{
     check, every_slice, every_type, feed_node, left, output_type, patch_file, slice_file,
-    type_file, Node, Slice, Type,
+    type_file, Node, Slice, Totals, Type,
 };
 
-use crate::common::{answered, fed, patch};
+use crate::common::{answered, fed, patch, TOTALS_SECTION};
 use crate::exhaustive::every_string;
 use crate::generator::{random_node, random_slice, random_type, Random};
 use crate::openings::{Does, OPENERS};
@@ -125,7 +125,7 @@ fn every_slice_of_every_small_type() {
 /// The node section of a patch file, without its count.
 fn nodes_of(file: &[u8]) -> &[u8] {
     let stream = usize::from(u16::from_be_bytes([file[0], file[1]]));
-    &file[stream + 4..]
+    &file[stream + 4..file.len() - TOTALS_SECTION]
 }
 
 /// Chains nodes 2 and 3 behind a patch; expects of each slice that they do what the
@@ -175,7 +175,7 @@ fn behind_random_patches() {
         let size = 1 + random.below(40);
         let input = random_type(&mut random, size);
         let node = random_node(&mut random, &input, 30);
-        let file = patch_file(&input, &node);
+        let file = patch_file(&input, &node, Totals::default());
         for progress in [0, 1, 4] {
             let slice = random_slice(&mut random, &input, progress);
             expect_behind(&mut met, &input, nodes_of(&file), &slice);
