@@ -173,7 +173,10 @@ pub fn read_patch_file(file: &[u8]) -> PatchRead
             TreeEnd::Failed(fault) => PatchRead::Refused(fault),
             TreeEnd::At(read) => match last_section_end(&file[type_end + read..]) {
                 TreeEnd::Failed(fault) => PatchRead::Refused(fault),
-                TreeEnd::At(_) => PatchRead::Whole(PatchPlace::new(TypePlace::new(2, type_end), type_end + 2)),
+                TreeEnd::At(_) => PatchRead::Whole(PatchPlace::new(
+                    TypePlace::new(2, type_end),
+                    type_end + 2,
+                )),
             },
         },
     }

@@ -175,7 +175,6 @@ module _ {patch : List ℕ} {place : PatchPlace} {slice left : List ℕ} {arrive
     pub sent-taken : take (step .sent) sent ≡ prefix-bytes (sends input node prefix) []
     pub nodes-taken : take (step .kept) nodes ≡ node-bytes (leaves input node prefix) []
 
-
   pub done : {sent nodes given sent-after nodes-after given-after : List ℕ} {answer : StepAnswer} {step : Step} → slice-file-limit ≡ length sent
       → NodeAnswers (place .nodes + node-width node) input node prefix sent nodes given sent-after nodes-after given-after answer
       → answer ≡ Stepped step → Done sent-after nodes-after step

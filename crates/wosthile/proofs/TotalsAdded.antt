@@ -82,7 +82,7 @@ module _ {patch written : List ℕ} {arrived sent came went : ℕ} (came-is : ca
     each = λ c within stands. record {
       told = sym (not-held _ (λ w. omega (arith, w .arrived, came-stands patch c within stands)));
       bytes = λ e. never e;
-    }
+    };
   }
 
   pub sent-passed : 4294967295 - went < sent → CountsAdded patch arrived sent written false
@@ -91,7 +91,7 @@ module _ {patch written : List ℕ} {arrived sent came went : ℕ} (came-is : ca
     each = λ c within stands. record {
       told = sym (not-held _ (λ w. omega (arith, w .sent, went-stands patch c within stands)));
       bytes = λ e. never e;
-    }
+    };
   }
 
   pub sums-held : arrived ≤ 4294967295 - came → sent ≤ 4294967295 - went → written ≡ totals-bytes (record { arrived = came + arrived; sent = went + sent }) []
@@ -104,5 +104,5 @@ module _ {patch written : List ℕ} {arrived sent came went : ℕ} (came-is : ca
         record {
           told = sym (held-test _ .1 (record { arrived = omega (arith, x, within .arrived); sent = omega (arith, y, within .sent) }));
           bytes = λ e. is ∙ (λ i. totals-bytes (record { arrived = x i + arrived; sent = y i + sent }) []);
-        }
+        };
   }

@@ -239,7 +239,16 @@ fn send(
             let went = count_arrivals(&sent, PrefixPlace::new(0, many));
             let mut totals = [0u8; PatchPlace::TOTALS];
             if add_counts(patch, arrived, went, &mut totals) {
-                return write_both(&sent[..many], left, &nodes[..kept], &totals, arrived, went, out, next);
+                return write_both(
+                    &sent[..many],
+                    left,
+                    &nodes[..kept],
+                    &totals,
+                    arrived,
+                    went,
+                    out,
+                    next,
+                );
             }
             Fed::refused(Fault::TotalTooLarge)
         }

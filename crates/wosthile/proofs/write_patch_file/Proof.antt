@@ -1,65 +1,68 @@
+-- `write_patch_file` meets its contract: the section of the type, and on the part behind it the section of the nodes, and behind both that
+-- of the totals (`PatchWritten`).
 use borrow.Author.Needs.{needs}
+use Rattle.wosthile.proofs.PatchWritten.{totals-fit, patch-written}
 use Rattle.wosthile.proofs.write_patch_file.Statement.{statement}
 use Rattle.wosthile.proofs.write_patch_file.Tie as tie
-use Rattle.wosthile.proofs.write_patch_file.Reads as reads
-use Rattle.wosthile.proofs.write_patch_file.Lts as lts
-use Rattle.writing.proofs.write_section.Reads as write-section-reads
 
--- src/lib.rt:151:5
+-- The map of places: what stands before what.
+abbrev write-section-before-write-section-arg3 : tie.After-write-section-arg3 → tie.After-write-section
+write-section-before-write-section-arg3 c = c .before .before .before .before .before .before .before
+
+abbrev entry-before-write-section-arg3 : tie.After-write-section-arg3 → tie.Start
+entry-before-write-section-arg3 c = write-section-before-write-section-arg3 c .before .before .before .before .before .before
+
+abbrev write-section2-before-slice-known4 : tie.After-slice-known4 → tie.After-write-section2
+write-section2-before-slice-known4 c = c .before .before .before .before .before .before
+
+abbrev write-section-before-slice-known4 : tie.After-slice-known4 → tie.After-write-section
+write-section-before-slice-known4 c = write-section-before-write-section-arg3 (c .before .before .before)
+
 write-section-requires : tie.Need-write-section-requires
 write-section-requires c κs = search needs
 
--- src/lib.rt:152:17
 add-typed : tie.Need-add-typed
 add-typed c = search needs
 
--- src/lib.rt:153:26
 sub-write-section : tie.Need-sub-write-section
 sub-write-section c = search needs
 
--- src/lib.rt:153:26
 part-write-section-start : tie.Need-part-write-section-start
 part-write-section-start c = search needs
 
--- src/lib.rt:153:26
 part-write-section-end : tie.Need-part-write-section-end
 part-write-section-end c = search needs
 
--- src/lib.rt:153:5
 write-section-requires-2 : tie.Need-write-section-requires-2
 write-section-requires-2 c κs = search needs
 
--- src/lib.rt:154:28
 add-written : tie.Need-add-written
 add-written c = search needs
 
--- src/lib.rt:154:19
 add-written-2 : tie.Need-add-written-2
 add-written-2 c = search needs
 
--- src/lib.rt:155:27
 sub-write-section-2 : tie.Need-sub-write-section-2
 sub-write-section-2 c = search needs
 
--- src/lib.rt:155:27
 part-write-section-start-2 : tie.Need-part-write-section-start-2
 part-write-section-start-2 c = search needs
 
--- src/lib.rt:155:27
 part-write-section-end-2 : tie.Need-part-write-section-end-2
 part-write-section-end-2 c = search needs
 
--- src/lib.rt:155:5
 write-section-requires-3 : tie.Need-write-section-requires-3
-write-section-requires-3 c κs = ?
+write-section-requires-3 c κs =
+    let due = entry-before-write-section-arg3 c .pre in
+    totals-fit due (write-section-before-write-section-arg3 c .write-section .ensures) (c .before .before .before .write-section2 .ensures)
 
--- src/lib.rt:147:1
 same-length : tie.Need-same-length
 same-length c = search needs
 
--- src/lib.rt:147:1
 returns : tie.Need-returns
-returns c = ?
+returns c =
+    patch-written _ _ _ _ (write-section-before-slice-known4 c .write-section .ensures) (write-section2-before-slice-known4 c .write-section2 .ensures)
+    (c .before .before .write-section3 .ensures)
 
 pub write-patch-file-spec : {M : Type 1} → statement M
 write-patch-file-spec =
