@@ -23,7 +23,7 @@ pub patch-short : (file : List ℕ) → Bytes file → number-of (check file) �
 patch-short file b none = go (check file) refl none
   where
     go : (o : Result (List ℕ)) → check file ≡ o → number-of o ≡ 0 → length file ≤ patch-file-limit
-    go (accepted type) e n = let f = check-accepted file b .0 (type, e) in rw (← f .bytes) (patch-file-length (f .allowed))
+    go (accepted type) e n = let f = check-accepted file b .0 (type, e) in rw (← f .bytes) (patch-file-length (f .trees .totals) (f .allowed))
     go (refused f) e n = absurd (omega (arith, number-bounds f .0))
 
 module _ (patch file lent : List ℕ) where

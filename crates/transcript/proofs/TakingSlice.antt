@@ -4,36 +4,31 @@ use mathlib.Core.List.{List, [], _++_, append-assoc, append-nil}
 use Prim.Native.Nat.{ℕ, _+_, _*_, _≤_}
 use native.Mathlib.Omega.{arith}
 use native.Mathlib.Nat.{le-trans}
-use lib.ListN.{length, getD, take, drop, length-append}
+use lib.ListN.{length, getD, take, drop}
 use lib.Seq.{take-at}
 use Rattle.stream.specs.TypeFiles.{type-bytes, type-file-bytes}
 use Rattle.stream.specs.TypeFiles.Laws.{type-file-length}
-use Rattle.stream.specs.SliceFiles.{prefix-bytes, slice-file, slice-file-bytes}
-use Rattle.stream.specs.SliceFiles.Laws.{slice-file-sound}
+use Rattle.stream.specs.SliceFiles.{prefix-bytes, slice-file-bytes}
 use Rattle.stream.specs.Reading.{Bytes, Result, accepted, refused, section-bytes}
-use Rattle.stream.specs.Reading.Laws.{go-on-accepted}
+use Rattle.stream.specs.Reading.Laws.{section-length}
 use Rattle.stream.specs.Buffers.{at-front}
 use Rattle.stream.specs.Types.{Ty, Small}
-use Rattle.stream.specs.Prefixes.{derivative}
-use Rattle.node.specs.Nodes.{Node, Allowed, patch-of}
-use Rattle.node.specs.Feeding.Functions.{sends, leaves}
+use Rattle.node.specs.Totals.{Held, totals-bytes}
+use Rattle.node.specs.Nodes.{Allowed, Patch}
+use Rattle.node.specs.Feeding.Functions.{sends, patch-left}
 use Rattle.node.specs.Feeding.Laws.{leaves-allowed}
 use Rattle.node.specs.PatchFiles.{node-bytes, patch-file-bytes}
 use Rattle.writing.specs.Writing.Laws.{front-length}
 use Rattle.writing.specs.Writing.{Begun}
 use Rattle.meaning.specs.declared.Fed.{Fed}
-use Rattle.meaning.specs.Answers.{feed, FedFiles, fed-files, number-of, fed, after}
-use Rattle.meaning.specs.Answers.Laws.{number-bounds, feed-of-patch, fed-patch, FedSized, feed-sized-of-bytes, first-section-of}
+use Rattle.meaning.specs.Answers.{feed, FedFiles, number-of, fed, after}
+use Rattle.meaning.specs.Answers.Laws.{number-bounds, fed-piece, fed-patch, FedSized, feed-sized-of-bytes, first-section-of}
 use Rattle.transcript.specs.declared.Stage.the-variants.{Feeding}
 use Rattle.transcript.specs.Transcripts.{number-line, contents, fed-line, line, feeding, patch-after, takes}
 use Rattle.transcript.specs.Transcripts.Laws.{number-line-length, fed-line-length}
 use Rattle.transcript.specs.Playing.{state-of, Inside, TakesFile}
 use Rattle.transcript.proofs.Answered.{FedBy}
 use Rattle.stream.specs.Bounds.{slice-limit, slice-file-limit, patch-file-limit}
-
-section-length : (body r : List ℕ) → length (section-bytes body r) ≡ 2 + length body + length r
-unfolding section-bytes
-section-length body r = omega (arith, length-append body r)
 
 section-contents : (body r : List ℕ) → contents (section-bytes body r) ≡ body
 unfolding section-bytes
@@ -43,9 +38,9 @@ section-contents body r = ap (drop 2) (first-section-of body r) ∙ append-nil b
 pub record FedSections (w : FedFiles) : Type 0 where
   pub output : List ℕ
   pub type : List ℕ
-  pub nodes : List ℕ
+  pub behind : List ℕ
   pub output-is : w .output ≡ section-bytes output []
-  pub patch-is : w .patch ≡ section-bytes type nodes
+  pub patch-is : w .patch ≡ section-bytes type behind
   pub output-short : length output ≤ slice-limit
   pub type-short : length type ≤ 255
   pub patch-short : length (w .patch) ≤ patch-file-limit
@@ -53,7 +48,7 @@ pub record FedSections (w : FedFiles) : Type 0 where
 pub fed-sections : (patch slice : List ℕ) (w : FedFiles) → Bytes patch → Bytes slice → feed patch slice ≡ accepted w → FedSections w
 unfolding slice-file-bytes type-file-bytes patch-file-bytes
 fed-sections patch slice w b c e =
-    let f = fed-patch patch slice w b e in go (f .trees .input) (f .trees .node) (f .output) (f .allowed) (rw (← f .bytes) at e)
+    let f = fed-patch patch slice w b e in go (f .trees) (f .output) (f .allowed) (f .held) (rw (← f .bytes) at e)
   where
     sized : FedSized w
     sized = feed-sized-of-bytes patch slice b c .sized w e
@@ -61,23 +56,20 @@ fed-sections patch slice w b c e =
     small : (t : Ty) → Small t → length (type-bytes t []) ≤ 255
     small t h = omega (arith, type-file-length t h, section-length (type-bytes t []) [])
 
-    go : (s : Ty) (n : Node) (t : Ty) → Allowed s n t → feed (patch-file-bytes (patch-of s n)) slice ≡ accepted w → FedSections w
-    go s n t a h =
-        let x = go-on-accepted (slice-file s slice) (λ p. accepted (fed-files (patch-of s n) p)) w (sym (feed-of-patch slice a) ∙ h) in
-        let p = x .0 in
-        let is-prefix = slice-file-sound s slice p c (x .1) .1 in
-        let d : fed-files (patch-of s n) p ≡ w = let z = x .2 in cc in
-        let output = prefix-bytes (sends s n p) [] in
-        let type = type-bytes (derivative s p) [] in
-        let output-is : w .output ≡ section-bytes output [] = ap (λ (v : FedFiles). v .output) (sym d) in
+    go : (a : Patch) (t : Ty) → Allowed (a .input) (a .node) t → Held (a .totals) → feed (patch-file-bytes a) slice ≡ accepted w → FedSections w
+    go a t allowed held h =
+        let x = fed-piece a slice w allowed held c h in
+        let left = patch-left a (x .prefix) in
+        let output = prefix-bytes (sends (a .input) (a .node) (x .prefix)) [] in
+        let output-is : w .output ≡ section-bytes output [] = ap (λ (v : FedFiles). v .output) (sym (x .files)) in
         record {
           output = output;
-          type = type;
-          nodes = section-bytes (node-bytes (leaves s n p) []) [];
+          type = type-bytes (left .input) [];
+          behind = section-bytes (node-bytes (left .node) []) (section-bytes (totals-bytes (left .totals) []) []);
           output-is = output-is;
-          patch-is = ap (λ (v : FedFiles). v .patch) (sym d);
+          patch-is = ap (λ (v : FedFiles). v .patch) (sym (x .files));
           output-short = omega (arith, sized .output .short, ap length output-is, section-length output []);
-          type-short = small (derivative s p) (leaves-allowed a is-prefix .input-small);
+          type-short = small (left .input) (leaves-allowed allowed (x .taken .is-prefix) .input-small);
           patch-short = sized .patch .short;
         }
 
@@ -115,7 +107,7 @@ module _ (patch slice lent : List ℕ) (n : ℕ) where
   slice-fed w f e room {patch-left} {lent-after} {kept} {written} long stands begun =
       let keeps = front-length (w .patch) patch (omega (arith, f .patch-short)) in
       let fields : line (accepted w) ≡ fed-line (f .output) (f .type) =
-      ap₂ fed-line (ap contents (f .output-is) ∙ section-contents (f .output) []) (ap contents (f .patch-is) ∙ section-contents (f .type) (f .nodes)) in
+      ap₂ fed-line (ap contents (f .output-is) ∙ section-contents (f .output) []) (ap contents (f .patch-is) ∙ section-contents (f .type) (f .behind)) in
       record {
         inside = omega (arith, f .patch-short, ap length stands, keeps);
         long = ap length stands ∙ keeps;
@@ -132,7 +124,7 @@ pub record FedInto (patch slice output patch-lent : List ℕ) (answer : Fed) (ou
   pub sent : answer .output ≡ 2 + length (sections .output)
   pub kept : answer .patch ≡ length (written .patch)
   pub output-stands : output-after ≡ at-front (section-bytes (sections .output) []) output
-  pub patch-stands : patch-after ≡ at-front (section-bytes (sections .type) (sections .nodes)) patch-lent
+  pub patch-stands : patch-after ≡ at-front (section-bytes (sections .type) (sections .behind)) patch-lent
   pub output-long : length output-after ≡ length output
   pub patch-long : length patch-after ≡ length patch-lent
 

@@ -31,7 +31,7 @@ Inside Awaiting patch = Unit
 Inside (Feeding n) patch = n ≤ length patch
 Inside Stopped patch = Unit
 
--- There is room for every patch, 8,482 bytes, and for the longest line: two characters for each of 511 and 255 bytes, the
+-- There is room for every patch, 8,492 bytes, and for the longest line: two characters for each of 511 and 255 bytes, the
 -- number, two spaces and the line feed.
 pub record Ready (stage : Stage) (patch lent : List ℕ) : Type 0 where
   pub inside : Inside stage patch

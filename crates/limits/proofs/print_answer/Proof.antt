@@ -1,4 +1,4 @@
--- `print_answer` meets its contract: both trees fit the array, and the file is as long as they are.
+-- `print_answer` meets its contract: the three sections fit the array, and the file is as long as they are.
 use borrow.Author.Needs.{needs}
 use mathlib.Core.Path.{sym}
 use lib.Seq.{length-take-le}
@@ -16,6 +16,12 @@ slice-aggregate-put-tree-2 c = search needs
 
 put-tree-requires-2 : tie.Need-put-tree-requires-2
 put-tree-requires-2 c κs = search needs
+
+slice-aggregate-put-totals : tie.Need-slice-aggregate-put-totals
+slice-aggregate-put-totals c = search needs
+
+put-totals-requires : tie.Need-put-totals-requires
+put-totals-requires c κs = search needs
 
 array-share-prefix-file : tie.Need-array-share-prefix-file
 array-share-prefix-file c = search needs
@@ -55,6 +61,8 @@ print-answer-spec =
     put-tree-requires
     slice-aggregate-put-tree-2
     put-tree-requires-2
+    slice-aggregate-put-totals
+    put-totals-requires
     array-share-prefix-file
     slice-aggregate-check
     slice-aggregate-check-2

@@ -4,8 +4,8 @@ use mathlib.Core.List.{List, [], _∷_, _++_, map}
 use Prim.Native.Nat.{ℕ}
 use Rattle.stream.specs.Reading.Examples.{section-of}
 use Rattle.node.specs.Computing.{node-definitions}
-use Rattle.node.specs.PatchFiles.Examples.{sections}
-use Rattle.meaning.specs.Answers.{check, feed, first-section}
+use Rattle.node.specs.PatchFiles.Examples.{with-totals, sections}
+use Rattle.meaning.specs.Answers.{takes-slice, check, feed, first-section}
 use Rattle.transcript.specs.Transcripts.{files-within, files, digit, hexadecimal, number-line, line, patch-after, takes, prints, transcript}
 
 -- Prepend, after its length; a slice file, after its own.
@@ -23,9 +23,11 @@ streams =
     ∷ (prepend ++ slice (200 ∷ []) ++ slice (1 ∷ []))  -- a refused slice leaves the patch
     ∷ (prepend ++ 0 ∷ 0 ∷ [])  -- a file of no bytes
     ∷ (section-of (sections (1 ∷ []) (5 ∷ [])) ++ slice (1 ∷ []))  -- a refused patch
+    -- a slice that would pass a total is refused with 31 and leaves the patch
+    ∷ (section-of (with-totals (1 ∷ []) (0 ∷ []) (section-of (255 ∷ 255 ∷ 255 ∷ 255 ∷ 0 ∷ 0 ∷ 0 ∷ 0 ∷ []))) ++ slice (2 ∷ []) ++ slice (1 ∷ []))
     ∷ prepend  -- a patch and nothing more
     ∷ (0 ∷ 0 ∷ [])  -- a patch file of no bytes
-    ∷ (0 ∷ 6 ∷ 0 ∷ 1 ∷ 1 ∷ 0 ∷ 1 ∷ [])  -- ends inside the patch file
+    ∷ (0 ∷ 16 ∷ 0 ∷ 1 ∷ 1 ∷ 0 ∷ 1 ∷ [])  -- ends inside the patch file
     ∷ (0 ∷ [])  -- ends inside its length
     ∷ []
 
@@ -37,6 +39,7 @@ pages =
     ∷ (49 ∷ 50 ∷ 10 ∷ 48 ∷ 32 ∷ 48 ∷ 54 ∷ 48 ∷ 50 ∷ 48 ∷ 49 ∷ 32 ∷ 48 ∷ 49 ∷ 10 ∷ [])
     ∷ (49 ∷ 49 ∷ 10 ∷ [])
     ∷ (55 ∷ 10 ∷ [])
+    ∷ (51 ∷ 49 ∷ 10 ∷ 48 ∷ 32 ∷ 48 ∷ 49 ∷ 32 ∷ 48 ∷ 49 ∷ 10 ∷ [])
     ∷ []
     ∷ (49 ∷ 10 ∷ [])
     ∷ []
@@ -44,5 +47,5 @@ pages =
     ∷ []
 
 pub printed : map transcript streams ≡ pages
-unfolding node-definitions check feed first-section files-within files digit hexadecimal number-line line patch-after takes prints transcript
+unfolding node-definitions takes-slice check feed first-section files-within files digit hexadecimal number-line line patch-after takes prints transcript
 printed = refl
