@@ -5,32 +5,40 @@ use mathlib.Core.List.{List, [], _∷_, map}
 use Prim.Native.Nat.{ℕ, _≤_}
 use lib.ListN.{length}
 use Rattle.stream.specs.declared.Fault.{Fault}
+use Rattle.stream.specs.declared.Fault.the-variants.{TotalTooLarge}
 use Rattle.stream.specs.Faults.{number}
 use Rattle.stream.specs.Buffers.{at-front}
 use Rattle.stream.specs.Types.{Ty}
 use Rattle.stream.specs.Prefixes.{Prefix, derivative, Concat}
 use Rattle.stream.specs.Reading.{Result, accepted, refused}
 use Rattle.stream.specs.TypeFiles.{type-file-bytes}
-use Rattle.stream.specs.SliceFiles.{slice-file-bytes}
+use Rattle.stream.specs.SliceFiles.{slice-file, slice-file-bytes}
 use Rattle.stream.specs.Longest.{longest-prefix}
 use Rattle.node.specs.Nodes.{Patch}
-use Rattle.node.specs.Feeding.{FeedsPatch}
-use Rattle.node.specs.PatchFiles.{Checked, patch-file-bytes}
+use Rattle.node.specs.Feeding.{FeedsPatch, Within}
+use Rattle.node.specs.PatchFiles.{Checked, patch-file, patch-file-bytes}
 use Rattle.meaning.specs.declared.Written.{Written}
 use Rattle.meaning.specs.declared.Fed.{Fed}
-use Rattle.meaning.specs.Answers.{on-slice, on-slices, on-patch, FedFiles}
+use Rattle.meaning.specs.Answers.{on-slice, on-slices, FedFiles}
 pub mod Laws
 
--- What the files of a call are read as, or the first fault in them: a type and a slice, two slices, a patch and a slice, of which 31 is
--- the last fault. (Check reads a patch file, `patch-file`, and Longest a type file, `type-file`.)
+-- What the files of a call are read as, or the first fault in them: a type and a slice, two slices. (Check reads a patch file,
+-- `patch-file`, and Longest a type file, `type-file`.)
 abbrev pub type-and-slice : (type slice : List ℕ) → Result (Ty × Prefix)
 type-and-slice type slice = on-slice type slice (λ t p. accepted (t, p))
 
 abbrev pub two-slices : (type first second : List ℕ) → Result (Prefix × Prefix)
 two-slices type first second = on-slices type first second (λ p q. accepted (p, q))
 
-abbrev pub patch-and-slice : (patch slice : List ℕ) → Result (Patch × Prefix)
-patch-and-slice patch slice = on-patch patch slice (λ a p. accepted (a, p))
+-- What Feed takes, or the first fault: of the patch, of the slice, and last a limit of Feed.
+pub data FeedTakes (patch slice : List ℕ) : Result (Patch × Prefix) → Type 0 where
+  patch-refused : {e : Fault} → patch-file patch ≡ refused e → FeedTakes patch slice (refused e)
+  slice-refused : {c : Checked} {e : Fault} → patch-file patch ≡ accepted c → slice-file (c .patch .input) slice ≡ refused e
+      → FeedTakes patch slice (refused e)
+  total-passed : {c : Checked} {p : Prefix} → patch-file patch ≡ accepted c → slice-file (c .patch .input) slice ≡ accepted p
+      → (Within (c .patch) p → ⊥) → FeedTakes patch slice (refused TotalTooLarge)
+  taken : {c : Checked} {p : Prefix} → patch-file patch ≡ accepted c → slice-file (c .patch .input) slice ≡ accepted p
+      → Within (c .patch) p → FeedTakes patch slice (accepted (c .patch, p))
 
 -- The files that are due for what was read: Check "writes its output type file", Admit writes nothing, Left what the slice leaves,
 -- Join the two slices as one, Feed "the output slice file and the patch file left", Longest the longest slice of the type.

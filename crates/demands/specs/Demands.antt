@@ -14,7 +14,7 @@ use Prim.Native.Nat.{ℕ, _+_, _≤_}
 use lib.ListN.{length, take}
 use Rattle.stream.specs.Bounds.{type-file-limit, slice-file-limit, patch-file-limit}
 use Rattle.stream.specs.Prefixes.{Prefix, arrivals, derivative}
-use Rattle.stream.specs.Reading.{Bytes}
+use Rattle.stream.specs.Reading.{Bytes, Result}
 use Rattle.stream.specs.TypeFiles.{type-file, TypeFile}
 use Rattle.stream.specs.SliceFiles.{slice-file-bytes, SliceFile}
 use Rattle.stream.specs.Longest.{longest-prefix}
@@ -27,7 +27,7 @@ use Rattle.meaning.specs.declared.Fed.{Fed}
 use Rattle.meaning.specs.Answers.{files-of}
 use Rattle.meaning.specs.Answers.Laws.{check-accepted, admit-accepted, left-accepted, join-accepted, feed-accepted, feed-accepted-of-bytes, longest-accepted, check-sized, left-sized, join-sized, longest-sized, feed-sized, feed-sized-of-bytes}
 use Rattle.meaning.specs.Promises.{CheckPromise, AdmitPromise, LeftPromise, JoinPromise, FeedPromise, LongestPromise}
-use Rattle.demands.specs.Calls.{type-and-slice, two-slices, patch-and-slice, DueFromCheck, DueFromAdmit, DueFromLeft, DueFromJoin, DueFromFeed, DueFromLongest, Decided, WroteBoth}
+use Rattle.demands.specs.Calls.{type-and-slice, two-slices, FeedTakes, DueFromCheck, DueFromAdmit, DueFromLeft, DueFromJoin, DueFromFeed, DueFromLongest, Decided, WroteBoth}
 use Rattle.demands.specs.Calls.Laws.{check-decided, admit-decided, left-decided, join-decided, feed-decided, longest-decided, check-kept, admit-kept, left-kept, join-kept, feed-kept, longest-kept, writes-zero, admits-zero, admits-counts, feeds-zero, feeds-as-check, none-admitted-longer, longest-admits, admits-file, join-counts}
 use Rattle.demands.specs.Runs.{Call, ByteSlices, RunEnd, Ran, NoneShort, handed, Joined, Faithful, Through}
 use Rattle.demands.specs.Runs.Laws.{feed-by-rules, feed-defined, run-faithful, run-faithful-so-far, every-list-runs, feeds-passed, run-totals, cut-anyhow}
@@ -53,10 +53,10 @@ pub demand-1-join : (type first second : List ℕ) {lent lent-after : List ℕ} 
 demand-1-join type first second call = join-decided type first second call
 
 pub demand-1-feed : {file slice output-lent patch-lent output-after patch-after : List ℕ} {answer : Fed}
-    → FeedPromise file slice output-lent patch-lent answer output-after patch-after → Bytes slice
-    → Decided (patch-and-slice file slice) DueFromFeed (answer .number) (answer .output ∷ answer .patch ∷ [])
+    → FeedPromise file slice output-lent patch-lent answer output-after patch-after → Bytes file → Bytes slice
+    → (read : Result (Patch × Prefix)) × FeedTakes file slice read × Decided read DueFromFeed (answer .number) (answer .output ∷ answer .patch ∷ [])
     (output-lent ∷ patch-lent ∷ []) (output-after ∷ patch-after ∷ [])
-demand-1-feed call bytes = feed-decided call bytes
+demand-1-feed call b c = feed-decided call b c
 
 pub demand-1-longest : (type : List ℕ) {lent lent-after : List ℕ} {answer : Written} → LongestPromise type lent answer lent-after
     → Decided (type-file type) DueFromLongest (answer .number) (answer .written ∷ []) (lent ∷ []) (lent-after ∷ [])

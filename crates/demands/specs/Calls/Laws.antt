@@ -12,7 +12,7 @@ use lib.ListN.{length, take, drop}
 use lib.Seq.{take-append-seam}
 use borrow.Author.Tests.{le-leb, leb-false, leb-true, eqb-true, eqb-false}
 use Rattle.stream.specs.declared.Fault.{Fault}
-use Rattle.stream.specs.declared.Fault.the-variants.{NoRoom}
+use Rattle.stream.specs.declared.Fault.the-variants.{NoRoom, TotalTooLarge}
 use Rattle.stream.specs.Faults.{number, contains, Listed}
 use Rattle.stream.specs.Prefixes.{Prefix, Complete, IsPrefix, arrivals, derivative}
 use Rattle.stream.specs.Prefixes.Functions.{complete, concat}
@@ -24,20 +24,23 @@ use Rattle.meaning.specs.declared.Written.{Written}
 use Rattle.meaning.specs.declared.Admitted.{Admitted}
 use Rattle.meaning.specs.declared.Fed.{Fed}
 use Rattle.stream.specs.Bounds.{slice-file-limit, patch-file-limit, arrivals-limit}
-use Rattle.meaning.specs.Answers.{takes-slice, with-room, number-of, value-of, as-number, after, fits-one, fits-both, written, admitted, fed, FedFiles, check, left, join, feed, admit, longest, files-of, fed-files, into-both}
+use Rattle.meaning.specs.Answers.{on-patch, takes-slice, with-room, number-of, value-of, as-number, after, fits-one, fits-both, written, admitted, fed, FedFiles, check, left, join, feed, admit, longest, files-of, fed-files, into-both}
 use Rattle.meaning.specs.Answers.Laws.{takes-sound, number-positive, enough-room, room-accepted, room-refusals, both-fit, check-refused-feed, admit-answers, left-answers, joins, admit-accepted, join-accepted, longest-of, longest-accepted, Refuses, WritesSized, FeedsSized}
 use Rattle.meaning.specs.Promises.{Writes, Admits, CheckPromise, AdmitPromise, LeftPromise, JoinPromise, FeedPromise, LongestPromise}
-use Rattle.demands.specs.Calls.{type-and-slice, two-slices, patch-and-slice, DueFromCheck, DueFromAdmit, DueFromLeft, DueFromJoin, DueFromFeed, DueFromLongest, RoomFor, Wrote, WroteBoth, Decided, is-accepted, is-refused, is-short, TooShortFor, Ty}
+use Rattle.demands.specs.Calls.{type-and-slice, two-slices, FeedTakes, patch-refused, slice-refused, total-passed, taken, DueFromCheck, DueFromAdmit, DueFromLeft, DueFromJoin, DueFromFeed, DueFromLongest, RoomFor, Wrote, WroteBoth, Decided, is-accepted, is-refused, is-short, TooShortFor, Ty}
 use Rattle.stream.specs.TypeFiles.{type-file, type-file-bytes, TypeFile}
 use Rattle.stream.specs.TypeFiles.Laws.{type-file-complete}
 use Rattle.stream.specs.Longest.{longest-prefix}
 use Rattle.stream.specs.Longest.Laws.{longest-prefix-is-prefix, longest-prefix-complete, no-file-longer}
 use Rattle.stream.specs.SliceFiles.{slice-file, slice-file-bytes, SliceFile}
 use Rattle.stream.specs.SliceFiles.Laws.{slice-file-sound, few-arrivals}
-use Rattle.node.specs.PatchFiles.{patch-file, patch-file-bytes}
-use Rattle.node.specs.Nodes.{Patch}
+use Rattle.node.specs.PatchFiles.{Checked, patch-file, patch-file-bytes}
+use Rattle.node.specs.PatchFiles.Laws.{patch-file-sound}
+use Rattle.node.specs.Totals.{held}
+use Rattle.node.specs.Nodes.{Allowed, Patch}
+use Rattle.node.specs.Feeding.Functions.{patch-left}
 use Rattle.node.specs.Feeding.{FeedsPatch}
-use Rattle.node.specs.Feeding.Patches.{feeds-patch-only}
+use Rattle.node.specs.Feeding.Patches.{feeds-patch-only, within-test}
 use Rattle.stream.specs.Types.{Ty}
 use Rattle.stream.specs.Types.Laws.{and-left, and-right}
 
@@ -563,6 +566,30 @@ both-files w = w .output ∷ w .patch ∷ []
 abbrev SliceFits : Patch × Prefix → Type 0
 SliceFits x = IsPrefix (x .0 .input) (x .1)
 
+-- What Feed takes, as a function.
+abbrev patch-and-slice : (patch slice : List ℕ) → Result (Patch × Prefix)
+patch-and-slice patch slice = on-patch patch slice (λ a p. accepted (a, p))
+
+feed-takes : (file slice : List ℕ) → Bytes file → Bytes slice → FeedTakes file slice (patch-and-slice file slice)
+unfolding takes-slice
+feed-takes file slice b c = by-patch (patch-file file) refl
+  where
+    by-limit : (a : Checked) (p : Prefix) → patch-file file ≡ accepted a → slice-file (a .patch .input) slice ≡ accepted p
+        → Allowed (a .patch .input) (a .patch .node) (a .output) → IsPrefix (a .patch .input) p → (k : Bool) → held (patch-left (a .patch) p .totals) ≡ k
+        → FeedTakes file slice (go-on (require k TotalTooLarge (accepted p)) (λ q. accepted (a .patch, q)))
+    by-limit a p d e w h true k = taken d e (within-test (a .patch) (w .types) h .0 k)
+    by-limit a p d e w h false k = total-passed d e (λ within. true≢false (sym (within-test (a .patch) (w .types) h .1 within) ∙ k))
+
+    by-slice : (a : Checked) → patch-file file ≡ accepted a → (r : Result Prefix) → slice-file (a .patch .input) slice ≡ r
+        → FeedTakes file slice (go-on (go-on r (λ p. require (held (patch-left (a .patch) p .totals)) TotalTooLarge (accepted p))) (λ p. accepted (a .patch, p)))
+    by-slice a d (accepted p) e =
+        by-limit a p d e (patch-file-sound file a b d .allowed) (slice-file-sound (a .patch .input) slice p c e .1) (held (patch-left (a .patch) p .totals)) refl
+    by-slice a d (refused x) e = slice-refused d e
+
+    by-patch : (r : Result Checked) → patch-file file ≡ r → FeedTakes file slice (go-on r (λ a. go-on (takes-slice (a .patch) slice) (λ p. accepted (a .patch, p))))
+    by-patch (accepted a) d = by-slice a d (slice-file (a .patch .input) slice) refl
+    by-patch (refused e) d = patch-refused d
+
 -- A slice that was read for a patch is a prefix of its input type.
 slice-fits : (file slice : List ℕ) → Bytes slice → (x : Patch × Prefix) → patch-and-slice file slice ≡ accepted x → SliceFits x
 slice-fits file slice b x e =
@@ -613,11 +640,14 @@ module _ {output-lent patch-lent output-after patch-after : List ℕ} {answer : 
       is-refused f refl (ap (λ (w : Fed). w .number) (rw e at n)) (ap₂ (λ k l. k ∷ l ∷ []) (rw e at u) (rw e at v))
 
 pub feed-decided : {file slice output-lent patch-lent output-after patch-after : List ℕ} {answer : Fed}
-    → FeedPromise file slice output-lent patch-lent answer output-after patch-after → Bytes slice
-    → Decided (patch-and-slice file slice) DueFromFeed (answer .number) (answer .output ∷ answer .patch ∷ [])
+    → FeedPromise file slice output-lent patch-lent answer output-after patch-after → Bytes file → Bytes slice
+    → (read : Result (Patch × Prefix)) × FeedTakes file slice read × Decided read DueFromFeed (answer .number) (answer .output ∷ answer .patch ∷ [])
     (output-lent ∷ patch-lent ∷ []) (output-after ∷ patch-after ∷ [])
 unfolding feed
-feed-decided {file} {slice} call bytes =
-    fed-decided (patch-and-slice file slice) (slice-fits file slice bytes) (feed file slice)
-    (both-read (patch-file file) (λ c. takes-slice (c .patch) slice) (λ c. c .patch) (λ a p. accepted (fed-files a p)))
-    (call .answers) (call .output-buffer) (call .patch-buffer)
+feed-decided {file} {slice} call file-bytes bytes = (
+  patch-and-slice file slice,
+  feed-takes file slice file-bytes bytes,
+  fed-decided (patch-and-slice file slice) (slice-fits file slice bytes) (feed file slice)
+      (both-read (patch-file file) (λ c. takes-slice (c .patch) slice) (λ c. c .patch) (λ a p. accepted (fed-files a p)))
+      (call .answers) (call .output-buffer) (call .patch-buffer),
+)
