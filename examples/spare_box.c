@@ -113,8 +113,10 @@ static enum status play_until(struct box *box, const char *path, char **words)
 /* The spare box: of the show it has the slices that are still to come, and the patch that was carried to it. */
 static enum status play_from(struct box *box, const char *path, char **words)
 {
-    need_other_file(words[2], path);
-    need_other_file(words[3], path);
+    for (int written = 2; written <= 3; written++) {
+        need_other_file(words[written], path);
+        need_other_file(words[written], words[1]);
+    }
     need_show(path, &box->opened.show);
     size_t from = number_between(words[0], 0, box->opened.show.count), count = box->opened.show.count;
     size_t waited = count - from < EXCHANGE_SLICES ? count - from : EXCHANGE_SLICES;

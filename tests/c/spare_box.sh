@@ -132,7 +132,9 @@ refuses() {
         box 2 "$show" --from 60 "$folder/not_there" "$folder/a" "$folder/b" &&
         box 2 "$show" --until 60 "$folder/missing/patch" "$folder/a" && box 2 "$show" --until 60 /dev/null "$folder/a" &&
         [ -c /dev/null ] && box 2 "$show" --until 60 "$show" "$folder/a" && box 2 "$show" --until 60 "$folder/a" "$show" &&
-        box 2 "$show" --from 60 "$folder/carried" "$folder/a" "$show" && cmp "$show" examples/shows/lamp_fade.show
+        box 2 "$show" --from 60 "$folder/carried" "$folder/a" "$show" && cmp "$show" examples/shows/lamp_fade.show &&
+        cp "$folder/carried" "$folder/kept" && box 2 "$show" --from 60 "$folder/carried" "$folder/carried" "$folder/b" &&
+        box 2 "$show" --from 60 "$folder/carried" "$folder/a" "$folder/carried" && cmp "$folder/carried" "$folder/kept"
 }
 
 # The slices of a second and a half come as one, so that many feeds are saved: the messages of refused ones are the same.
