@@ -13,7 +13,7 @@ use Rattle.stream.specs.Faults.{type-numbers, patch-numbers, contains}
 use Rattle.stream.specs.Types.{Ty, par, Small}
 use Rattle.stream.specs.Prefixes.{Prefix, cue-awaited, level-awaited, beside, IsPrefix, Complete, empty-prefix, Opens, arrivals, derivative, Concat}
 use Rattle.stream.specs.Prefixes.Laws.{concats, concat-only}
-use Rattle.stream.specs.Reading.{Bytes, accepted}
+use Rattle.stream.specs.Reading.{Bytes, Result, accepted}
 use Rattle.stream.specs.TypeFiles.{type-file-bytes, TypeFile}
 use Rattle.stream.specs.SliceFiles.{slice-file-bytes, SliceFile}
 use Rattle.stream.specs.Longest.{longest-prefix}
@@ -27,8 +27,8 @@ use Rattle.meaning.specs.declared.Fed.{Fed}
 use Rattle.meaning.specs.Answers.{check, left, join, feed, longest, files-of, fits-one, fits-both, admit-numbers, feed-numbers}
 use Rattle.meaning.specs.Answers.Laws.{lanes-join, check-accepted, left-accepted, join-accepted, feed-accepted-of-bytes, longest-accepted, longest-of, check-answers, admit-answers, left-answers, joins, check-refuses, admit-refuses, left-refuses, join-refuses, feed-refuses, longest-refuses, check-sized, left-sized, join-sized, feed-sized-of-bytes, longest-sized}
 use Rattle.meaning.specs.Promises.{CheckPromise, AdmitPromise, LeftPromise, JoinPromise, FeedPromise, LongestPromise}
-use Rattle.demands.specs.Calls.{Wrote, WroteBoth, TooShortFor}
-use Rattle.demands.specs.Calls.Laws.{writes-aside, feeds-aside, writes-exactly, admits-complete, admits-few, admits-refused, feeds-refused, writes-listed, admits-listed, feeds-listed, writes-twenty, feeds-twenty, writes-bounded, feeds-bounded, writes-never-twenty, feeds-never-twenty, writes-bytes, feeds-bytes, writes-alike, admits-alike, feeds-alike, one-type}
+use Rattle.demands.specs.Calls.{FeedTakes, Wrote, WroteBoth, TooShortFor}
+use Rattle.demands.specs.Calls.Laws.{writes-aside, feeds-aside, writes-exactly, admits-complete, admits-few, admits-refused, feeds-refused, writes-listed, admits-listed, feeds-listed, writes-twenty, feeds-twenty, writes-bounded, feeds-bounded, writes-never-twenty, feeds-never-twenty, writes-bytes, feeds-bytes, writes-alike, admits-alike, feeds-alike, one-type, takes-one}
 use Rattle.demands.specs.Runs.{Call, ByteSlices, RunEnd, Ran, Joined, AsOne, NoneLonger}
 use Rattle.demands.specs.Runs.Laws.{stays-on-file, feeds-few, counts-as-admit, run-patch, runs-alike, runs-agree, one-joined, one-patch, one-prefix, run-slices-fit, run-outputs-fit}
 use Rattle.demands.specs.Runs.Files.{OnFiles, on-files}
@@ -285,6 +285,11 @@ a-rule a h = (_, _, feeds (a .types) h)
 
 pub one-rule : {s : Ty} {n n′ m : Node} {p o q : Prefix} → IsPrefix s p → Feeds s n p o n′ → Feeds s n p q m → (o ≡ q) × (n′ ≡ m)
 one-rule is-prefix h k = let x = feeds-only h is-prefix in let y = feeds-only k is-prefix in (x .sent ∙ sym (y .sent), x .node ∙ sym (y .node))
+
+-- What Feed takes of its files is one thing.
+
+pub one-taking : {patch slice : List ℕ} {r q : Result (Patch × Prefix)} → FeedTakes patch slice r → FeedTakes patch slice q → r ≡ q
+one-taking one other = takes-one one other
 
 -- So do the rules of Join.
 

@@ -25,6 +25,7 @@ pub record Held (c : Totals) : Type 0 where
   pub arrived : c .arrived ≤ total-limit
   pub sent : c .sent ≤ total-limit
 
+-- The same as a test, which is proved to agree (Laws: held-test).
 unfoldable pub held : Totals → Bool
 held c = leb (c .arrived) total-limit && leb (c .sent) total-limit
 

@@ -9,10 +9,10 @@ use Rattle.stream.specs.declared.Fault.the-variants.{NoRoom}
 use Rattle.stream.specs.Reading.{refused, section-bytes}
 use Rattle.stream.specs.Reading.Laws.{section-length}
 use Rattle.stream.specs.Buffers.{at-front}
-use Rattle.stream.specs.TypeFiles.{type-bytes}
 use Rattle.stream.specs.SliceFiles.{prefix-bytes, slice-file-bytes}
-use Rattle.node.specs.Totals.{totals-bytes}
-use Rattle.node.specs.PatchFiles.{node-bytes, patch-file-bytes}
+use Rattle.node.specs.Totals.Laws.{totals-length}
+use Rattle.node.specs.PatchFiles.{patch-file-bytes}
+use Rattle.node.specs.PatchFiles.Laws.{patch-file-size}
 use Rattle.meaning.specs.Answers.{FedFiles, with-room, fed as told, after}
 use Rattle.wosthile.specs.PatchWriting.{PatchWriteDue, BothDue, FeedsFiles}
 
@@ -49,18 +49,16 @@ module _ {sent input nodes totals : List ℕ} (due : BothDue sent input nodes to
   output-long = omega (arith, section-length (prefix-bytes (due .output) []) [], ap length (due .sent-is))
 
   pub patch-long : 2 + length input + 2 + length nodes + 2 + length totals ≡ length (patch-file-bytes (due .patch))
-  unfolding patch-file-bytes
   patch-long =
       let p = due .patch in
-      let third = section-bytes (totals-bytes (p .totals) []) [] in
+      let are = due .bytes in
       omega (
         arith,
-        section-length (type-bytes (p .input) []) (section-bytes (node-bytes (p .node) []) third),
-        section-length (node-bytes (p .node) []) third,
-        section-length (totals-bytes (p .totals) []) [],
-        ap length (due .bytes .input-is),
-        ap length (due .bytes .nodes-are),
-        ap length (due .bytes .totals-are),
+        patch-file-size p,
+        ap length (are .input-is),
+        ap length (are .nodes-are),
+        ap length (are .totals-are),
+        totals-length (p .totals) [],
       )
 
   -- The section of what is sent is the output's file.

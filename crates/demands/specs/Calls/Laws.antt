@@ -39,7 +39,7 @@ use Rattle.node.specs.PatchFiles.Laws.{patch-file-sound}
 use Rattle.node.specs.Totals.{held}
 use Rattle.node.specs.Nodes.{Allowed, Patch}
 use Rattle.node.specs.Feeding.Functions.{patch-left}
-use Rattle.node.specs.Feeding.{FeedsPatch}
+use Rattle.node.specs.Feeding.{FeedsPatch, Within}
 use Rattle.node.specs.Feeding.Patches.{feeds-patch-only, within-test}
 use Rattle.stream.specs.Types.{Ty}
 use Rattle.stream.specs.Types.Laws.{and-left, and-right}
@@ -589,6 +589,45 @@ feed-takes file slice b c = by-patch (patch-file file) refl
     by-patch : (r : Result Checked) → patch-file file ≡ r → FeedTakes file slice (go-on r (λ a. go-on (takes-slice (a .patch) slice) (λ p. accepted (a .patch, p))))
     by-patch (accepted a) d = by-slice a d (slice-file (a .patch .input) slice) refl
     by-patch (refused e) d = patch-refused d
+
+-- It takes one thing only.
+
+same-read : {A : Type 0} {a b : A} {r : Result A} → r ≡ accepted a → r ≡ accepted b → a ≡ b
+same-read d e = cc
+
+same-fault : {A : Type 0} {x y : Fault} {r : Result A} → r ≡ refused x → r ≡ refused y → x ≡ y
+same-fault d e = cc
+
+never-both : {A : Type 0} {a : A} {x : Fault} {r : Result A} → r ≡ accepted a → r ≡ refused x → ⊥
+never-both d e = let z : _≡_ {A = ℕ} 0 1 = cc in omega arith
+
+-- The slice is read against the same type.
+against : (slice : List ℕ) {c d : Checked} {r : Result Prefix} → c ≡ d → slice-file (c .patch .input) slice ≡ r → slice-file (d .patch .input) slice ≡ r
+against slice e h = ap (λ (c : Checked). slice-file (c .patch .input) slice) (sym e) ∙ h
+
+within-too : {c d : Checked} {p q : Prefix} → c ≡ d → p ≡ q → Within (c .patch) p → Within (d .patch) q
+within-too e f w = rw (← e, ← f) w
+
+pub takes-one : {patch slice : List ℕ} {r q : Result (Patch × Prefix)} → FeedTakes patch slice r → FeedTakes patch slice q → r ≡ q
+takes-one {slice = slice} (patch-refused d) (patch-refused e) = ap refused (same-fault d e)
+takes-one {slice = slice} (patch-refused d) (slice-refused e k) = absurd (never-both e d)
+takes-one {slice = slice} (patch-refused d) (total-passed e k l) = absurd (never-both e d)
+takes-one {slice = slice} (patch-refused d) (taken e k l) = absurd (never-both e d)
+takes-one {slice = slice} (slice-refused d h) (patch-refused e) = absurd (never-both d e)
+takes-one {slice = slice} (slice-refused d h) (slice-refused e k) = ap refused (same-fault (against slice (same-read d e) h) k)
+takes-one {slice = slice} (slice-refused d h) (total-passed e k l) = absurd (never-both k (against slice (same-read d e) h))
+takes-one {slice = slice} (slice-refused d h) (taken e k l) = absurd (never-both k (against slice (same-read d e) h))
+takes-one {slice = slice} (total-passed d h i) (patch-refused e) = absurd (never-both d e)
+takes-one {slice = slice} (total-passed d h i) (slice-refused e k) = absurd (never-both (against slice (same-read d e) h) k)
+takes-one {slice = slice} (total-passed d h i) (total-passed e k l) = refl
+takes-one {slice = slice} (total-passed d h i) (taken e k l) = absurd (i (within-too (same-read e d) (same-read (against slice (same-read e d) k) h) l))
+takes-one {slice = slice} (taken d h i) (patch-refused e) = absurd (never-both d e)
+takes-one {slice = slice} (taken d h i) (slice-refused e k) = absurd (never-both (against slice (same-read d e) h) k)
+takes-one {slice = slice} (taken d h i) (total-passed e k l) = absurd (l (within-too (same-read d e) (same-read (against slice (same-read d e) h) k) i))
+takes-one {slice = slice} (taken d h i) (taken e k l) =
+    let c = same-read d e in
+    let p = same-read (against slice (same-read d e) h) k in
+    λ i. accepted (c i .patch, p i)
 
 -- A slice that was read for a patch is a prefix of its input type.
 slice-fits : (file slice : List ℕ) → Bytes slice → (x : Patch × Prefix) → patch-and-slice file slice ≡ accepted x → SliceFits x

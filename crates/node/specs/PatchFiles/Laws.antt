@@ -54,20 +54,24 @@ pub nodes-length : (n : Node) → Carries n → Few n → length (node-bytes n [
 unfolding node-limit
 nodes-length n f h = omega (arith, node-length n [] f)
 
--- "A patch file may now have 8,492 bytes."
-pub patch-file-length : {s t : Ty} {n : Node} (c : Totals) → Allowed s n t → length (patch-file-bytes (patch-of s n c)) ≤ patch-file-limit
-unfolding patch-file-bytes type-limit
-patch-file-length {s} {t} {n} c a =
+-- Three counts, the bytes of both trees, and eight of totals.
+pub patch-file-size : (p : Patch) → length (patch-file-bytes p) ≡ 2 + length (type-bytes (p .input) []) + 2 + length (node-bytes (p .node) []) + 10
+unfolding patch-file-bytes
+patch-file-size p =
+    let third = section-bytes (totals-bytes (p .totals) []) [] in
     omega (
       arith,
-      section-length (type-bytes s []) (section-bytes (node-bytes n []) (section-bytes (totals-bytes c []) [])),
-      section-length (node-bytes n []) (section-bytes (totals-bytes c []) []),
-      section-length (totals-bytes c []) [],
-      totals-length c [],
-      type-length s [],
-      nodes-length n (types-carries (a .types) (allowed-fits a)) (a .few),
-      a .input-small,
+      section-length (type-bytes (p .input) []) (section-bytes (node-bytes (p .node) []) third),
+      section-length (node-bytes (p .node) []) third,
+      section-length (totals-bytes (p .totals) []) [],
+      totals-length (p .totals) [],
     )
+
+-- "A patch file may now have 8,492 bytes."
+pub patch-file-length : {s t : Ty} {n : Node} (c : Totals) → Allowed s n t → length (patch-file-bytes (patch-of s n c)) ≤ patch-file-limit
+unfolding type-limit
+patch-file-length {s} {t} {n} c a =
+    omega (arith, patch-file-size (patch-of s n c), type-length s [], nodes-length n (types-carries (a .types) (allowed-fits a)) (a .few), a .input-small)
 
 -- What is written are bytes
 

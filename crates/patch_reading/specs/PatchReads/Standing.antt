@@ -10,13 +10,11 @@ use Rattle.stream.specs.declared.Fault.{Fault}
 use Rattle.stream.specs.Types.{size}
 use Rattle.stream.specs.Reading.{Bytes, Result, accepted, refused, section-bytes}
 use Rattle.stream.specs.TypeFiles.{type-bytes}
-use Rattle.stream.specs.Reading.Laws.{section-length}
 use Rattle.reading.specs.TypeReads.Laws.{type-before, type-drop, type-width}
 use Rattle.node.specs.Totals.{totals-bytes}
-use Rattle.node.specs.Totals.Laws.{totals-length}
 use Rattle.node.specs.Nodes.{Patch}
 use Rattle.node.specs.PatchFiles.{node-bytes, patch-file-bytes, first-pass}
-use Rattle.node.specs.PatchFiles.Laws.{first-pass-sound}
+use Rattle.node.specs.PatchFiles.Laws.{patch-file-size, first-pass-sound}
 use Rattle.patch_reading.specs.declared.PatchPlace.{PatchPlace}
 use Rattle.patch_reading.specs.declared.PatchRead.{PatchRead}
 use Rattle.patch_reading.specs.declared.PatchRead.the-variants.{Whole, Refused}
@@ -48,16 +46,7 @@ module _ (p : Patch) where
       ∙ sym (node-before (p .node) totals-there)
 
   file-length : length (patch-file-bytes p) ≡ nodes-place + node-width (p .node) + 10
-  unfolding patch-file-bytes
-  file-length =
-      omega (
-        arith,
-        section-length (type-bytes (p .input) []) nodes-section,
-        type-width (p .input),
-        section-length (node-bytes (p .node) []) totals-there,
-        section-length (totals-bytes (p .totals) []) [],
-        totals-length (p .totals) [],
-      )
+  file-length = omega (arith, patch-file-size p, type-width (p .input))
 
   totals-stand : drop (length (patch-file-bytes p) - 8) (patch-file-bytes p) ≡ totals-bytes (p .totals) []
   unfolding section-bytes
