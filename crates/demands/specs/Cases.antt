@@ -4,6 +4,7 @@
 use mathlib.Core.Path.{_≡_, refl}
 use mathlib.Core.List.{List, [], _∷_, _++_, map}
 use Prim.Native.Nat.{ℕ}
+use Rattle.stream.specs.Bounds.{slice-file-limit, patch-file-limit}
 use Rattle.stream.specs.Faults.{number}
 use Rattle.stream.specs.Reading.{Result, accepted, refused, section-bytes}
 use Rattle.stream.specs.Reading.Examples.{copies}
@@ -222,7 +223,7 @@ zero-total = 0 ∷ 0 ∷ 0 ∷ 0 ∷ []
 
 -- A slice fed to such a patch, with long buffers; and what is sent and left, by the type left, the nodes and the totals.
 abbrev pub feeding-cue : (nodes arrived sent slice : List ℕ) → Question
-feeding-cue nodes arrived sent slice = feeding-file (on-cue nodes (a-section (arrived ++ sent))) slice 513 8492
+feeding-cue nodes arrived sent slice = feeding-file (on-cue nodes (a-section (arrived ++ sent))) slice slice-file-limit patch-file-limit
 
 abbrev pub leaves-totals : (output input nodes arrived sent : List ℕ) → Answer
 leaves-totals output input nodes arrived sent =

@@ -203,8 +203,8 @@ fn refuse(patch: &[u8], place: PatchPlace, fault: Fault) -> Fed
 
 // Feeds a slice that was read to a patch that was read; `arrived` is how many cues and levels came in the slice, and `left` what it
 // leaves of its input type. The answers are made on work bytes, `nodes` for the nodes left, since all of them have to be known before a byte
-// of either buffer is written: what is sent is counted for the totals, of which 31 comes before 20. The step fails exactly if Check
-// refuses the patch.
+// of either buffer is written; and 31 comes before 20, so the totals are made before room is tried. The step fails exactly if Check refuses
+// the patch.
 fn send(
     patch: &[u8],
     place: PatchPlace,
