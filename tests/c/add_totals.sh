@@ -20,14 +20,7 @@ old_of() {
 
 # Runs the program and holds its exit status: adds STATUS WORDS
 adds() {
-    local status=$1 ended
-    shift
-    "$folder/add_totals" "$@" >"$folder/out" 2>"$folder/messages"
-    ended=$?
-    [ "$ended" -eq "$status" ] && return 0
-    cat "$folder/out" "$folder/messages"
-    echo "add_totals $*: status $ended in place of $status"
-    return 1
+    ends "$1" add_totals "${@:2}"
 }
 
 # With totals added, a show is the shipped one, byte for byte; the old one stays, and is refused by the frame loop.

@@ -42,3 +42,15 @@ holds() {
         failed=1
     fi
 }
+
+# Runs a program and holds its exit status; its answer is left in out, and what it tells in messages: ends STATUS PROGRAM WORDS
+ends() {
+    local status=$1 program=$2 ended
+    shift 2
+    "$folder/$program" "$@" >"$folder/out" 2>"$folder/messages"
+    ended=$?
+    [ "$ended" -eq "$status" ] && return 0
+    cat "$folder/out" "$folder/messages"
+    echo "$program $*: status $ended in place of $status"
+    return 1
+}

@@ -10,14 +10,7 @@ source "$(dirname "$0")/building.sh"
 
 # Explains and holds the exit status: explains STATUS WORDS
 explains() {
-    local status=$1
-    shift
-    "$folder/explain" "$@" >"$folder/out" 2>"$folder/errors"
-    local ended=$?
-    [ "$ended" -eq "$status" ] && return 0
-    cat "$folder/out" "$folder/errors"
-    echo "explain $*: status $ended in place of $status"
-    return 1
+    ends "$1" explain "${@:2}"
 }
 
 # A shipped show; the damaged one has refused slices and a broken end.
@@ -402,15 +395,15 @@ has_places() {
 
 # The program itself on a damaged show: it ends with 0 or 1; or with 2, and says that the patch is cut, and where.
 explains_damaged() {
-    "$folder/explain" "$1" >"$folder/out" 2>"$folder/errors"
+    "$folder/explain" "$1" >"$folder/out" 2>"$folder/messages"
     local ended=$?
     if [ "$ended" -eq 2 ]; then
         grep -q "before its patch does: \(it has [01] of\|.*, at bytes 0 to 1 of the show, says [0-9]*, and [0-9]* byte\)" \
-            "$folder/errors" && [ ! -s "$folder/out" ]
+            "$folder/messages" && [ ! -s "$folder/out" ]
     else
         [ "$ended" -le 1 ] && has_places
     fi && return 0
-    cat "$folder/out" "$folder/errors"
+    cat "$folder/out" "$folder/messages"
     return 1
 }
 

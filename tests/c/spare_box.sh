@@ -9,14 +9,7 @@ source "$(dirname "$0")/building.sh"
 
 # Runs the program on a show and holds its exit status; its answer is left in out: box STATUS SHOW WORDS
 box() {
-    local status=$1 ended
-    shift
-    "$folder/spare_box" "$@" >"$folder/out" 2>"$folder/messages"
-    ended=$?
-    [ "$ended" -eq "$status" ] && return 0
-    cat "$folder/out" "$folder/messages"
-    echo "spare_box $*: status $ended in place of $status"
-    return 1
+    ends "$1" spare_box "${@:2}"
 }
 
 # The totals in the answer, each on a line: at the stop one, in the spare box those that it takes over and the last.
