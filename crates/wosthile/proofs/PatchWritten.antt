@@ -1,17 +1,15 @@
 -- The file of a patch: the section of its input type, behind it the section of its nodes, and behind both that of its totals.
-use mathlib.Core.Path.{_≡_, refl, sym, ap, ap₂, _∙_}
+use mathlib.Core.Path.{_≡_, sym, ap, _∙_}
 use mathlib.Core.List.{List, [], _++_, append-nil, append-assoc}
 use Prim.Native.Nat.{ℕ, _+_, _≤_}
 use native.Mathlib.Omega.{arith}
 use lib.ListN.{length}
 use Rattle.stream.specs.Reading.{section-bytes}
 use Rattle.stream.specs.Reading.Laws.{section-length}
-use Rattle.stream.specs.TypeFiles.{type-bytes}
 use Rattle.stream.specs.Buffers.{at-front}
-use Rattle.node.specs.Totals.{totals-bytes}
 use Rattle.node.specs.Totals.Laws.{totals-length}
 use Rattle.node.specs.Nodes.{Patch}
-use Rattle.node.specs.PatchFiles.{node-bytes, patch-file-bytes}
+use Rattle.node.specs.PatchFiles.{patch-file-bytes}
 use Rattle.writing.specs.Writing.{Begun}
 use Rattle.writing.specs.Writing.Laws.{part, back, goes-on, room-left}
 use Rattle.wosthile.specs.PatchWriting.{PatchBytes, PatchWriteDue, PatchWritten}

@@ -2,7 +2,7 @@
 use mathlib.Core.Path.{_≡_, refl, sym, ap, _∙_}
 use mathlib.Core.Bool.{Bool, true, false}
 use mathlib.Core.List.{List, [], _∷_, _++_, append-nil}
-use Prim.Native.Nat.{ℕ, _+_, _*_, _-_, _/_, _%_, _≤_, _<_}
+use Prim.Native.Nat.{ℕ, _+_, _-_, _/_, _%_, _≤_, _<_}
 use native.Mathlib.Omega.{arith}
 use native.Mathlib.Nat.{add-zero}
 use lib.ListN.{length, getD, drop, drop-of-length-le}
@@ -11,10 +11,10 @@ use Rattle.stream.specs.Reading.{number-bytes}
 use Rattle.stream.specs.Reading.Numbers.{number-behind, number-append, number-length}
 use Rattle.stream.specs.Buffers.{at-front}
 use Rattle.node.specs.Totals.{Totals, Held, held, total-limit, total-width, totals-bytes}
-use Rattle.node.specs.Totals.Laws.{held-test, totals-length}
+use Rattle.node.specs.Totals.Laws.{held-test}
 use Rattle.writing.specs.Writing.{Begun}
-use Rattle.writing.specs.Writing.Laws.{part, back, goes-on, four-bytes}
-use Rattle.wosthile.specs.TotalsLeft.{total-in, Sums, CountsAdded}
+use Rattle.writing.specs.Writing.Laws.{part, back, goes-on}
+use Rattle.wosthile.specs.TotalsLeft.{total-in, CountsAdded}
 
 -- A number as its four bytes.
 

@@ -5,7 +5,7 @@ use Prim.Native.Nat.{ℕ, _+_, _≤_}
 use lib.ListN.{length}
 use Rattle.stream.specs.Bounds.{slice-file-limit, node-bytes-limit}
 use Rattle.stream.specs.Prefixes.{Prefix}
-use Rattle.stream.specs.Reading.{Result, accepted}
+use Rattle.stream.specs.Reading.{accepted}
 use Rattle.stream.specs.Buffers.{at-front}
 use Rattle.stream.specs.TypeFiles.{type-bytes}
 use Rattle.stream.specs.SliceFiles.{prefix-bytes, slice-file-bytes}

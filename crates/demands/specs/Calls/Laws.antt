@@ -34,7 +34,7 @@ use Rattle.stream.specs.Longest.{longest-prefix}
 use Rattle.stream.specs.Longest.Laws.{longest-prefix-is-prefix, longest-prefix-complete, no-file-longer}
 use Rattle.stream.specs.SliceFiles.{slice-file, slice-file-bytes, SliceFile}
 use Rattle.stream.specs.SliceFiles.Laws.{slice-file-sound, few-arrivals}
-use Rattle.node.specs.PatchFiles.{Checked, patch-file, patch-file-bytes}
+use Rattle.node.specs.PatchFiles.{Checked, patch-file}
 use Rattle.node.specs.PatchFiles.Laws.{patch-file-sound}
 use Rattle.node.specs.Totals.{held}
 use Rattle.node.specs.Nodes.{Allowed, Patch}

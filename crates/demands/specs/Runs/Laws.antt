@@ -14,9 +14,8 @@ use Rattle.stream.specs.Types.{Ty, Small}
 use Rattle.stream.specs.Prefixes.{Prefix, IsPrefix, Opens, arrivals, derivative}
 use Rattle.stream.specs.Prefixes.Laws.{closed-derivative, closed-arrivals, concat-is-prefix, derivative-concat, concats, concat-only, derivative-size}
 use Rattle.stream.specs.Reading.{Bytes, accepted}
-use Rattle.stream.specs.Reading.Laws.{go-on-accepted}
 use Rattle.stream.specs.SliceFiles.{slice-file, slice-file-bytes, SliceFile}
-use Rattle.stream.specs.SliceFiles.Laws.{prefix-short, few-arrivals, slice-file-sound, slice-file-complete}
+use Rattle.stream.specs.SliceFiles.Laws.{prefix-short, few-arrivals, slice-file-complete}
 use Rattle.node.specs.Totals.{Held}
 use Rattle.node.specs.Totals.Laws.{held-test}
 use Rattle.node.specs.Nodes.{Node, Allowed, Patch}

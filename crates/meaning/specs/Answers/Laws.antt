@@ -24,7 +24,7 @@ use Rattle.stream.specs.Reading.Refusals.{Refusals, go-on-refusals, require-ref
 use Rattle.stream.specs.TypeFiles.{type-bytes, type-file, type-file-bytes, TypeFile}
 use Rattle.stream.specs.TypeFiles.Laws.{type-file-complete, type-file-sound, type-file-length, type-section-is-bytes, type-file-accepted, type-file-refusals}
 use Rattle.stream.specs.SliceFiles.{slice-file, slice-file-bytes, SliceFile}
-use Rattle.stream.specs.SliceFiles.Laws.{prefix-short, slice-file-complete, slice-file-sound, slice-file-accepted, slice-file-length, slice-file-is-bytes, slice-file-refusals}
+use Rattle.stream.specs.SliceFiles.Laws.{prefix-short, slice-file-complete, slice-file-sound, slice-file-length, slice-file-is-bytes, slice-file-refusals}
 use Rattle.stream.specs.Longest.{longest-prefix}
 use Rattle.stream.specs.Longest.Laws.{longest-prefix-is-prefix}
 use Rattle.node.specs.Totals.{Totals, Held, held, totals-bytes}

@@ -2,7 +2,7 @@
 -- counted, both counts are added to the totals, and if these are held all goes on to `write_both`; if the step fails, Check's second pass
 -- has a fault (`FeedOutcome`).
 use borrow.Author.Needs.{needs}
-use mathlib.Core.Path.{_≡_, sym, ap, _∙_}
+use mathlib.Core.Path.{_≡_, sym}
 use native.Mathlib.Omega.{arith}
 use lib.Seq.{length-take-le}
 use Rattle.stream.specs.Prefixes.{arrivals}
