@@ -2,7 +2,6 @@
 use Rattle.std.specs.Prelude.{List, ℕ}
 use Rattle.stream.specs.declared.Fault.{Fault}
 use Rattle.stream.specs.Reading.{Reading, number_bytes, read_number}
-pub mod Laws
 
 -- How many bytes a value takes.
 abbrev pub value_width : ℕ
@@ -17,4 +16,4 @@ abbrev pub value_bytes : ℕ → List ℕ → List ℕ
 value_bytes v r = number_bytes value_width v r
 
 abbrev pub read_value : Fault → List ℕ → Reading ℕ
-read_value cut_short s = read_number cut_short value_width s
+read_value if_short s = read_number if_short value_width s

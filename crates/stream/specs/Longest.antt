@@ -5,7 +5,6 @@ use Rattle.stream.specs.Types.{Ty, empty, cue, level, seq, par, either}
 use Rattle.stream.specs.Levels.{level_limit}
 use Rattle.stream.specs.Prefixes.{Prefix, nothing, cue_come, level_come, crossed, beside, first_chosen, second_chosen}
 use Rattle.stream.specs.SliceFiles.{prefix_bytes}
-pub mod Laws
 pub mod Examples
 
 -- How many bytes a prefix has; the count of its file comes before them.

@@ -5,7 +5,6 @@ use Rattle.std.specs.Prelude.{◌≡◌, ℕ, ◌+◌, ◌<◌}
 use Rattle.stream.specs.Levels.{level_limit}
 use Rattle.stream.specs.Types.{Ty, empty, cue, level, seq, par, either, first_part, second_part}
 pub mod Functions
-pub mod Laws
 pub mod Kinds
 
 pub data Prefix : Type 0 where

@@ -1,12 +1,6 @@
 -- Files: sections, and trees in preorder, read with the first fault (document 01, Files and Operations).
 use Rattle.std.specs.Prelude.{Bool, true, false, List, [], ◌∷◌, ◌++◌, ◌≡◌, ℕ, zero, suc, ◌+◌, ◌*◌, ◌/◌, ◌%◌, ◌<◌, leb, length, get_or, take, drop}
 use Rattle.stream.specs.declared.Fault.{Fault}
-pub mod Laws
-pub mod Numbers
-pub mod Walking
-pub mod Parts
-pub mod Budgets
-pub mod Refusals
 pub mod Examples
 
 -- A list of numbers that are bytes.
@@ -40,11 +34,11 @@ abbrev pub require : {A : Type 0} → Bool → Fault → Result A → Result A
 require true e r = r
 require false e r = refused e
 
--- No byte may be left; `left_over` is the fault if one is.
+-- No byte may be left; `if_left` is the fault if one is.
 abbrev pub whole : {A : Type 0} → Fault → Reading A → Result A
-whole left_over (read a []) = accepted a
-whole left_over (read a (b ∷ r)) = refused left_over
-whole left_over (fault e) = refused e
+whole if_left (read a []) = accepted a
+whole if_left (read a (b ∷ r)) = refused if_left
+whole if_left (fault e) = refused e
 
 -- The bytes r come after what was read.
 abbrev pub followed_by : {A : Type 0} → List ℕ → Result A → Reading A
@@ -53,8 +47,8 @@ followed_by r (refused e) = fault e
 
 -- The next byte, and the bytes after it.
 abbrev pub next_byte : Fault → List ℕ → Reading ℕ
-next_byte cut_short [] = fault cut_short
-next_byte cut_short (b ∷ s) = read b s
+next_byte if_short [] = fault if_short
+next_byte if_short (b ∷ s) = read b s
 
 -- "A number of two bytes has its high byte first", and so has one of any width: its bytes, and then r; and its reading.
 unfoldable pub number_bytes : (width v : ℕ) → List ℕ → List ℕ
@@ -62,8 +56,8 @@ number_bytes zero v r = r
 number_bytes (suc width) v r = number_bytes width (v / 256) (v % 256 ∷ r)
 
 unfoldable pub read_number : Fault → (width : ℕ) → List ℕ → Reading ℕ
-read_number cut_short zero s = read 0 s
-read_number cut_short (suc width) s = read_on (read_number cut_short width s) (λ high r. read_on (next_byte cut_short r) (λ low x. read (high * 256 + low) x))
+read_number if_short zero s = read 0 s
+read_number if_short (suc width) s = read_on (read_number if_short width s) (λ high r. read_on (next_byte if_short r) (λ low x. read (high * 256 + low) x))
 
 -- "A section is a two-byte count and then that many bytes", the high byte first: the section of `body`, and then `r`.
 unfoldable pub section_bytes : List ℕ → List ℕ → List ℕ
@@ -71,10 +65,10 @@ section_bytes body r = length body / 256 ∷ length body % 256 ∷ (body ++ r)
 
 -- "A section's length is tried before its contents": the contents of a section whose count is n, which they have to fill.
 unfoldable pub counted : {A : Type 0} → Fault → Fault → (List ℕ → Reading A) → ℕ → List ℕ → Reading A
-counted cut_short left_over contents n s = followed_by (drop n s) (require (leb n (length s)) cut_short (whole left_over (contents (take n s))))
+counted if_short if_left contents n s = followed_by (drop n s) (require (leb n (length s)) if_short (whole if_left (contents (take n s))))
 
 unfoldable pub section : {A : Type 0} → Fault → Fault → (List ℕ → Reading A) → List ℕ → Reading A
-section cut_short left_over contents s = read_on (read_number cut_short 2 s) (counted cut_short left_over contents)
+section if_short if_left contents s = read_on (read_number if_short 2 s) (counted if_short if_left contents)
 
 -- "Trees are in preorder, root first, then the parts left to right." What the root's own bytes say: what is owed for each
 -- part, and `build`, which puts the tree made of the first trees that follow in their place.

@@ -7,7 +7,6 @@ use Rattle.stream.specs.Types.{Ty, first_part, second_part, has_kind, type_limit
 use Rattle.stream.specs.Levels.{value_width}
 use Rattle.stream.specs.Prefixes.{Prefix, nothing, cue_awaited, cue_come, level_awaited, level_come, in_first, crossed, beside, none_chosen, first_chosen, second_chosen, IsPrefix}
 use Rattle.stream.specs.Reading.{Reading, fault, Result, read_on, whole, next_byte, number_bytes, read_number, section_bytes, section, Root, tree, leaf, one_part, two_parts}
-pub mod Laws
 pub mod Examples
 
 -- The bytes of a prefix in preorder, and then r.

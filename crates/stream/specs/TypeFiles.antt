@@ -3,7 +3,6 @@ use Rattle.std.specs.Prelude.{List, [], ◌∷◌, ◌≡◌, ℕ, get_or}
 use Rattle.stream.specs.declared.Fault.TheVariants.{CutShort, Unlisted, LeftOver, TypeTooLarge}
 use Rattle.stream.specs.Types.{Ty, empty, cue, level, seq, par, either, type_limit, Small}
 use Rattle.stream.specs.Reading.{Reading, fault, Result, read_on, whole, next_byte, section_bytes, section, Root, tree, leaf, two_parts}
-pub mod Laws
 pub mod Examples
 
 -- The bytes of a type in preorder, and then r.

@@ -1,6 +1,5 @@
 -- Stream types, as trees (document 01, Files, "Types"; document 02, M-100).
 use Rattle.std.specs.Prelude.{Bool, true, false, ◌&&◌, ℕ, suc, ◌+◌, ◌≤◌, eqb}
-pub mod Laws
 pub mod Kinds
 
 pub data Ty : Type 0 where

@@ -1,9 +1,11 @@
 // The refusals and their numbers. Types and prefixes themselves are definitions, in specs/.
+#![tactic(auto)]
+
 ghost use Rattle.std.specs.Prelude.{◌≡◌};
 ghost use Rattle.stream.specs.Faults.{number};
 
 // Why an operation refuses. `number` in specs/Faults.antt gives the number that the documents have for each.
-#[derive(Drop)]
+#[derive(Clone, Copy)]
 pub enum Fault {
     CutShort,
     Unlisted,

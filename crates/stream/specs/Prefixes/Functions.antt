@@ -1,4 +1,4 @@
--- What the rules of prefixes say, as functions that compute. They are proved to agree with the rules, both ways (Laws:
+-- What the rules of prefixes say, as functions that compute. They are proved to agree with the rules, both ways (proofs/Prefixes/Laws:
 -- complete_sound and complete-complete, opens_test, concat-only and concats), so that nobody has to believe them.
 use Rattle.std.specs.Prelude.{Bool, true, false, ◌&&◌, ◌||◌, not}
 use Rattle.stream.specs.Prefixes.{Prefix, nothing, cue_awaited, cue_come, level_awaited, level_come, in_first, crossed, beside, none_chosen, first_chosen, second_chosen}

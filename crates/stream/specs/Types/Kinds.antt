@@ -1,8 +1,7 @@
 -- Types by their kind bytes: how many parts a kind has, and which they are. What goes through the bytes of a type goes by this
 -- table.
-use Rattle.std.specs.Prelude.{◌≡◌, refl, List, [], ◌∷◌, ℕ, suc, ◌+◌, ◌*◌, ◌/◌, ◌≤◌, length, get_or}
+use Rattle.std.specs.Prelude.{◌≡◌, refl, List, [], ◌∷◌, ℕ, suc, ◌+◌, ◌*◌, ◌/◌, length, get_or}
 use Rattle.std.proofs.Common.{arith}
-use Rattle.stream.specs.Reading.Laws.{◌&◌, past, every}
 use Rattle.stream.specs.Types.{Ty, empty, cue, level, seq, par, either, size, kind, first_part, second_part}
 
 -- How many parts each kind has, by its number; of a byte that is no type's kind nobody asks.
@@ -29,13 +28,7 @@ type_parts_many (seq s t) = refl
 type_parts_many (par s t) = refl
 type_parts_many (either s t) = refl
 
--- Document 02, M-102, "arithmetic for kinds 0 to 5: divide the kind by 3, drop the remainder, double the quotient". By the kind, and
--- by the type: "It equals the number of parts that the type rules give".
-pub arity_quotient : (k : ℕ) → k ≤ 5 → k / 3 * 2 ≡ type_arity k
-arity_quotient =
-    every (λ k n. k ≤ 5 → k / 3 * 2 ≡ n) 2 type_arities
-    ((λ h. refl) & (λ h. refl) & (λ h. refl) & (λ h. refl) & (λ h. refl) & (λ h. refl) & past (λ k l h. absurd (omega arith)))
-
+-- Document 02, M-102, "It equals the number of parts that the type rules give". By the kind: arity_quotient in proofs/Types/Laws.antt.
 pub parts_quotient : (t : Ty) → kind t / 3 * 2 ≡ length (type_parts t)
 parts_quotient empty = refl
 parts_quotient cue = refl
@@ -57,14 +50,6 @@ size_by_parts level = refl
 size_by_parts (seq s t) = omega arith
 size_by_parts (par s t) = omega arith
 size_by_parts (either s t) = omega arith
-
--- A type without parts is one node.
-pub leaf-alone : (t : Ty) → type_arity (kind t) ≡ 0 → size t ≡ 1
-leaf-alone t none = go (type_parts t) (type_parts_many t) (size_by_parts t)
-  where
-    go : (ts : List Ty) → length ts ≡ type_arity (kind t) → size t ≡ suc (sizes ts) → size t ≡ 1
-    go [] many is = is
-    go (s ∷ ts) many is = absurd (omega arith)
 
 -- A type with two parts is a node and these.
 abbrev pub Fork : Ty → Type 0

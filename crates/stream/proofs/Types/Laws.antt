@@ -1,10 +1,11 @@
 -- What is true of types: the test for nullable is the rule, the test for the same type is equality, and a type is made of its kind
 -- and its parts.
-use Rattle.std.specs.Prelude.{◌≡◌, refl, Bool, true, false, ◌&&◌, ℕ, zero, suc, ◌+◌, ◌≤◌}
+use Rattle.std.specs.Prelude.{◌≡◌, refl, Bool, true, false, ◌&&◌, List, [], ◌∷◌, ℕ, zero, suc, ◌+◌, ◌*◌, ◌/◌, ◌≤◌, length}
 use Rattle.std.proofs.Common.{sym, ap, ap₂, ◌∙◌, arith, eqb-true}
 use Rattle.std.proofs.lemmas.Bool.{false≢true}
 use Rattle.stream.specs.Types.{Ty, empty, cue, level, seq, par, either, Nullable, null_empty, null_par, nullable, size, type_limit, kind, first_part, second_part, has_kind, same_type}
-use Rattle.stream.specs.Types.Kinds.{type_arity, fork-size}
+use Rattle.stream.specs.Types.Kinds.{type_arities, type_arity, type_parts, type_parts_many, sizes, size_by_parts, fork-size}
+use Rattle.stream.proofs.Reading.Laws.{◌&◌, past, every}
 
 -- Booleans
 
@@ -109,3 +110,18 @@ same_type-complete level = refl
 same_type-complete (seq s t) = and_both (same_type-complete s) (same_type-complete t)
 same_type-complete (par s t) = and_both (same_type-complete s) (same_type-complete t)
 same_type-complete (either s t) = and_both (same_type-complete s) (same_type-complete t)
+
+-- Document 02, M-102, "arithmetic for kinds 0 to 5: divide the kind by 3, drop the remainder, double the quotient". By the kind; by
+-- the type: parts_quotient in specs/Types/Kinds.antt. "It equals the number of parts that the type rules give".
+pub arity_quotient : (k : ℕ) → k ≤ 5 → k / 3 * 2 ≡ type_arity k
+arity_quotient =
+    every (λ k n. k ≤ 5 → k / 3 * 2 ≡ n) 2 type_arities
+    ((λ h. refl) & (λ h. refl) & (λ h. refl) & (λ h. refl) & (λ h. refl) & (λ h. refl) & past (λ k l h. absurd (omega arith)))
+
+-- A type without parts is one node.
+pub leaf-alone : (t : Ty) → type_arity (kind t) ≡ 0 → size t ≡ 1
+leaf-alone t none = go (type_parts t) (type_parts_many t) (size_by_parts t)
+  where
+    go : (ts : List Ty) → length ts ≡ type_arity (kind t) → size t ≡ suc (sizes ts) → size t ≡ 1
+    go [] many is = is
+    go (s ∷ ts) many is = absurd (omega arith)

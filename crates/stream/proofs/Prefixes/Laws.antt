@@ -4,7 +4,7 @@ use Rattle.std.proofs.Common.{sym, ap, ◌∙◌, true≢false, arith}
 use Rattle.std.proofs.Math.Path.{ap₂}
 use Rattle.std.proofs.lemmas.Bool.{false≢true}
 use Rattle.stream.specs.Types.{Ty, empty, cue, level, seq, par, either, Nullable, null_empty, null_par, size}
-use Rattle.stream.specs.Types.Laws.{and_left, and_right, and_both}
+use Rattle.stream.proofs.Types.Laws.{and_left, and_right, and_both}
 use Rattle.stream.specs.Prefixes.{Prefix, nothing, cue_awaited, cue_come, level_awaited, level_come, in_first, crossed, beside, none_chosen, first_chosen, second_chosen, Complete, whole_nothing, whole_cue, whole_level, whole_crossed, whole_beside, whole_first_chosen, whole_second_chosen, IsPrefix, of_empty, of_cue_awaited, of_cue_come, of_level_awaited, of_level_come, of_first, of_crossed, of_beside, of_none_chosen, of_first_chosen, of_second_chosen, empty_prefix, Opens, opens_differing, opens_complete, arrivals, derivative, Concat, after_nothing, after_cue, after_level, cue_awaited_yet, level_awaited_yet, still_in_first, now_crossed, behind_crossing, each_side, none_chosen_yet, inside_first, inside_second}
 use Rattle.stream.specs.Prefixes.Functions.{complete, brings_nothing, opens, concat}
 
@@ -164,6 +164,10 @@ complete→nullable of_empty c = null_empty
 complete→nullable of_cue_come c = null_empty
 complete→nullable (of_level_come v) c = null_empty
 complete→nullable (of_crossed h d k) (whole_crossed c) = complete→nullable k c
+complete→nullable of_cue_awaited c = elim c [ ]
+complete→nullable of_level_awaited c = elim c [ ]
+complete→nullable (of_first _) c = elim c [ ]
+complete→nullable of_none_chosen c = elim c [ ]
 complete→nullable (of_beside h k) (whole_beside c d) = null_par (complete→nullable h c) (complete→nullable k d)
 complete→nullable (of_first_chosen h) (whole_first_chosen c) = complete→nullable h c
 complete→nullable (of_second_chosen h) (whole_second_chosen c) = complete→nullable h c
@@ -174,6 +178,10 @@ nullable→complete of_empty n = whole_nothing
 nullable→complete of_cue_come n = whole_cue
 nullable→complete (of_level_come v) n = whole_level
 nullable→complete (of_crossed h d k) n = whole_crossed (nullable→complete k n)
+nullable→complete of_cue_awaited n = elim n [ ]
+nullable→complete of_level_awaited n = elim n [ ]
+nullable→complete (of_first _) n = elim n [ ]
+nullable→complete of_none_chosen n = elim n [ ]
 nullable→complete (of_beside h k) (null_par n m) = whole_beside (nullable→complete h n) (nullable→complete k m)
 nullable→complete (of_first_chosen h) n = whole_first_chosen (nullable→complete h n)
 nullable→complete (of_second_chosen h) n = whole_second_chosen (nullable→complete h n)
@@ -237,6 +245,7 @@ concat-complete q of_cue_awaited k c = c
 concat-complete q of_cue_come k c = whole_cue
 concat-complete q of_level_awaited k c = c
 concat-complete q (of_level_come v) k c = whole_level
+concat-complete q (of_first h) (of_first _) c = elim c [ ]
 concat-complete q (of_first h) (of_crossed i d k) (whole_crossed c) = whole_crossed c
 concat-complete q (of_crossed h d i) k c = whole_crossed (concat-complete q i k c)
 concat-complete q (of_beside h i) (of_beside k l) (whole_beside c d) = whole_beside (concat-complete _ h k c) (concat-complete _ i l d)

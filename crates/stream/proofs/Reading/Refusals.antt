@@ -30,7 +30,7 @@ module _ (P : Fault → Type 0) where
   require_refusals true e r h k = k
   require_refusals false e r h k = h
 
-  pub whole_refusals : {A : Type 0} (left_over : Fault) (g : Reading A) → P left_over → Faults g → Refusals (whole left_over g)
+  pub whole_refusals : {A : Type 0} (if_left : Fault) (g : Reading A) → P if_left → Faults g → Refusals (whole if_left g)
   whole_refusals o (read a []) h k = tt
   whole_refusals o (read a (b ∷ r)) h k = h
   whole_refusals o (fault e) h k = k
@@ -39,17 +39,17 @@ module _ (P : Fault → Type 0) where
   followed_by_faults r (accepted a) h = tt
   followed_by_faults r (refused e) h = h
 
-  module _ {A : Type 0} (cut_short left_over : Fault) (contents : List ℕ → Reading A) where
-    counted_faults : P cut_short → P left_over → ((s : List ℕ) → Faults (contents s)) → (n : ℕ) (s : List ℕ)
-        → Faults (counted cut_short left_over contents n s)
+  module _ {A : Type 0} (if_short if_left : Fault) (contents : List ℕ → Reading A) where
+    counted_faults : P if_short → P if_left → ((s : List ℕ) → Faults (contents s)) → (n : ℕ) (s : List ℕ)
+        → Faults (counted if_short if_left contents n s)
     unfolding counted
     counted_faults c o k n s =
-        let inside = whole left_over (contents (take n s)) in
-        followed_by_faults (drop n s) (require (leb n (length s)) cut_short inside)
-        (require_refusals (leb n (length s)) cut_short inside c (whole_refusals left_over (contents (take n s)) o (k (take n s))))
+        let inside = whole if_left (contents (take n s)) in
+        followed_by_faults (drop n s) (require (leb n (length s)) if_short inside)
+        (require_refusals (leb n (length s)) if_short inside c (whole_refusals if_left (contents (take n s)) o (k (take n s))))
 
-    pub section_faults : P cut_short → P left_over → ((s : List ℕ) → Faults (contents s)) → (s : List ℕ)
-        → Faults (section cut_short left_over contents s)
+    pub section_faults : P if_short → P if_left → ((s : List ℕ) → Faults (contents s)) → (s : List ℕ)
+        → Faults (section if_short if_left contents s)
     unfolding section read_number
     section_faults c o k [] = c
     section_faults c o k (h ∷ []) = c

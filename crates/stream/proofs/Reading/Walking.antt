@@ -10,7 +10,7 @@ use Rattle.std.proofs.lemmas.List.{replicate-append-replicate}
 use borrow.Author.Tests.{le-leb, lt-leb}
 use Rattle.stream.specs.declared.Fault.{Fault}
 use Rattle.stream.specs.Reading.{Reading, read, fault, read_on, whole, followed_by, read_number, counted, section, Root, forest, only, tree, leaf, one_part, two_parts, on_one, on_two}
-use Rattle.stream.specs.Reading.Laws.{none_owed}
+use Rattle.stream.proofs.Reading.Laws.{none_owed}
 
 -- The bytes after what was read, or the fault: all that a loop knows of trees that it does not build.
 abbrev pub rest_of : {A : Type 0} → Reading A → Reading (Unit {0})
@@ -144,21 +144,21 @@ count s = get_or s 0 0 * 256 + get_or s 1 0
 abbrev pub body : List ℕ → List ℕ
 body s = take (count s) (drop 2 s)
 
-module _ {A : Type 0} (cut_short left_over : Fault) (contents : List ℕ → Reading A) where
-  pub no_count : (s : List ℕ) → length s < 2 → section cut_short left_over contents s ≡ fault cut_short
+module _ {A : Type 0} (if_short if_left : Fault) (contents : List ℕ → Reading A) where
+  pub no_count : (s : List ℕ) → length s < 2 → section if_short if_left contents s ≡ fault if_short
   unfolding section read_number
   no_count [] h = refl
   no_count (a ∷ []) h = refl
   no_count (a ∷ b ∷ s) h = absurd (omega arith)
 
-  pub body_short : (s : List ℕ) → length s - 2 < count s → section cut_short left_over contents s ≡ fault cut_short
+  pub body_short : (s : List ℕ) → length s - 2 < count s → section if_short if_left contents s ≡ fault if_short
   unfolding section counted read_number
   body_short [] h = refl
   body_short (a ∷ []) h = refl
   body_short (a ∷ b ∷ s) h = let e : length s < (0 * 256 + a) * 256 + b = omega arith in rw (counted, lt-leb _ _ e)
 
   pub body_whole : (s : List ℕ) → 2 ≤ length s → count s ≤ length s - 2
-      → section cut_short left_over contents s ≡ followed_by (drop (2 + count s) s) (whole left_over (contents (body s)))
+      → section if_short if_left contents s ≡ followed_by (drop (2 + count s) s) (whole if_left (contents (body s)))
   unfolding section counted read_number
   body_whole [] two h = absurd (omega arith)
   body_whole (a ∷ []) two h = absurd (omega arith)
@@ -166,4 +166,4 @@ module _ {A : Type 0} (cut_short left_over : Fault) (contents : List ℕ → Rea
       let n : (0 * 256 + a) * 256 + b ≡ a * 256 + b = omega arith in
       let e : a * 256 + b ≤ length s = omega arith in
       let f : 2 + (a * 256 + b) ≡ suc (suc (a * 256 + b)) = omega arith in
-      ap (λ k. counted cut_short left_over contents k s) n ∙ rw (counted, le-leb _ _ e, f)
+      ap (λ k. counted if_short if_left contents k s) n ∙ rw (counted, le-leb _ _ e, f)

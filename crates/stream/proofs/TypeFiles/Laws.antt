@@ -7,8 +7,8 @@ use Rattle.stream.specs.Types.{Ty, empty, cue, level, seq, par, either, size, ty
 use Rattle.stream.specs.Bounds.{type_file_limit}
 use Rattle.stream.specs.Faults.{type_numbers, Listed}
 use Rattle.stream.specs.Reading.{Bytes, read, fault, accepted, IsAccepted, section_bytes}
-use Rattle.stream.specs.Reading.Laws.{Reads, reads_leaf, reads_two, tree_reads, RootIs, leaf_is, FoundContents, two_is, tree_sound, section_reads, section_sound, whole_sound, ◌&◌, past, every, bytes_tail, bytes_nil, bytes_cons, section_is_bytes}
-use Rattle.stream.specs.Reading.Refusals.{Faults, Refusals, section_faults, tree_faults, whole_refusals}
+use Rattle.stream.proofs.Reading.Laws.{Reads, reads_leaf, reads_two, tree_reads, RootIs, leaf_is, FoundContents, two_is, tree_sound, section_reads, section_sound, whole_sound, ◌&◌, past, every, bytes_tail, bytes_nil, bytes_cons, section_is_bytes}
+use Rattle.stream.proofs.Reading.Refusals.{Faults, Refusals, section_faults, tree_faults, whole_refusals}
 use Rattle.stream.specs.TypeFiles.{type_bytes, type_file_bytes, TypeFile, type_kinds, type_root, read_type, type_section, type_file}
 
 pub type_length : (t : Ty) (r : List ℕ) → length (type_bytes t r) ≡ size t + length r

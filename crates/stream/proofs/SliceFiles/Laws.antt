@@ -8,20 +8,20 @@ use mathlib.Core.List.{List, [], ◌∷◌, ◌++◌, append-nil}
 use Rattle.stream.specs.declared.Fault.{Fault}
 use Rattle.stream.specs.declared.Fault.TheVariants.{SliceCutShort, SliceUnlisted, SliceLeftOver, SliceMisplaced}
 use Rattle.stream.specs.Types.{Ty, size, type_limit, first_part, second_part, has_kind, Small}
-use Rattle.stream.specs.Types.Laws.{and_left, and_right, made_of, parts_size, size_positive}
+use Rattle.stream.proofs.Types.Laws.{and_left, and_right, made_of, parts_size, size_positive}
 use Rattle.stream.specs.Levels.{level_limit, value_bytes, read_value, value_width}
 use Rattle.stream.specs.Bounds.{slice_limit, slice_file_limit, arrivals_limit}
 use Rattle.stream.specs.Faults.{slice_numbers, Listed}
-use Rattle.stream.specs.Levels.Laws.{value_length, value_append, value_is_bytes, value_reads, value_sound, value_faults}
+use Rattle.stream.proofs.Levels.Laws.{value_length, value_append, value_is_bytes, value_reads, value_sound, value_faults}
 use Rattle.stream.specs.Prefixes.{Prefix, nothing, cue_awaited, cue_come, level_awaited, level_come, in_first, crossed, beside, none_chosen, first_chosen, second_chosen, Complete, whole_nothing, whole_cue, whole_level, whole_crossed, whole_beside, whole_first_chosen, whole_second_chosen, IsPrefix, of_empty, of_cue_awaited, of_cue_come, of_level_awaited, of_level_come, of_first, of_crossed, of_beside, of_none_chosen, of_first_chosen, of_second_chosen, arrivals}
 use Rattle.stream.specs.Prefixes.Kinds.{tally}
-use Rattle.stream.specs.Prefixes.Laws.{crossed_second, beside_first, beside_second, first_chosen-inside, second_chosen-inside}
-use Rattle.stream.specs.Reading.{Bytes, Reading, read, fault, accepted, IsAccepted, read_on, whole, section_bytes, section, Root, forest, leaf, one_part, two_parts}
-use Rattle.stream.specs.Reading.Laws.{Reads, reads_leaf, reads_one, reads_two, tree_reads, RootIs, leaf_is, carried_is, one_is, two_is, tree_sound, section_reads, section_sound, whole_sound, ◌&◌, past, every, bytes_tail, bytes_nil, bytes_cons, section_is_bytes}
-use Rattle.stream.specs.Reading.Walking.{MakesOne, leaf_makes, one_makes, two_makes}
-use Rattle.stream.specs.Reading.Parts.{weight, Lighter, same_forest, InFront, one_in_front, two_in_front}
-use Rattle.stream.specs.Reading.Budgets.{Spends, OneMore, leaf_one_more, one_one_more, two_one_more}
-use Rattle.stream.specs.Reading.Refusals.{Faults, Refusals, read_on_faults, section_faults, tree_faults, whole_refusals}
+use Rattle.stream.proofs.Prefixes.Laws.{crossed_second, beside_first, beside_second, first_chosen-inside, second_chosen-inside}
+use Rattle.stream.specs.Reading.{Bytes, Reading, read, fault, accepted, IsAccepted, read_on, section_bytes, section, Root, forest, leaf, one_part, two_parts}
+use Rattle.stream.proofs.Reading.Laws.{Reads, reads_leaf, reads_one, reads_two, tree_reads, RootIs, leaf_is, carried_is, one_is, two_is, tree_sound, section_reads, section_sound, whole_sound, ◌&◌, past, every, bytes_tail, bytes_nil, bytes_cons, section_is_bytes}
+use Rattle.stream.proofs.Reading.Walking.{MakesOne, leaf_makes, one_makes, two_makes}
+use Rattle.stream.proofs.Reading.Parts.{weight, Lighter, same_forest, InFront, one_in_front, two_in_front}
+use Rattle.stream.proofs.Reading.Budgets.{Spends, OneMore, leaf_one_more, one_one_more, two_one_more}
+use Rattle.stream.proofs.Reading.Refusals.{Faults, Refusals, read_on_faults, section_faults, tree_faults, whole_refusals}
 use Rattle.stream.specs.SliceFiles.{prefix_bytes, slice_file_bytes, SliceFile, Owed, owed, belongs, prefix_kinds, prefix_root, slice_over, read_prefix, slice_file}
 
 -- Lengths

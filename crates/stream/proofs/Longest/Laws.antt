@@ -3,11 +3,11 @@ use Rattle.std.specs.Prelude.{◌≡◌, refl, Bool, true, false, List, [], ℕ,
 use Rattle.std.proofs.Common.{ap, ◌∙◌, append-nil, arith, le_trans, length-append, leb-true, leb-false}
 use Rattle.stream.specs.Types.{Ty, empty, cue, level, seq, par, either}
 use Rattle.stream.specs.Levels.{level_limit}
-use Rattle.stream.specs.Levels.Laws.{value_length}
+use Rattle.stream.proofs.Levels.Laws.{value_length}
 use Rattle.stream.specs.Prefixes.{Prefix, Complete, whole_nothing, whole_cue, whole_level, whole_crossed, whole_beside, whole_first_chosen, whole_second_chosen, IsPrefix, of_empty, of_cue_awaited, of_cue_come, of_level_awaited, of_level_come, of_first, of_crossed, of_beside, of_none_chosen, of_first_chosen, of_second_chosen, derivative}
 use Rattle.stream.specs.Reading.{section_bytes}
 use Rattle.stream.specs.SliceFiles.{prefix_bytes, slice_file_bytes, SliceFile}
-use Rattle.stream.specs.SliceFiles.Laws.{prefix_before}
+use Rattle.stream.proofs.SliceFiles.Laws.{prefix_before}
 use Rattle.stream.specs.Longest.{byte_count, chosen, longer, largest_level, longest_prefix}
 
 -- Bytes behind a prefix do not count for it.

@@ -253,14 +253,14 @@ module _ {W A : Type 0} (over : Fault) (root : W → List ℕ → Reading (Root 
 
 -- Sections
 
-module _ {A : Type 0} (cut_short left_over : Fault) (contents : List ℕ → Reading A) where
+module _ {A : Type 0} (if_short if_left : Fault) (contents : List ℕ → Reading A) where
   pub section_reads : (body r : List ℕ) (a : A) → contents body ≡ read a []
-      → section cut_short left_over contents (section_bytes body r) ≡ read a r
+      → section if_short if_left contents (section_bytes body r) ≡ read a r
   unfolding section section_bytes counted read_number
   section_reads body r a e =
       let n : (0 * 256 + length body / 256) * 256 + length body % 256 ≡ length body = omega arith in
       let m : length body ≤ length (body ++ r) = rw (length-append body r) (omega arith) in
-      ap (λ k. counted cut_short left_over contents k (body ++ r)) n
+      ap (λ k. counted if_short if_left contents k (body ++ r)) n
       ∙ rw (counted, le-leb _ _ m, take-append_seam body r, drop-append_seam body r, e)
 
   pub record FoundSection (s : List ℕ) (a : A) (r : List ℕ) : Type 0 where
@@ -270,32 +270,32 @@ module _ {A : Type 0} (cut_short left_over : Fault) (contents : List ℕ → Rea
     pub body_bytes : Bytes body
     pub rest : Bytes r
 
-  whole_read : (g : Reading A) (a : A) (x r : List ℕ) → followed_by x (whole left_over g) ≡ read a r → (g ≡ read a []) × (x ≡ r)
+  whole_read : (g : Reading A) (a : A) (x r : List ℕ) → followed_by x (whole if_left g) ≡ read a r → (g ≡ read a []) × (x ≡ r)
   whole_read (read b []) a x r e = ((cc), (cc))
   whole_read (read b (c ∷ y)) a x r e = let z : ◌≡◌ {A = ℕ} 0 1 = cc in absurd (omega arith)
   whole_read (fault f) a x r e = let z : ◌≡◌ {A = ℕ} 0 1 = cc in absurd (omega arith)
 
-  counted_sound : (n : ℕ) (s : List ℕ) (a : A) (r : List ℕ) → counted cut_short left_over contents n s ≡ read a r
+  counted_sound : (n : ℕ) (s : List ℕ) (a : A) (r : List ℕ) → counted if_short if_left contents n s ≡ read a r
       → (n ≤ length s) × (contents (take n s) ≡ read a []) × (drop n s ≡ r)
   unfolding counted
   counted_sound n s a r e = go (leb n (length s)) refl e
     where
       go : (t : Bool) → leb n (length s) ≡ t
-          → followed_by (drop n s) (require t cut_short (whole left_over (contents (take n s)))) ≡ read a r
+          → followed_by (drop n s) (require t if_short (whole if_left (contents (take n s)))) ≡ read a r
           → (n ≤ length s) × (contents (take n s) ≡ read a []) × (drop n s ≡ r)
       go false d e = let z : ◌≡◌ {A = ℕ} 0 1 = cc in absurd (omega arith)
       go true d e =
           let w = whole_read (contents (take n s)) a (drop n s) r e in
           (leb-true n (length s) d, w.0, w.1)
 
-  pub section_sound : (s : List ℕ) (a : A) (r : List ℕ) → Bytes s → section cut_short left_over contents s ≡ read a r → FoundSection s a r
+  pub section_sound : (s : List ℕ) (a : A) (r : List ℕ) → Bytes s → section if_short if_left contents s ≡ read a r → FoundSection s a r
   unfolding section section_bytes read_number
   section_sound [] a r b e = let z : ◌≡◌ {A = ℕ} 0 1 = cc in absurd (omega arith)
   section_sound (h ∷ []) a r b e = let z : ◌≡◌ {A = ℕ} 0 1 = cc in absurd (omega arith)
   section_sound (h ∷ l ∷ s) a r b e =
       let c : Bytes s = λ i. b (suc (suc i)) in
       let k : (0 * 256 + h) * 256 + l ≡ h * 256 + l = omega arith in
-      let w = counted_sound (h * 256 + l) s a r (sym (ap (λ n. counted cut_short left_over contents n s) k) ∙ e) in
+      let w = counted_sound (h * 256 + l) s a r (sym (ap (λ n. counted if_short if_left contents n s) k) ∙ e) in
       let n : length (take (h * 256 + l) s) ≡ h * 256 + l = length-take-le (h * 256 + l) s w.0 in
       let x : (h * 256 + l) / 256 ≡ h = omega (arith, b 0, b 1) in
       let y : (h * 256 + l) % 256 ≡ l = omega (arith, b 0, b 1) in
@@ -335,7 +335,7 @@ require_accepted false x r a e = let z : ◌≡◌ {A = ℕ} 0 1 = cc in absurd 
 
 -- A file: nothing may stand after it.
 
-pub whole_sound : {A : Type 0} (left_over : Fault) (g : Reading A) (a : A) → whole left_over g ≡ accepted a → g ≡ read a []
+pub whole_sound : {A : Type 0} (if_left : Fault) (g : Reading A) (a : A) → whole if_left g ≡ accepted a → g ≡ read a []
 whole_sound o (read b []) a e = cc
 whole_sound o (read b (c ∷ y)) a e = let z : ◌≡◌ {A = ℕ} 0 1 = cc in absurd (omega arith)
 whole_sound o (fault f) a e = let z : ◌≡◌ {A = ℕ} 0 1 = cc in absurd (omega arith)
