@@ -1,13 +1,13 @@
 -- The arrivals of a prefix, counted by one loop over its bytes: each node that is passed counts for its kind, and what was counted at the
 -- end is the tally of the whole (`Run`).
 use mathlib.Core.Path.{◌≡◌, refl, sym, ◌∙◌}
-use mathlib.Core.List.{List, [], ◌∷◌}
+use mathlib.Core.List.{List, []}
 use Prim.Native.Nat.{ℕ, zero, suc, ◌+◌, ◌-◌, ◌≤◌, ◌<◌}
 use native.Mathlib.Omega.{arith}
 use lib.ListN.{get_or}
 use Rattle.stream.specs.Prefixes.{Prefix, arrivals}
 use Rattle.stream.specs.Prefixes.Kinds.{prefix_arity, root_width, arrivals_by_kind, root_arrivals, totals, arrivals-tally}
-use Rattle.stream.specs.Reading.Laws.{◌&◌, past, every}
+use Rattle.stream.proofs.Reading.Laws.{◌&◌, past, every}
 use Rattle.reading.specs.declared.prefixes.PrefixPlace.{PrefixPlace}
 use Rattle.reading.specs.SliceReads.{PrefixIn}
 use Rattle.reading.proofs.PrefixWalk.{Run, starts, within, finished, summed, turned}

@@ -12,12 +12,13 @@ use lib.Dec.{eqb}
 use lib.ListN.{length, get_or, drop}
 use lib.Seq.{drop-cons}
 use Rattle.stream.specs.Types.{Ty, empty, cue, level, seq, par, either, size, type_limit}
-use Rattle.stream.specs.Prefixes.{Prefix, Complete, whole_crossed, whole_beside, IsPrefix, of_empty, of_cue_come, of_level_come, of_crossed, of_beside, of_first_chosen, of_second_chosen}
+use Rattle.stream.specs.Prefixes.{Prefix, Complete, whole_crossed, whole_beside, IsPrefix, of_empty, of_cue_awaited, of_cue_come, of_level_awaited, of_level_come, of_first, of_crossed, of_beside, of_none_chosen, of_first_chosen, of_second_chosen}
 use Rattle.stream.specs.Levels.{value_width}
 use Rattle.stream.specs.TypeFiles.{type_bytes}
 use Rattle.reading.specs.declared.types.TypePlace.{TypePlace}
-use Rattle.reading.specs.declared.prefixes.Width.TheVariants.{Fixed, ByChoice}
+use Rattle.reading.specs.declared.prefixes.Width.TheVariants.{Fixed}
 use Rattle.reading.specs.TypeReads.{TypeIn, SomeTypeIn}
+use Rattle.reading.specs.TypeReads.Laws.{ends_inside}
 use Rattle.reading.specs.SliceReads.{prefix_width, CompleteWide}
 
 -- Whether a byte is the kind k, as a number; how many nodes of a type have the kind k.
@@ -42,6 +43,10 @@ complete_width (of_crossed h b i) (whole_crossed d) none = omega (arith, complet
 complete_width (of_beside h i) (whole_beside d e) none = omega (arith, complete_width h d (omega arith), complete_width i e (omega arith))
 complete_width (of_first_chosen h) d none = absurd (omega arith)
 complete_width (of_second_chosen h) d none = absurd (omega arith)
+complete_width of_cue_awaited d none = elim d [ ]
+complete_width of_level_awaited d none = elim d [ ]
+complete_width (of_first _) d none = elim d [ ]
+complete_width of_none_chosen d none = elim d [ ]
 
 -- How many of the first n bytes are the kind k.
 abbrev pub kind_bytes : ℕ → ℕ → List ℕ → ℕ
@@ -79,9 +84,10 @@ byte_few k j = go (eqb j k)
     go false = omega arith
 
 -- The byte come to is counted if it is of the kind k.
-pub counted : {k : ℕ} {types : List ℕ} {place : TypePlace} {count next : ℕ} → Counting k types place count next → next < place.end → next < length types
+pub counted : {k : ℕ} {types : List ℕ} {place : TypePlace} {count next : ℕ} → Counting k types place count next → SomeTypeIn types place → next < place.end
     → Counting k types place (count + kind_byte k (get_or types next 0)) (next + 1)
-counted {k} {types} {place} {count} {next} counting more inside =
+counted {k} {types} {place} {count} {next} counting some more =
+    let inside : next < length types = omega (arith, some.here.ends, ends_inside some.here.stands) in
     let left : place.end - next ≡ suc (place.end - (next + 1)) = omega arith in
     let ahead : kind_bytes k (place.end - next) (drop next types) ≡ kind_byte k (get_or types next 0) + kind_bytes k (place.end - (next + 1)) (drop (next + 1) types)
     = rw (left, drop-cons types next 0 inside, add-one) in
@@ -108,10 +114,6 @@ all-counted {k} {types} {place} {count} {next} counting past type_in =
     omega (arith, all, counting.whole, place_nodes k type_in)
 
 module _ {types : List ℕ} {place : TypePlace} where
-  -- A choice decides: nothing is said.
-  pub by_choice : CompleteWide types place ByChoice
-  by_choice = record { each = λ wide told. let z : ◌≡◌ {A = ℕ} 0 1 = cc in absurd (omega arith) }
-
   -- None stands in the type: the width is known.
   pub fixed : {levels choices next : ℕ} → Counting 2 types place levels next → Counting 5 types place choices next → place.end ≤ next → choices ≡ 0
       → CompleteWide types place (Fixed (place.end - place.start + value_width * levels))

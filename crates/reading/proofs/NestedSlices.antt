@@ -25,30 +25,25 @@ moved e stands = rw e stands
 
 -- t and r
 
-module _ {k : ℕ} {slice : List ℕ} {second end : ℕ} where
-  module _ {first gap : ℕ} {s : List ℕ} (head : Piece slice first gap s) where
-    pub one_found : {t r : List ℕ} → PrefixesBehind k slice second end t r → k ≡ 5
-        → PiecesAt slice (record { kind = k; first = first; gap = gap; second = second; third = end; end = end }) k s t r
-    one_found (one_prefix five one) same =
-        let piece = prefix_piece one.stands one.ends in
-        record { kind = refl; first = head; second = piece; third = no_piece piece.inside }
-    one_found (two_prefixes other one two) same = absurd (other same)
+module _ {k : ℕ} {slice : List ℕ} {second end first gap : ℕ} {s : List ℕ} (head : Piece slice first gap s) where
+  pub one_found : {t r : List ℕ} → PrefixesBehind k slice second end t r → k ≡ 5
+      → PiecesAt slice (record { kind = k; first = first; gap = gap; second = second; third = end; end = end }) k s t r
+  one_found (one_prefix five one) same =
+      let piece = prefix_piece one.stands one.ends in
+      record { kind = refl; first = head; second = piece; third = no_piece piece.inside }
+  one_found (two_prefixes other one two) same = absurd (other same)
 
-    pub two_found : {t r : List ℕ} {third : ℕ} → PrefixesBehind k slice second end t r → (k ≡ 5 → ⊥) → PrefixEnds slice second third
-        → PiecesAt slice (record { kind = k; first = first; gap = gap; second = second; third = third; end = end }) k s t r
-    two_found (one_prefix five one) other ends = absurd (other five)
-    two_found (two_prefixes {c = c} not_five one two) other ends =
-        let behind = ends.each c one in
-        record {
-          kind = refl;
-          first = head;
-          second = prefix_piece one behind;
-          third = prefix_piece (moved behind two.stands) (omega (arith, two.ends));
-        }
-
-  pub one_behind : {t r : List ℕ} → PrefixesBehind k slice second end t r → SomePrefixAt slice second
-  one_behind (one_prefix five one) = some one.stands
-  one_behind (two_prefixes other one two) = some one
+  pub two_found : {t r : List ℕ} {third : ℕ} → PrefixesBehind k slice second end t r → (k ≡ 5 → ⊥) → PrefixEnds slice second third
+      → PiecesAt slice (record { kind = k; first = first; gap = gap; second = second; third = third; end = end }) k s t r
+  two_found (one_prefix five one) other ends = absurd (other five)
+  two_found (two_prefixes {c = c} not_five one two) other ends =
+      let behind = ends.each c one in
+      record {
+        kind = refl;
+        first = head;
+        second = prefix_piece one behind;
+        third = prefix_piece (moved behind two.stands) (omega (arith, two.ends));
+      }
 
 -- What is to be found in a prefix p whose s has come, and how p is cut by it.
 pub record Found (Cuts : Prefix → Cut → Type 0) (k : ℕ) (slice : List ℕ) (first gap second end : ℕ) (p : Prefix) : Type 0 where

@@ -6,7 +6,7 @@ use Prim.Native.Nat.{ℕ, ◌+◌}
 use native.Mathlib.Omega.{arith}
 use lib.ListN.{get_or}
 use Rattle.stream.specs.Types.{Ty, first_part, second_part, has_kind}
-use Rattle.stream.specs.Types.Laws.{and_both}
+use Rattle.stream.proofs.Types.Laws.{and_both}
 use Rattle.stream.specs.TypeFiles.{type_bytes}
 use Rattle.stream.specs.Types.Kinds.{type_arity, Fork, fork-size}
 use Rattle.reading.specs.declared.nested.Pieces.{Pieces}
@@ -26,9 +26,6 @@ moved e stands = rw e stands
 -- t and r
 
 module _ {types : List ℕ} {second end : ℕ} where
-  pub one_behind : {t r : List ℕ} → TypesBehind types second end t r → SomeTypeAt types second
-  one_behind (two_types one two) = some one
-
   pub pieces_behind : {k first gap third : ℕ} {s t r : List ℕ} → Piece types first gap s → TypesBehind types second end t r
       → TypeEnds types second third
       → PiecesAt types (record { kind = k; first = first; gap = gap; second = second; third = third; end = end }) k s t r

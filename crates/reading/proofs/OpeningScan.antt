@@ -67,9 +67,6 @@ scanned u (second_chosen p) n r = rw suc-add refl
 pub record Scanning (slice : List ℕ) (start end : ℕ) (unfinished : Bool) (next : ℕ) : Type 0 where
   pub whole : scan unfinished (end - next) (drop next slice) ≡ scan false (end - start) (drop start slice)
 
-pub nothing_scanned : {slice : List ℕ} {start end : ℕ} → Scanning slice start end false start
-nothing_scanned = record { whole = refl }
-
 -- The whole tells whether the prefix opens.
 tells : {slice : List ℕ} {place : PrefixPlace} {p : Prefix} → PrefixIn slice place p
     → scan false (place.end - place.start) (drop place.start slice) ≡ opens p

@@ -9,7 +9,7 @@ use lib.ListN.{length, get_or, drop, length-append}
 use lib.Seq.{drop-drop}
 use Rattle.stream.specs.Levels.{value_width}
 use Rattle.stream.specs.Prefixes.{Prefix, nothing, cue_awaited, cue_come, level_awaited, level_come, in_first, crossed, beside, none_chosen, first_chosen, second_chosen}
-use Rattle.stream.specs.Reading.Laws.{◌&◌, past, every}
+use Rattle.stream.proofs.Reading.Laws.{◌&◌, past, every}
 use Rattle.stream.specs.Prefixes.Kinds.{prefix_kind, prefix_arity, root_widths, root_width, prefix_parts, prefix_parts_many, tally, tallies, totals, tallies_append, tally_by_parts}
 use Rattle.stream.specs.SliceFiles.{prefix_bytes}
 use Rattle.reading.specs.SliceReads.{prefix_width, PrefixAt}

@@ -9,9 +9,9 @@ use native.Mathlib.Omega.{arith}
 use lib.ListN.{length, get_or, drop, length-drop, length-append}
 use lib.Seq.{drop-cons, drop-drop}
 use Rattle.stream.specs.Types.{Ty, empty, cue, level, seq, par, either, nullable, size, type_limit, kind}
-use Rattle.stream.specs.Types.Laws.{size_positive}
+use Rattle.stream.proofs.Types.Laws.{size_positive}
 use Rattle.stream.specs.TypeFiles.{type_bytes}
-use Rattle.stream.specs.TypeFiles.Laws.{type_length}
+use Rattle.stream.proofs.TypeFiles.Laws.{type_length}
 use Rattle.stream.specs.Types.Kinds.{type_arity, type_parts, type_parts_many, sizes, size_by_parts}
 use Rattle.reading.specs.declared.types.NullableEnd.TheVariants.{At, Other}
 use Rattle.reading.specs.TypeReads.{TypeAt, SomeTypeAt, TypeEnds, nullable_end, NullableEnds}

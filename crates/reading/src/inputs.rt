@@ -6,7 +6,7 @@ ghost use Rattle.reading.specs.Inputs.{CutDue, cut_at, HalvesDue, HalvesFound, C
 use crate::prefixes::{PrefixPlace, skip_complete, skip_prefix};
 use crate::types::{TypePlace, skip_type};
 
-#[derive(Drop)]
+#[derive(Clone, Copy)]
 pub struct Input {
     pub ty: TypePlace,
     pub prefix: PrefixPlace,
@@ -22,7 +22,7 @@ impl Input {
 }
 
 // Two parts of a type, each with a prefix of it.
-#[derive(Drop)]
+#[derive(Clone, Copy)]
 pub struct Halves {
     pub first: Input,
     pub second: Input,
@@ -74,7 +74,7 @@ pub fn coming_part(types: &[u8], input: Input) -> Input
 }
 
 // What was chosen of a type of the kind 5, with the prefix of it, and the part that was not.
-#[derive(Drop)]
+#[derive(Clone, Copy)]
 pub struct Choice {
     pub part: Input,
     pub other: TypePlace,

@@ -1,4 +1,6 @@
 // Types and slices in bytes: the code that reads them.
+#![tactic(auto)]
+
 pub mod inputs;
 pub mod nested;
 pub mod prefixes;

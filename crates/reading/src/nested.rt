@@ -12,7 +12,7 @@ use crate::types::{TypePlace, skip_type};
 
 // Where the three are: s from `first` up to `gap`, t from `second` up to `third`, r from there up to `end`. `kind` is the kind of t
 // and r as one tree behind s.
-#[derive(Drop)]
+#[derive(Clone, Copy)]
 pub struct Pieces {
     pub kind: u8,
     pub first: usize,
@@ -38,7 +38,7 @@ impl Pieces {
 }
 
 // What is found at a place: the three pieces, or a tree that has them not.
-#[derive(Drop)]
+#[derive(Clone, Copy)]
 pub enum Shaped {
     Nested(Pieces),
     Other,

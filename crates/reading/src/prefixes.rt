@@ -16,7 +16,7 @@ pub const MAX_SLICE_FILE: usize = 513;
 pub const VALUE_WIDTH: usize = 2;
 
 // Where a prefix stands in some bytes: from `start` up to, not including, `end`.
-#[derive(Drop)]
+#[derive(Clone, Copy)]
 pub struct PrefixPlace {
     pub start: usize,
     pub end: usize,
@@ -35,7 +35,7 @@ impl PrefixPlace {
 // leaves, how many cues and levels came in it, and by how many bytes its join with a later prefix is shorter than the two. The
 // lengths stand apart: side by side they would be loaded as one just after they were stored one by one, which costs a tenth of a
 // small call.
-#[derive(Drop)]
+#[derive(Clone, Copy)]
 pub struct Known {
     pub remains: usize,
     pub complete: bool,
@@ -45,14 +45,14 @@ pub struct Known {
 
 // A type and a prefix of it, walked through: where the type ends, where the prefix ends, and what is known of the prefix; or
 // the first fault.
-#[derive(Drop)]
+#[derive(Clone, Copy)]
 pub enum Walk {
     Past(usize, usize, Known),
     Failed(Fault),
 }
 
 // What became of a slice file: what is known of its prefix, or why it is refused.
-#[derive(Drop)]
+#[derive(Clone, Copy)]
 pub enum SliceRead {
     Whole(Known),
     Refused(Fault),
@@ -244,7 +244,7 @@ pub fn count_arrivals(slice: &[u8], place: PrefixPlace) -> u32
 }
 
 // What a type says of how long its complete prefixes are: all have so many bytes, or a choice decides.
-#[derive(Drop)]
+#[derive(Clone, Copy)]
 pub enum Width {
     Fixed(usize),
     ByChoice,
@@ -285,6 +285,7 @@ pub fn skip_complete(types: &[u8], part: TypePlace, slice: &[u8], place: usize) 
 }
 
 // Of a sequence whose first part is still coming, from that part and from the size `second` of the second part's type.
+#[tactic(auto, using(stream::proofs::Types::Laws::limit_is))]
 pub fn in_first(first: Known, second: usize) -> Known
     requires second_bound { first.remains + second < type_limit }
     requires overlap_lt_type_limit { first.overlap < type_limit }
@@ -300,6 +301,7 @@ pub fn in_first(first: Known, second: usize) -> Known
 
 // Of a sequence whose first part was crossed, from that part and from how the walk through the second ended: a join leaves the
 // first part as it is, so what is known of the second is known of both; only what came in the first has come as well.
+#[tactic(auto, using(stream::proofs::Types::Laws::limit_is))]
 pub fn crossed(first: Known, second: Walk) -> Walk
     requires { SumsFit first second }
     ensures { result ≡ combined crossed_known first second }
@@ -320,6 +322,7 @@ pub fn crossed(first: Known, second: Walk) -> Walk
 }
 
 // Of two prefixes side by side, from the first and from how the walk through the second ended.
+#[tactic(auto, using(stream::proofs::Types::Laws::limit_is))]
 pub fn beside(first: Known, second: Walk) -> Walk
     requires { SumsFit first second }
     ensures { result ≡ combined both_known first second }

@@ -7,7 +7,7 @@ ghost use Rattle.reading.specs.Sections.{end_of, any_bytes, filled};
 use stream::Fault;
 
 // Where a tree, or a section, ends in the bytes that it starts, or why none starts them.
-#[derive(Drop)]
+#[derive(Clone, Copy)]
 pub enum TreeEnd {
     At(usize),
     Failed(Fault),

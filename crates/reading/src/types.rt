@@ -9,7 +9,7 @@ use crate::sections::{TreeEnd, fill, section_end};
 use stream::Fault;
 
 // Where a type stands in some bytes: from `start` up to, not including, `end`.
-#[derive(Drop)]
+#[derive(Clone, Copy)]
 pub struct TypePlace {
     pub start: usize,
     pub end: usize,
@@ -77,7 +77,7 @@ pub fn type_section_end(bytes: &[u8]) -> TreeEnd
 }
 
 // What became of a type file: where its type stands in it, or why it is refused.
-#[derive(Drop)]
+#[derive(Clone, Copy)]
 pub enum TypeRead {
     Whole(TypePlace),
     Refused(Fault),
@@ -115,7 +115,7 @@ pub fn skip_type(types: &[u8], at: usize) -> usize
 }
 
 // What is found at a type: where it ends if it is nullable, or that it is not.
-#[derive(Drop)]
+#[derive(Clone, Copy)]
 pub enum NullableEnd {
     At(usize),
     Other,

@@ -11,41 +11,41 @@ use Rattle.stream.specs.declared.Fault.{Fault}
 use Rattle.stream.specs.declared.Fault.TheVariants.{CutShort, LeftOver}
 use Rattle.reading.specs.declared.sections.TreeEnd.TheVariants.{At, Failed}
 use Rattle.stream.specs.Reading.{Reading, read, fault, accepted, refused, read_on, whole, section, Root, forest, only, tree}
-use Rattle.stream.specs.Reading.Walking.{count, body, no_count, body_short, body_whole}
+use Rattle.stream.proofs.Reading.Walking.{count, body, no_count, body_short, body_whole}
 use Rattle.reading.specs.Sections.{end_of, any_bytes, filled}
 
 -- After something was read, a byte is left or none.
-byte_left : {A : Type 0} (left_over : Fault) (a : A) (r : List ℕ) → 0 < length r → whole left_over (read a r) ≡ refused left_over
-byte_left left_over a [] h = absurd (omega arith)
-byte_left left_over a (b ∷ r) h = refl
+byte_left : {A : Type 0} (if_left : Fault) (a : A) (r : List ℕ) → 0 < length r → whole if_left (read a r) ≡ refused if_left
+byte_left if_left a [] h = absurd (omega arith)
+byte_left if_left a (b ∷ r) h = refl
 
-none_left : {A : Type 0} (left_over : Fault) (a : A) (r : List ℕ) → length r ≤ 0 → whole left_over (read a r) ≡ accepted a
-none_left left_over a [] h = refl
-none_left left_over a (b ∷ r) h = absurd (omega arith)
+none_left : {A : Type 0} (if_left : Fault) (a : A) (r : List ℕ) → length r ≤ 0 → whole if_left (read a r) ≡ accepted a
+none_left if_left a [] h = refl
+none_left if_left a (b ∷ r) h = absurd (omega arith)
 
 -- The same where what is left is known by its place.
-module _ {A : Type 0} (left_over : Fault) (a : A) (s : List ℕ) (end : ℕ) where
-  pub byte_behind : end < length s → whole left_over (read a (drop end s)) ≡ refused left_over
-  byte_behind h = byte_left left_over a (drop end s) (simp length-drop (omega arith))
+module _ {A : Type 0} (if_left : Fault) (a : A) (s : List ℕ) (end : ℕ) where
+  pub byte_behind : end < length s → whole if_left (read a (drop end s)) ≡ refused if_left
+  byte_behind h = byte_left if_left a (drop end s) (simp length-drop (omega arith))
 
-  pub none_behind : length s ≤ end → whole left_over (read a (drop end s)) ≡ accepted a
-  none_behind h = none_left left_over a (drop end s) (simp length-drop (omega arith))
+  pub none_behind : length s ≤ end → whole if_left (read a (drop end s)) ≡ accepted a
+  none_behind h = none_left if_left a (drop end s) (simp length-drop (omega arith))
 
 -- A section that is there, by what its contents are read as.
 pub body_length : (s : List ℕ) → 2 ≤ length s → count s ≤ length s - 2 → length (body s) ≡ count s
 body_length s two fits = let h : count s ≤ length (drop 2 s) = simp length-drop fits in length-take-le (count s) (drop 2 s) h
 
-module _ {A : Type 0} (cut_short left_over : Fault) (contents : List ℕ → Reading A) (s : List ℕ)
+module _ {A : Type 0} (if_short if_left : Fault) (contents : List ℕ → Reading A) (s : List ℕ)
     (two : 2 ≤ length s) (fits : count s ≤ length s - 2) where
-  pub tree_failed : (e : Fault) → contents (body s) ≡ fault e → section cut_short left_over contents s ≡ fault e
-  tree_failed e h = rw (body_whole cut_short left_over contents s two fits, h)
+  pub tree_failed : (e : Fault) → contents (body s) ≡ fault e → section if_short if_left contents s ≡ fault e
+  tree_failed e h = rw (body_whole if_short if_left contents s two fits, h)
 
   module _ {a : A} {r : List ℕ} (reads : contents (body s) ≡ read a r) where
-    pub left_inside : 0 < length r → section cut_short left_over contents s ≡ fault left_over
-    left_inside h = rw (body_whole cut_short left_over contents s two fits, reads, byte_left left_over a r h)
+    pub left_inside : 0 < length r → section if_short if_left contents s ≡ fault if_left
+    left_inside h = rw (body_whole if_short if_left contents s two fits, reads, byte_left if_left a r h)
 
-    pub section_read : length r ≤ 0 → section cut_short left_over contents s ≡ read a (drop (2 + count s) s)
-    section_read h = rw (body_whole cut_short left_over contents s two fits, reads, none_left left_over a r h)
+    pub section_read : length r ≤ 0 → section if_short if_left contents s ≡ read a (drop (2 + count s) s)
+    section_read h = rw (body_whole if_short if_left contents s two fits, reads, none_left if_left a r h)
 
 -- A reading ends somewhere, or it failed.
 never : {k : ℕ} {e : Fault} → At k ≡ Failed e → ⊥

@@ -13,11 +13,11 @@ use Rattle.stream.specs.Levels.{read_value}
 use Rattle.stream.specs.Prefixes.{Prefix, nothing, cue_awaited, cue_come, level_awaited, level_come, in_first, crossed, beside, none_chosen, first_chosen, second_chosen, IsPrefix, of_empty, of_cue_awaited, of_cue_come, of_level_awaited, of_level_come, of_first, of_crossed, of_beside, of_none_chosen, of_first_chosen, of_second_chosen, arrivals, derivative}
 use Rattle.stream.specs.Prefixes.Functions.{complete}
 use Rattle.stream.specs.Reading.{Bytes, Reading, read, fault, read_on, Root, leaf, one_part, two_parts}
-use Rattle.stream.specs.Reading.Laws.{FoundTree, tree_sound, ◌&◌, past, every}
-use Rattle.stream.specs.Reading.Budgets.{tree_fault, tree_leaf, tree_one, tree_two}
+use Rattle.stream.proofs.Reading.Laws.{FoundTree, tree_sound, ◌&◌, past, every}
+use Rattle.stream.proofs.Reading.Budgets.{tree_fault, tree_leaf, tree_one, tree_two}
 use Rattle.stream.specs.Tables.{beyond}
 use Rattle.stream.specs.SliceFiles.{Owed, owed, belongs, prefix_kinds, prefix_root, prefix_bytes, slice_over}
-use Rattle.stream.specs.SliceFiles.Laws.{nodes, Fills, root_sound, prefix_spends}
+use Rattle.stream.proofs.SliceFiles.Laws.{nodes, Fills, root_sound, prefix_spends}
 use Rattle.reading.specs.SliceReads.{overlap, known, belongs_at, read_owed, behind_both, walked}
 
 -- The kind byte says whether it belongs, and what it begins where it does.

@@ -2,12 +2,12 @@
 use Rattle.std.specs.Prelude.{◌≡◌, refl, List, [], ◌∷◌, ℕ, ◌+◌, ◌≤◌, length, get_or, take, drop}
 use Rattle.std.proofs.Common.{sym, ap, ◌∙◌, arith, add-zero, length-drop, drop-drop, get_or-drop, take_at}
 use Rattle.stream.specs.Types.{Ty}
-use Rattle.stream.specs.Levels.Laws.{value_length, value_behind}
+use Rattle.stream.proofs.Levels.Laws.{value_length, value_behind}
 use Rattle.stream.specs.Prefixes.{Prefix, nothing, cue_awaited, cue_come, level_awaited, level_come, in_first, crossed, beside, none_chosen, first_chosen, second_chosen, IsPrefix, of_empty, of_cue_awaited, of_cue_come, of_level_awaited, of_level_come, of_first, of_crossed, of_beside, of_none_chosen, of_first_chosen, of_second_chosen, derivative}
 use Rattle.stream.specs.Prefixes.Functions.{concat}
-use Rattle.stream.specs.Reading.Laws.{◌&◌, past, every}
+use Rattle.stream.proofs.Reading.Laws.{◌&◌, past, every}
 use Rattle.stream.specs.SliceFiles.{prefix_bytes}
-use Rattle.stream.specs.SliceFiles.Laws.{prefix_before}
+use Rattle.stream.proofs.SliceFiles.Laws.{prefix_before}
 use Rattle.stream.specs.Prefixes.Kinds.{prefix_kind, root_width, tally}
 use Rattle.reading.specs.SliceReads.{prefix_width, overlap, PrefixAt}
 

@@ -6,11 +6,11 @@ use Rattle.std.proofs.Common.{sym, ap, ◌∙◌, arith, add-zero, length-drop, 
 use Rattle.stream.specs.declared.Fault.TheVariants.{Unlisted, TypeTooLarge}
 use Rattle.reading.specs.declared.sections.TreeEnd.TheVariants.{At}
 use Rattle.stream.specs.Types.{Ty, empty, cue, level, seq, par, either, nullable, size, kind, first_part, second_part, type_limit}
-use Rattle.stream.specs.Types.Laws.{size_positive}
+use Rattle.stream.proofs.Types.Laws.{size_positive}
 use Rattle.stream.specs.Reading.{Bytes, read, fault}
-use Rattle.stream.specs.Reading.Laws.{bytes_drop, bytes_take, ◌&◌, past, every}
+use Rattle.stream.proofs.Reading.Laws.{bytes_drop, bytes_take, ◌&◌, past, every}
 use Rattle.stream.specs.TypeFiles.{type_bytes, type_kinds, type_root, read_type, type_section}
-use Rattle.stream.specs.TypeFiles.Laws.{type_length, read_type_reads, read_type_sound}
+use Rattle.stream.proofs.TypeFiles.Laws.{type_length, read_type_reads, read_type_sound}
 use Rattle.stream.specs.Types.Kinds.{type_arity, Fork, fork-size}
 use Rattle.reading.specs.Sections.{end_of}
 use Rattle.reading.specs.Sections.Laws.{inside, section_ended, Within, tree_within}
