@@ -1,13 +1,13 @@
 -- The empty prefix of a type written by one loop: the types that are still to be gone through, each to be written or to be
 -- passed over, as they stand in the types' bytes, on the stack of marks, and in what is still to be written.
-use mathlib.Core.Path.{◌≡◌, refl, sym, ap, ◌∙◌}
+use mathlib.Core.Path.{◌≡◌, refl, sym, ap, ◌∙◌, subst}
 use mathlib.Core.List.{List, [], ◌∷◌, ◌++◌, append_assoc, append-nil}
 use Prim.Native.Nat.{ℕ, suc, ◌+◌, ◌-◌, ◌≤◌, ◌<◌}
 use native.Mathlib.Omega.{arith}
 use lib.ListN.{length, get_or, set, drop, length-append, length-set}
 use lib.Seq.{drop-drop, get_or-set_same, get_or-set_other}
 use Rattle.stream.specs.Types.{Ty, empty, cue, level, seq, par, either, size, type_limit, kind}
-use Rattle.stream.specs.Types.Laws.{size_positive, limit_is}
+use Rattle.stream.proofs.Types.Laws.{size_positive, limit_is}
 use Rattle.stream.specs.Prefixes.{empty_prefix}
 use Rattle.stream.specs.Prefixes.Kinds.{prefix_arity}
 use Rattle.stream.specs.TypeFiles.{type_bytes}
@@ -340,13 +340,14 @@ module _ {types lent now stack : List ℕ} {at depth next count : ℕ} where
         pub two_parts : {many : ℕ} → many ≡ empty_parts (get_or types next 0)
             → Emptying types at lent (set now count (empty_kind (get_or types next 0))) (set (set stack (depth - 1) (many - 1)) (depth - 1 + 1) 1)
             (depth - 1 + 2) (next + 1) (count + 1)
-        two_parts counted =
+        two_parts {many = many} counted =
             let f = is_forked in
             let xs = is_due.others in
             let stage = is_due.stage in
+            let mark_is : many - 1 ≡ mark f.second = rw (counted, kind_is) f.marks in
             node (written f.first ∷ f.second ∷ xs) (simp length-set emptying.tall)
             (rw (← drop-drop 1 next types, stage.here, f.bytes (several xs stage.rest)))
             (omega (arith, f.total, stage.small)) (omega (arith, is_due.top))
-            (rw (counted, kind_is, f.marks)
+            (subst (λ (k : ℕ). Marked (set (set stack (depth - 1) k) (depth - 1 + 1) 1) (written f.first ∷ f.second ∷ xs)) (sym mark_is)
             (marked_two stack f.first f.second xs (depth - 1) is_due.top (omega (arith, stack_room, emptying.tall)) stage.marked.1))
             (f.owes xs)

@@ -8,7 +8,7 @@ use lib.ListN.{get_or}
 use Rattle.stream.specs.Prefixes.Kinds.{prefix_arity}
 use Rattle.reading.specs.SliceReads.{is_unfinished}
 use Rattle.reading.specs.SliceReads.Laws.{prefix_bytes_length, kind_at}
-use Rattle.writing.specs.Writing.{PrefixDue, PrefixWritten, ConcatDue, LeafConcatDue, ConcatWritten}
+use Rattle.writing.specs.Writing.{PrefixDue, PrefixWritten, ConcatDue, ConcatWritten}
 use Rattle.writing.proofs.PrefixKinds.{kind_listed, Awaited, awaited, Come, come, empty_wide}
 
 module _ {first second : List ℕ} {first_place second_place : ℕ} {lent : List ℕ} where
@@ -66,10 +66,6 @@ module _ {first second : List ℕ} {first_place second_place : ℕ} {lent : List
                   buffer = rw (w.stays due.other) d.1;
                 };
           }
-
-  pub leaf_due : prefix_arity (get_or first first_place 0) ≡ 0 → ConcatDue first first_place second second_place lent
-      → LeafConcatDue first first_place second second_place lent
-  leaf_due none due = record { due = due; leaf = none }
 
   -- A kind above 10 does not stand there.
   pub unlisted : 11 ≤ get_or first first_place 0 → ConcatDue first first_place second second_place lent → ⊥

@@ -10,7 +10,7 @@ use Rattle.stream.specs.Prefixes.{Prefix, in_first, crossed, beside, IsPrefix, o
 use Rattle.stream.specs.Prefixes.Functions.{concat}
 use Rattle.stream.specs.Prefixes.Kinds.{prefix_arity}
 use Rattle.stream.specs.SliceFiles.{prefix_bytes}
-use Rattle.stream.specs.SliceFiles.Laws.{prefix_before}
+use Rattle.stream.proofs.SliceFiles.Laws.{prefix_before}
 use Rattle.reading.specs.SliceReads.{prefix_width, PrefixAt}
 use Rattle.reading.specs.SliceReads.Laws.{prefix_bytes_length, width_positive, prefix_inside, kind_at, in_first_at, crossed_first_at, crossed_second_at, beside_first_at, beside_second_at}
 use Rattle.writing.specs.Writing.{PrefixDue, PrefixWritten, Moves, Follows, ConcatDue, ConcatWritten, Begun}

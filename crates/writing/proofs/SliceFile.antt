@@ -14,8 +14,8 @@ use Rattle.reading.specs.declared.prefixes.SliceRead.TheVariants.{Whole, Refused
 use Rattle.stream.specs.Types.{Ty, type_limit}
 use Rattle.stream.specs.Prefixes.{Prefix, derivative}
 use Rattle.stream.specs.Reading.{Bytes, accepted, refused}
-use Rattle.stream.specs.Reading.Laws.{bytes_drop, bytes_take}
-use Rattle.stream.specs.Reading.Walking.{count, body}
+use Rattle.stream.proofs.Reading.Laws.{bytes_drop, bytes_take}
+use Rattle.stream.proofs.Reading.Walking.{count, body}
 use Rattle.reading.specs.TypeReads.{TypeAt}
 use Rattle.stream.specs.TypeFiles.{type_bytes}
 use Rattle.stream.specs.SliceFiles.{read_prefix, slice_file}
@@ -79,9 +79,9 @@ module _ {types : List ℕ} {at : ℕ} (s : List ℕ) where
 
 module _ {types : List ℕ} {at : ℕ} {lent now : List ℕ} where
   -- The walk went through the section.
-  pub section_walked : (s : List ℕ) (n : ℕ) → n ≡ count s → {answer other : Walk} → WalksLeaving types at (take n (drop 2 s)) 0 false lent now answer
-      → answer ≡ other → WalksLeaving types at (body s) 0 false lent now other
-  section_walked s n long walked same = rw (long, same) at walked
+  pub section_walked : (s : List ℕ) (n : ℕ) → n ≡ count s → {answer : Walk} → WalksLeaving types at (take n (drop 2 s)) 0 false lent now answer
+      → WalksLeaving types at (body s) 0 false lent now answer
+  section_walked s n long walked = rw long at walked
 
 module _ {types : List ℕ} {at : ℕ} {s lent now : List ℕ} where
   pub refused_leaving : {e : Fault} → ReadsSlice types at s (Refused e) → length now ≡ length lent → ReadsSliceLeaving types at s lent now (Refused e)

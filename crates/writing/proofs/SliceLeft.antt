@@ -14,17 +14,17 @@ use Rattle.reading.specs.declared.prefixes.Walk.{Walk}
 use Rattle.reading.specs.declared.prefixes.Walk.TheVariants.{Past, Failed}
 use Rattle.stream.specs.Tables.{beyond}
 use Rattle.stream.specs.Types.{Ty, empty, seq, par, size, type_limit, first_part, second_part}
-use Rattle.stream.specs.Types.Laws.{size_positive}
+use Rattle.stream.proofs.Types.Laws.{size_positive}
 use Rattle.stream.specs.Levels.{value_width}
-use Rattle.stream.specs.Levels.Laws.{value_there, value_missing}
+use Rattle.stream.proofs.Levels.Laws.{value_there, value_missing}
 use Rattle.stream.specs.Prefixes.{Prefix, nothing, cue_awaited, cue_come, level_awaited, level_come, crossed, beside, none_chosen, derivative}
 use Rattle.stream.specs.Prefixes.Kinds.{prefix_arities, prefix_arity, root_width}
 use Rattle.stream.specs.Reading.{Reading, read, fault, read_on, leaf}
-use Rattle.stream.specs.Reading.Laws.{◌&◌, past, every}
-use Rattle.stream.specs.Reading.Numbers.{long_or_short}
+use Rattle.stream.proofs.Reading.Laws.{◌&◌, past, every}
+use Rattle.stream.proofs.Reading.Numbers.{long_or_short}
 use Rattle.stream.specs.TypeFiles.{type_bytes}
 use Rattle.stream.specs.SliceFiles.{owed, prefix_root}
-use Rattle.stream.specs.SliceFiles.Laws.{nodes}
+use Rattle.stream.proofs.SliceFiles.Laws.{nodes}
 use Rattle.reading.specs.TypeReads.{TypeAt, TypeEnds}
 use Rattle.reading.specs.TypeReads.Laws.{kind_at, same_type, type_before, type_width}
 use Rattle.reading.specs.Nesting.Laws.{type_piece}

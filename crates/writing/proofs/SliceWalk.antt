@@ -17,19 +17,20 @@ use Rattle.reading.specs.declared.prefixes.Walk.{Walk}
 use Rattle.reading.specs.declared.prefixes.Walk.TheVariants.{Past, Failed}
 use Rattle.stream.specs.Tables.{beyond}
 use Rattle.stream.specs.Types.{Ty, size, type_limit, kind, first_part, second_part}
-use Rattle.stream.specs.Types.Laws.{and_left, size_positive}
-use Rattle.stream.specs.Types.Kinds.{type_arity, leaf-alone, Fork, fork-size}
+use Rattle.stream.proofs.Types.Laws.{and_left, size_positive}
+use Rattle.stream.specs.Types.Kinds.{type_arity, Fork, fork-size}
+use Rattle.stream.proofs.Types.Laws.{leaf-alone}
 use Rattle.stream.specs.Levels.{value_width}
-use Rattle.stream.specs.Levels.Laws.{value_there, value_missing}
+use Rattle.stream.proofs.Levels.Laws.{value_there, value_missing}
 use Rattle.stream.specs.Prefixes.{Prefix, nothing, cue_awaited, cue_come, level_awaited, level_come, in_first, crossed, beside, none_chosen, arrivals, derivative}
 use Rattle.stream.specs.Prefixes.Functions.{complete}
-use Rattle.stream.specs.Prefixes.Laws.{derivative-size}
+use Rattle.stream.proofs.Prefixes.Laws.{derivative-size}
 use Rattle.stream.specs.Prefixes.Kinds.{prefix_arities, prefix_arity, root_width, root_arrivals}
 use Rattle.stream.specs.Reading.{Bytes, Reading, read, fault, read_on, Root, leaf}
-use Rattle.stream.specs.Reading.Laws.{bytes_drop, ◌&◌, past, every}
-use Rattle.stream.specs.Reading.Numbers.{long_or_short}
+use Rattle.stream.proofs.Reading.Laws.{bytes_drop, ◌&◌, past, every}
+use Rattle.stream.proofs.Reading.Numbers.{long_or_short}
 use Rattle.stream.specs.SliceFiles.{Owed, owed, belongs, prefix_root, prefix_bytes}
-use Rattle.stream.specs.SliceFiles.Laws.{nodes, nodes_within, arrivals_few}
+use Rattle.stream.proofs.SliceFiles.Laws.{nodes, nodes_within, arrivals_few}
 use Rattle.reading.specs.TypeReads.{TypeAt, TypeEnds}
 use Rattle.reading.specs.TypeReads.Laws.{kind_at, first_at, second_at, same_type}
 use Rattle.reading.specs.SliceReads.{overlap, prefix_width, known, types_by_kind, type_kind_of, is_unfinished, belongs_at, first_complete, stood_on, leaf_walked, WalksLeaf, first_known, crossed_known, both_known, combined, SumsFit, read_owed, walked, Walks}

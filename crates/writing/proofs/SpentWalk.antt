@@ -8,11 +8,11 @@ use native.Mathlib.Omega.{arith}
 use lib.ListN.{length, get_or, set, length-append}
 use lib.Seq.{append_snoc}
 use Rattle.stream.specs.Types.{Ty, first_part, second_part}
-use Rattle.stream.specs.Types.Laws.{size_positive}
+use Rattle.stream.proofs.Types.Laws.{size_positive}
 use Rattle.stream.specs.Buffers.{at_front}
 use Rattle.stream.specs.Prefixes.{Prefix, Complete, whole_nothing, whole_cue, whole_level, whole_crossed, whole_beside, whole_first_chosen, whole_second_chosen, derivative}
 use Rattle.stream.specs.TypeFiles.{type_bytes}
-use Rattle.stream.specs.TypeFiles.Laws.{type_length}
+use Rattle.stream.proofs.TypeFiles.Laws.{type_length}
 use Rattle.stream.specs.Prefixes.Kinds.{prefix_kind, prefix_arity, root_width}
 use Rattle.reading.specs.TypeReads.Laws.{type_width}
 use Rattle.reading.specs.SliceReads.{prefix_width, is_unfinished, PrefixAt, SomePrefixAt, PrefixEnds}

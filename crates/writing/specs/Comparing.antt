@@ -2,10 +2,10 @@
 use Rattle.std.specs.Prelude.{◌≡◌, refl, Bool, true, false, List, [], ℕ}
 use Rattle.std.proofs.Common.{sym, ap, ◌∙◌}
 use Rattle.stream.specs.Types.{Ty, Small, same_type}
-use Rattle.stream.specs.Types.Laws.{same_type_sound, same_type-complete}
+use Rattle.stream.proofs.Types.Laws.{same_type_sound, same_type-complete}
 use Rattle.stream.specs.Reading.{read}
 use Rattle.stream.specs.TypeFiles.{type_bytes, read_type}
-use Rattle.stream.specs.TypeFiles.Laws.{read_type_reads}
+use Rattle.stream.proofs.TypeFiles.Laws.{read_type_reads}
 
 -- Whether two lists that are the bytes of types, and of nothing else, are those of one type: whichever types they are.
 pub record Compares (first second : List ℕ) (answer : Bool) : Type 0 where

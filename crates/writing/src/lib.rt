@@ -1,5 +1,7 @@
 // Types and slices in bytes: the code that writes them. Each writer is handed the part of the lent buffer where it has to
 // write, with room that was measured before, and hands the later parts on.
+#![tactic(auto)]
+
 ghost use Rattle.std.specs.Prelude.{◌≡◌, ◌∷◌, [], ◌+◌, ◌-◌, ◌/◌, ◌%◌, ◌≤◌, length};
 ghost use Rattle.std.proofs.Common.{Fits};
 ghost use Rattle.std.specs.Int.{w64};
@@ -17,7 +19,7 @@ pub mod reordering;
 pub mod slices;
 
 // How far a writer has come: where the two trees that it goes through end, and how many bytes it has written.
-#[derive(Drop)]
+#[derive(Clone, Copy)]
 pub struct Moved {
     pub first: usize,
     pub second: usize,

@@ -11,15 +11,15 @@ use Rattle.reading.specs.declared.prefixes.Known.{Known}
 use Rattle.reading.specs.declared.prefixes.SliceRead.{SliceRead}
 use Rattle.reading.specs.declared.prefixes.SliceRead.TheVariants.{Whole, Refused}
 use Rattle.stream.specs.Types.{Ty, size, Small}
-use Rattle.stream.specs.Types.Laws.{limit_is}
+use Rattle.stream.proofs.Types.Laws.{limit_is}
 use Rattle.stream.specs.Prefixes.{Prefix, derivative}
-use Rattle.stream.specs.Prefixes.Functions.{complete, concat}
-use Rattle.stream.specs.Prefixes.Laws.{derivative-size, concat_is_prefix}
+use Rattle.stream.specs.Prefixes.Functions.{concat}
+use Rattle.stream.proofs.Prefixes.Laws.{derivative-size, concat_is_prefix}
 use Rattle.stream.specs.Reading.{Bytes, Result, accepted, refused, section_bytes}
 use Rattle.stream.specs.TypeFiles.{type_bytes, type_file_bytes, type_file}
-use Rattle.stream.specs.TypeFiles.Laws.{type_length, type_file_sound}
+use Rattle.stream.proofs.TypeFiles.Laws.{type_length, type_file_sound}
 use Rattle.stream.specs.SliceFiles.{prefix_bytes, slice_file_bytes, slice_file}
-use Rattle.stream.specs.SliceFiles.Laws.{prefix_short, slice_length, slice_file_sound}
+use Rattle.stream.proofs.SliceFiles.Laws.{prefix_short, slice_length, slice_file_sound}
 use Rattle.reading.specs.TypeReads.{type_read, TypeAt, AcceptedType}
 use Rattle.reading.specs.TypeReads.Laws.{type_before, type_width, bytes_at}
 use Rattle.reading.specs.SliceReads.{prefix_width, known, slice_read, ReadsSlice, AcceptedSlice}

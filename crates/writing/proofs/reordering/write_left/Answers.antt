@@ -1,0 +1,14 @@
+-- `write_left` meets its contract: it writes two kinds, s, and t and r as one piece.
+use Rattle.std.proofs.Common.{append_assoc}
+use Rattle.reading.specs.Nesting.Laws.{joined}
+use Rattle.writing.specs.Appending.Laws.{nothing_written, written_on, part_on, written_as}
+use Rattle.writing.proofs.reordering.write_left.Goals as goal
+
+pub returns : goal.returns
+returns c =
+    record {
+      each = λ k s t r pieces.
+          let both = written_on (written_on (nothing_written _) c.append_kind-written.ensures) c.append_kind-written-2.ensures in
+          let one = part_on pieces.first c.append_part-written.ensures both in
+          written_as (part_on (joined pieces.second pieces.third) c.append_part.ensures one) (simp append_assoc);
+    }
