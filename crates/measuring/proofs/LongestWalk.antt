@@ -10,8 +10,8 @@ use lib.ListN.{length, get_or, set, drop, length-append, length-drop}
 use lib.Seq.{drop-drop, get_or-drop}
 use native.Mathlib.Nat.{add-zero}
 use Rattle.stream.specs.Types.{Ty, empty, cue, level, seq, par, either, size, type_limit, kind}
-use Rattle.stream.specs.Types.Laws.{size_positive}
-use Rattle.stream.specs.Levels.Laws.{value_append}
+use Rattle.stream.proofs.Types.Laws.{size_positive}
+use Rattle.stream.proofs.Levels.Laws.{value_append}
 use Rattle.stream.specs.Buffers.{at_front}
 use Rattle.stream.specs.TypeFiles.{type_bytes}
 use Rattle.stream.specs.SliceFiles.{prefix_bytes}

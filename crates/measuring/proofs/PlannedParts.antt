@@ -11,13 +11,13 @@ use lib.Seq.{set_at}
 use borrow.Author.Tests.{le-leb, lt-leb, leb-true, leb-false}
 use Rattle.stream.specs.Types.{Ty, empty, cue, level, seq, par, either, size, kind, first_part, second_part}
 use Rattle.stream.specs.Types.Kinds.{type_arity, Fork, fork-size}
-use Rattle.stream.specs.Types.Laws.{size_positive}
+use Rattle.stream.proofs.Types.Laws.{size_positive}
 use Rattle.stream.specs.Buffers.{at_front}
-use Rattle.stream.specs.Levels.Laws.{value_length}
+use Rattle.stream.proofs.Levels.Laws.{value_length}
 use Rattle.stream.specs.Prefixes.Kinds.{root_width}
 use Rattle.stream.specs.SliceFiles.{prefix_bytes}
 use Rattle.stream.specs.Longest.{byte_count, largest_level, longest_prefix}
-use Rattle.stream.specs.Longest.Laws.{byte_count_before}
+use Rattle.stream.proofs.Longest.Laws.{byte_count_before}
 use Rattle.reading.specs.TypeReads.Laws.{kind_at, starts_inside, first_at, second_at}
 use Rattle.writing.specs.Writing.{Begun}
 use Rattle.writing.specs.Writing.Laws.{part, back, begins, goes_on, room_left, length_kept, front_length}

@@ -1,5 +1,7 @@
 // How long a slice can get: the longest prefix of a type is planned by one walk through the type, and then written by one loop.
 // Measuring the sides of each either as it is written would go through a type once for every either above it.
+#![tactic(auto)]
+
 ghost use Rattle.std.specs.Prelude.{◌≡◌, ◌≤◌, length};
 ghost use Rattle.stream.specs.Buffers.{at_front};
 ghost use Rattle.measuring.specs.Planning.{longest_kind, largest_value, PlanDue, Plans, ChoiceDue, Chooses, LongestDue, LongestWritten, LongestFileDue, LongestFileWritten};
@@ -12,7 +14,7 @@ use writing::{copy, put_count};
 const PASSED: u8 = 255;
 
 // Where a type that was planned ends, and how many bytes its longest prefix has.
-#[derive(Drop)]
+#[derive(Clone, Copy)]
 pub struct Planned {
     pub end: usize,
     pub width: usize,
@@ -81,6 +83,7 @@ pub fn plan_longest(types: &[u8], at: usize, plan: &mut [u8]) -> Planned
 }
 
 // Writes the largest value of a level.
+#[tactic(auto, unfolding(stream::specs::Reading::number_bytes, stream::specs::Levels::level_limit))]
 fn put_largest(out: &mut [u8])
     requires { length largest_value ≤ length out.old }
     ensures { out.new ≡ at_front largest_value out.old }

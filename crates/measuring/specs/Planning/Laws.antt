@@ -1,11 +1,11 @@
 -- Plans, and the bytes of longest prefixes: how long they are, and what stands behind them.
-use Rattle.std.specs.Prelude.{◌≡◌, refl, Bool, true, false, List, [], ◌∷◌, ◌++◌, ℕ, zero, suc, ◌+◌, ◌-◌, ◌≤◌, ◌<◌, leb, length, drop}
+use Rattle.std.specs.Prelude.{◌≡◌, refl, Bool, true, false, List, [], ◌∷◌, ◌++◌, ℕ, zero, suc, ◌+◌, ◌≤◌, ◌<◌, leb, length, drop}
 use Rattle.std.proofs.Common.{sym, ap, ◌∙◌, arith, drop_at}
 use Rattle.stream.specs.Types.{Ty, empty, cue, level, seq, par, either, size, Small}
-use Rattle.stream.specs.Types.Laws.{size_positive}
+use Rattle.stream.proofs.Types.Laws.{size_positive}
 use Rattle.stream.specs.Longest.{byte_count, longest_prefix}
-use Rattle.stream.specs.Longest.Laws.{longest_prefix_is_prefix}
-use Rattle.stream.specs.SliceFiles.Laws.{prefix_short, slice_length}
+use Rattle.stream.proofs.Longest.Laws.{longest_prefix_is_prefix}
+use Rattle.stream.proofs.SliceFiles.Laws.{prefix_short, slice_length}
 use Rattle.writing.specs.Writing.Laws.{part, part_is}
 use Rattle.measuring.specs.declared.Planned.{Planned}
 use Rattle.measuring.specs.Planning.{passed_over, plan_choice, plan, PlanDue, Plans, AsPlanned}
