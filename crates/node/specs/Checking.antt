@@ -4,8 +4,8 @@ use Rattle.std.specs.Prelude.{◌&&◌, leb}
 use Rattle.stream.specs.declared.Fault.TheVariants.{TypeTooLarge, NotNullable, WrongShape, OutputsDiffer}
 use Rattle.stream.specs.Types.{Ty, empty, cue, level, seq, par, either, nullable, size, type_limit, first_part, second_part, has_kind, same_type}
 use Rattle.stream.specs.Reading.{Result, accepted, require, go_on}
-use Rattle.node.specs.Nodes.{Node, pass, silent, emit_cue, emit_level, both, left_side, right_side, first, second, then, chain, regroup_right, regroup_left, spread, front, choose, mark_first, mark_second}
-pub mod Laws
+use Rattle.node.specs.Nodes.{Node, pass, silent, emit_cue, emit_level, both, left_side, right_side, first, second, then, chain, regroup_right, regroup_left, spread, front, choose, mark_first, mark_second, Takes}
+use Rattle.node.specs.Nodes.Functions.{Fits}
 
 -- "4 if the type it gives is too large."
 unfoldable pub gives : Ty → Result Ty
@@ -42,3 +42,8 @@ typing s (choose n m) =
     (go_on (typing (first_part s) n) (λ t. go_on (typing (second_part s) m) (λ r. require (same_type t r) OutputsDiffer (gives t))))
 typing s (mark_first t) = gives (either s t)
 typing s (mark_second t) = gives (either t s)
+
+-- What the pass accepts: a node that the typing rules allow, within the limit.
+pub record WellTyped (s : Ty) (n : Node) (t : Ty) : Type 0 where
+  pub types : Takes s n t
+  pub fits : Fits s n

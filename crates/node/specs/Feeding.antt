@@ -6,7 +6,6 @@ use Rattle.stream.specs.Prefixes.{Prefix, nothing, cue_awaited, cue_come, level_
 use Rattle.node.specs.Totals.{added, Held}
 use Rattle.node.specs.Nodes.{Node, pass, silent, emit_cue, emit_level, both, left_side, right_side, first, second, then, chain, regroup_right, regroup_left, spread, front, choose, mark_first, mark_second, Takes, Patch}
 pub mod Functions
-pub mod Laws
 pub mod Lists
 pub mod Patches
 pub mod Examples

@@ -6,7 +6,6 @@ use Rattle.stream.specs.Levels.{level_limit}
 use Rattle.node.specs.Totals.{Totals}
 pub mod Functions
 pub mod Kinds
-pub mod Laws
 
 pub data Node : Type 0 where
   pass : Node  -- 0, the source's variable

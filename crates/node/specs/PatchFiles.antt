@@ -9,7 +9,6 @@ use Rattle.stream.specs.TypeFiles.{type_bytes, read_type, type_section}
 use Rattle.node.specs.Totals.{Held, totals_bytes, totals_section}
 use Rattle.node.specs.Nodes.{Node, pass, silent, emit_cue, emit_level, both, left_side, right_side, first, second, then, chain, regroup_right, regroup_left, spread, front, choose, mark_first, mark_second, node_limit, Allowed, Patch}
 use Rattle.node.specs.Checking.{typing}
-pub mod Laws
 pub mod Examples
 
 -- The bytes of a node in preorder, and then r.

@@ -3,7 +3,6 @@ use Rattle.std.specs.Prelude.{Bool, ◌&&◌, List, ℕ, ◌+◌, ◌≤◌, leb
 use Rattle.stream.specs.declared.Fault.TheVariants.{CutShort, LeftOver}
 use Rattle.stream.specs.Prefixes.{Prefix, arrivals}
 use Rattle.stream.specs.Reading.{Reading, read, read_on, number_bytes, read_number, section}
-pub mod Laws
 
 -- "Arrived, then sent."
 pub record Totals : Type 0 where
@@ -22,7 +21,7 @@ pub record Held (c : Totals) : Type 0 where
   pub arrived : c.arrived ≤ total_limit
   pub sent : c.sent ≤ total_limit
 
--- The same as a test, which is proved to agree (Laws: held-test).
+-- The same as a test, which is proved to agree (Laws: held_test).
 unfoldable pub held : Totals → Bool
 held c = leb c.arrived total_limit && leb c.sent total_limit
 

@@ -6,10 +6,10 @@ use Rattle.stream.specs.Types.{Ty, empty, cue, level, size, null_empty, Small}
 use Rattle.stream.specs.Levels.{level_limit}
 use Rattle.stream.specs.Prefixes.{Prefix, cue_awaited, cue_come, level_awaited, level_come, in_first, crossed, beside, Complete, whole_nothing, whole_cue, whole_level, whole_crossed, whole_beside, whole_first_chosen, whole_second_chosen, IsPrefix, of_empty, of_cue_awaited, of_cue_come, of_level_awaited, of_level_come, of_first, of_crossed, of_beside, of_none_chosen, of_first_chosen, of_second_chosen, Opens, derivative}
 use Rattle.stream.specs.Prefixes.Functions.{opens, concat}
-use Rattle.stream.specs.Prefixes.Laws.{crossed_second, beside_first, beside_second, first_chosen-inside, second_chosen-inside, empty_prefix_is_prefix, empty_prefix-complete, derivative_empty, complete-opens, opens_test, closed_test, complete→nullable, derivative-size, derivative-concat, concat_empty_left, concat_empty_right, opens-concat, closed_concat}
+use Rattle.stream.proofs.Prefixes.Laws.{crossed_second, beside_first, beside_second, first_chosen-inside, second_chosen-inside, empty_prefix_is_prefix, empty_prefix-complete, derivative_empty, complete-opens, opens_test, closed_test, complete→nullable, derivative-size, derivative-concat, concat_empty_left, concat_empty_right, opens-concat, closed_concat}
 use Rattle.node.specs.Nodes.{Node, silent, emit_cue, emit_level, both, then, chain, Takes, takes_pass, takes_silent, takes_cue, takes_level, takes_both, takes_left, takes_right, takes_first, takes_second, takes_then, takes_chain, takes_regroup_right, takes_regroup_left, takes_spread, takes_front, takes_choose, takes_mark_first, takes_mark_second, count, Allowed}
 use Rattle.node.specs.Nodes.Functions.{output_type, Fits}
-use Rattle.node.specs.Nodes.Laws.{output_type_is, is_allowed, allowed_fits}
+use Rattle.node.proofs.Nodes.Laws.{output_type_is, is_allowed, allowed_fits}
 use Rattle.node.specs.Feeding.{Feeds, feeds_pass, feeds_silent, feeds_cue, feeds_cue_waiting, feeds_level, feeds_level_waiting, feeds_both, feeds_left, feeds_right, feeds_first_coming, feeds_first_crossed, feeds_second_coming, feeds_second_crossed, feeds_then_coming, feeds_then_crossed, feeds_chain, feeds_regroup_right_in_first, feeds_regroup_right_in_second, feeds_regroup_right_in_third, feeds_regroup_left_in_first, feeds_regroup_left_in_second, feeds_regroup_left_in_third, feeds_spread_coming, feeds_spread_crossed, feeds_front, feeds_choose_none, feeds_choose_first, feeds_choose_second, feeds_mark_first, feeds_mark_second}
 use Rattle.node.specs.Feeding.Functions.{sends, leaves}
 
@@ -166,6 +166,7 @@ preserved (takes_chain d e) h =
 preserved takes_regroup_right (of_first (of_first h)) = record { sent = of_first h; whole = λ c. elim c [ ]; types = takes_regroup_right }
 preserved takes_regroup_right (of_first (of_crossed h b k)) =
     record { sent = of_crossed h b (of_first k); whole = λ c. elim c [ ]; types = takes_pass }
+preserved takes_regroup_right (of_crossed (of_first _) b l) = elim b [ ]
 preserved takes_regroup_right (of_crossed (of_crossed h b k) (whole_crossed d) l) =
     record { sent = of_crossed h b (of_crossed k d l); whole = λ c. whole_crossed (whole_crossed (crossed_second c)); types = takes_pass }
 preserved takes_regroup_left (of_first h) = record { sent = of_first (of_first h); whole = λ c. elim c [ ]; types = takes_regroup_left }
@@ -220,6 +221,7 @@ feeds (takes_then d e) (of_crossed h c k) = feeds_then_crossed (feeds d h) (feed
 feeds (takes_chain d e) h = rw (output_type_is d) (feeds_chain d (feeds d h) (feeds e (preserved d h).sent))
 feeds takes_regroup_right (of_first (of_first h)) = feeds_regroup_right_in_first
 feeds takes_regroup_right (of_first (of_crossed h c k)) = feeds_regroup_right_in_second
+feeds takes_regroup_right (of_crossed (of_first _) c l) = elim c [ ]
 feeds takes_regroup_right (of_crossed (of_crossed h c k) d l) = feeds_regroup_right_in_third
 feeds takes_regroup_left (of_first h) = feeds_regroup_left_in_first
 feeds takes_regroup_left (of_crossed h c (of_first k)) = feeds_regroup_left_in_second
@@ -314,9 +316,11 @@ feed-concat q (takes_chain d e) h k =
     rw (a.sent, output_type_is d, output_type_is x.types) (record { sent = b.sent; node = ap₂ chain a.node b.node })
 feed-concat q takes_regroup_right (of_first (of_first h)) (of_first (of_first k)) = same
 feed-concat q takes_regroup_right (of_first (of_first h)) (of_first (of_crossed i c k)) = same
+feed-concat q takes_regroup_right (of_first (of_first h)) (of_crossed (of_first _) d l) = elim d [ ]
 feed-concat q takes_regroup_right (of_first (of_first h)) (of_crossed (of_crossed i c k) d l) = same
 feed-concat q takes_regroup_right (of_first (of_crossed h c i)) (of_first k) = same
 feed-concat q takes_regroup_right (of_first (of_crossed h c i)) (of_crossed j d k) = same
+feed-concat q takes_regroup_right (of_crossed (of_first _) d j) k = elim d [ ]
 feed-concat q takes_regroup_right (of_crossed (of_crossed h c i) d j) k = same
 feed-concat q takes_regroup_left (of_first h) (of_first k) = same
 feed-concat q takes_regroup_left (of_first h) (of_crossed i c (of_first k)) = same

@@ -4,15 +4,15 @@ use Rattle.std.proofs.Common.{arith, leb-true, le-leb}
 use Rattle.stream.specs.declared.Fault.{Fault}
 use Rattle.stream.specs.declared.Fault.TheVariants.{TypeTooLarge, NotNullable, WrongShape, OutputsDiffer}
 use Rattle.stream.specs.Types.{Ty, empty, cue, level, seq, par, either, nullable, size, type_limit, first_part, second_part, has_kind, same_type, Small}
-use Rattle.stream.specs.Types.Laws.{and_left, and_right, nullable_sound, nullable-complete, made_of, same_type_sound, same_type-complete}
+use Rattle.stream.proofs.Types.Laws.{and_left, and_right, nullable_sound, nullable-complete, made_of, same_type_sound, same_type-complete}
 use Rattle.stream.specs.Faults.{patch_numbers, Listed}
 use Rattle.stream.specs.Reading.{Result, accepted, require, go_on}
-use Rattle.stream.specs.Reading.Refusals.{Refusals, go_on_refusals, require_refusals}
-use Rattle.stream.specs.Reading.Laws.{go_on_accepted, require_accepted}
+use Rattle.stream.proofs.Reading.Refusals.{Refusals, go_on_refusals, require_refusals}
+use Rattle.stream.proofs.Reading.Laws.{go_on_accepted, require_accepted}
 use Rattle.node.specs.Nodes.{Node, pass, silent, emit_cue, emit_level, both, left_side, right_side, first, second, then, chain, regroup_right, regroup_left, spread, front, choose, mark_first, mark_second, Takes, takes_pass, takes_silent, takes_cue, takes_level, takes_both, takes_left, takes_right, takes_first, takes_second, takes_then, takes_chain, takes_regroup_right, takes_regroup_left, takes_spread, takes_front, takes_choose, takes_mark_first, takes_mark_second}
 use Rattle.node.specs.Nodes.Functions.{output_type, Fits, Carries}
-use Rattle.node.specs.Nodes.Laws.{output_type_is}
-use Rattle.node.specs.Checking.{gives, typing}
+use Rattle.node.proofs.Nodes.Laws.{output_type_is}
+use Rattle.node.specs.Checking.{gives, typing, WellTyped}
 
 pub types_carries : {s t : Ty} {n : Node} → Takes s n t → Fits s n → Carries n
 unfolding output_type size
@@ -49,10 +49,6 @@ unfolding gives
 gives_small {t} h = rw (le-leb (size t) type_limit h)
 
 -- What the pass accepts is typed and fits
-
-pub record WellTyped (s : Ty) (n : Node) (t : Ty) : Type 0 where
-  pub types : Takes s n t
-  pub fits : Fits s n
 
 given : {s u : Ty} {n : Node} (t : Ty) → gives u ≡ accepted t → ((h : u ≡ t) → Small u → WellTyped s n t) → WellTyped s n t
 given {u = u} t e k = let g = gives_accepted u t e in k g.0 (rw g.0 g.1)

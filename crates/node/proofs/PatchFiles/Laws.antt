@@ -7,18 +7,18 @@ use Rattle.stream.specs.Types.{Ty, type_limit, Small}
 use Rattle.stream.specs.Bounds.{twice_node_bytes, node_bytes_limit, patch_file_limit}
 use Rattle.stream.specs.Faults.{type_numbers, patch_numbers, Listed}
 use Rattle.stream.specs.Levels.{level_limit, value_bytes, read_value}
-use Rattle.stream.specs.Levels.Laws.{value_length, value_is_bytes, value_reads, value_sound, value_faults}
+use Rattle.stream.proofs.Levels.Laws.{value_length, value_is_bytes, value_reads, value_sound, value_faults}
 use Rattle.stream.specs.Reading.{Bytes, Reading, read, fault, accepted, IsAccepted, read_on, section_bytes, Root, leaf, two_parts}
-use Rattle.stream.specs.Reading.Laws.{Reads, reads_leaf, reads_two, tree_reads, RootIs, leaf_is, FoundContents, carried_is, two_is, tree_sound, section_reads, section_sound, section_length, whole_sound, ◌&◌, past, every, bytes_tail, bytes_nil, bytes_cons, section_is_bytes, read_on_read, go_on_accepted}
-use Rattle.stream.specs.Reading.Refusals.{Faults, Refusals, read_on_faults, go_on_refusals, section_faults, tree_faults, whole_refusals, faults_too, listed_first}
+use Rattle.stream.proofs.Reading.Laws.{Reads, reads_leaf, reads_two, tree_reads, RootIs, leaf_is, FoundContents, carried_is, two_is, tree_sound, section_reads, section_sound, section_length, whole_sound, ◌&◌, past, every, bytes_tail, bytes_nil, bytes_cons, section_is_bytes, read_on_read, go_on_accepted}
+use Rattle.stream.proofs.Reading.Refusals.{Faults, Refusals, read_on_faults, go_on_refusals, section_faults, tree_faults, whole_refusals, faults_too, listed_first}
 use Rattle.stream.specs.TypeFiles.{type_bytes, read_type, type_section}
-use Rattle.stream.specs.TypeFiles.Laws.{type_length, type_is_bytes, type_section_is_bytes, read_type_reads, read_type_sound, type_section_reads, type_section_sound, read_type_faults, type_section_faults}
+use Rattle.stream.proofs.TypeFiles.Laws.{type_length, type_is_bytes, type_section_is_bytes, read_type_reads, read_type_sound, type_section_reads, type_section_sound, read_type_faults, type_section_faults}
 use Rattle.node.specs.Totals.{Totals, Held, totals_bytes, totals_section}
-use Rattle.node.specs.Totals.Laws.{totals_length, totals_section_is_bytes, totals_section_reads, totals_section_sound, totals_section_faults}
+use Rattle.node.proofs.Totals.Laws.{totals_length, totals_section_is_bytes, totals_section_reads, totals_section_sound, totals_section_faults}
 use Rattle.node.specs.Nodes.{Node, pass, silent, emit_cue, emit_level, both, left_side, right_side, first, second, then, chain, regroup_right, regroup_left, spread, front, choose, mark_first, mark_second, count, node_limit, Allowed, Patch, patch_of, Few}
-use Rattle.node.specs.Nodes.Laws.{is_allowed, allowed_fits}
+use Rattle.node.proofs.Nodes.Laws.{is_allowed, allowed_fits}
 use Rattle.node.specs.Checking.{typing}
-use Rattle.node.specs.Checking.Laws.{types_carries, typing_sound, typing-complete, typing_refusals}
+use Rattle.node.proofs.Checking.Laws.{types_carries, typing_sound, typing-complete, typing_refusals}
 use Rattle.node.specs.Nodes.Functions.{Carries}
 use Rattle.node.specs.PatchFiles.{node_bytes, patch_file_bytes, PatchFile, node_kinds, node_root, read_node, node_section, Checked, patch_sections, first_pass, second_pass, patch_file}
 

@@ -3,11 +3,11 @@ use Rattle.std.specs.Prelude.{◌≡◌, true, ◌↔◌, List, [], ℕ, ◌+◌
 use Rattle.std.proofs.Common.{ap, ◌∙◌, ⊎_elim, arith, length-drop, drop-drop, leb-true, le-leb}
 use Rattle.stream.specs.declared.Fault.{Fault}
 use Rattle.stream.specs.declared.Fault.TheVariants.{CutShort, LeftOver}
-use Rattle.stream.specs.Types.Laws.{and_left, and_right, and_both}
+use Rattle.stream.proofs.Types.Laws.{and_left, and_right, and_both}
 use Rattle.stream.specs.Reading.{Bytes, Reading, read, fault, read_on, number_bytes, read_number, section_bytes}
-use Rattle.stream.specs.Reading.Laws.{section_reads, section_sound, section_is_bytes, read_on_read, bytes_nil, FoundContents}
-use Rattle.stream.specs.Reading.Numbers.{number_limit, number_length, number_is_bytes, number_reads, number_sound, number_faults, long_or_short, number_there, number_missing}
-use Rattle.stream.specs.Reading.Refusals.{Faults, read_on_faults, section_faults}
+use Rattle.stream.proofs.Reading.Laws.{section_reads, section_sound, section_is_bytes, read_on_read, bytes_nil, FoundContents}
+use Rattle.stream.proofs.Reading.Numbers.{number_limit, number_length, number_is_bytes, number_reads, number_sound, number_faults, long_or_short, number_there, number_missing}
+use Rattle.stream.proofs.Reading.Refusals.{Faults, read_on_faults, section_faults}
 use Rattle.node.specs.Totals.{Totals, total_width, total_limit, Held, held, totals_bytes, read_totals, totals_section}
 
 -- The limit, as a test and by the width.

@@ -1,0 +1,5 @@
+pub mod Totals
+pub mod Nodes
+pub mod Checking
+pub mod Feeding
+pub mod PatchFiles
