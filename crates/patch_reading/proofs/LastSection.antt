@@ -11,11 +11,11 @@ use Rattle.stream.specs.declared.Fault.{Fault}
 use Rattle.stream.specs.declared.Fault.TheVariants.{CutShort, LeftOver}
 use Rattle.reading.specs.declared.sections.TreeEnd.TheVariants.{At, Failed}
 use Rattle.stream.specs.Reading.{read, fault, refused, whole, section}
-use Rattle.stream.specs.Reading.Walking.{count, body}
+use Rattle.stream.proofs.Reading.Walking.{count, body}
 use Rattle.reading.specs.Sections.{end_of, any_bytes}
 use Rattle.reading.specs.Sections.Laws.{SectionEnds, section_ended, section_failed, failed, body_length, tree_failed, left_inside, section_read, byte_behind, none_behind}
 use Rattle.node.specs.Totals.{Totals, read_totals, totals_section}
-use Rattle.node.specs.Totals.Laws.{totals_missing, totals_there}
+use Rattle.node.proofs.Totals.Laws.{totals_missing, totals_there}
 use Rattle.patch_reading.specs.PatchReads.{whole_end}
 
 module _ (s : List ℕ) where

@@ -13,13 +13,13 @@ use Rattle.reading.specs.declared.sections.TreeEnd.{TreeEnd}
 use Rattle.reading.specs.declared.sections.TreeEnd.TheVariants.{At, Failed}
 use Rattle.stream.specs.Types.{Ty, size}
 use Rattle.stream.specs.Levels.{value_width, read_value}
-use Rattle.stream.specs.Levels.Laws.{value_length, value_behind, value_sound, value_there, value_missing}
+use Rattle.stream.proofs.Levels.Laws.{value_length, value_behind, value_sound, value_there, value_missing}
 use Rattle.stream.specs.Reading.{Bytes, Reading, read, fault, read_on, Root, leaf, two_parts}
-use Rattle.stream.specs.Reading.Laws.{◌&◌, past, every, bytes_drop}
-use Rattle.stream.specs.Reading.Numbers.{long_or_short}
-use Rattle.stream.specs.Reading.Walking.{Owes, MakesOne, leaf_makes, two_makes}
+use Rattle.stream.proofs.Reading.Laws.{◌&◌, past, every, bytes_drop}
+use Rattle.stream.proofs.Reading.Numbers.{long_or_short}
+use Rattle.stream.proofs.Reading.Walking.{Owes, MakesOne, leaf_makes, two_makes}
 use Rattle.stream.specs.TypeFiles.{read_type}
-use Rattle.stream.specs.TypeFiles.Laws.{type_length, read_type_sound}
+use Rattle.stream.proofs.TypeFiles.Laws.{type_length, read_type_sound}
 use Rattle.reading.specs.Sections.{end_of}
 use Rattle.reading.specs.Sections.Laws.{failed, Within, tree_within}
 use Rattle.reading.specs.TypeReads.Laws.{type_drop, read_type_within}

@@ -1,4 +1,6 @@
 // Check's first pass: whether a file is a patch file, and where its parts stand.
+#![tactic(auto)]
+
 ghost use Rattle.std.specs.Prelude.{◌≡◌, ◌≤◌, length, drop};
 ghost use Rattle.stream.specs.TypeFiles.{read_type};
 ghost use Rattle.reading.specs.Sections.{end_of};
@@ -15,7 +17,7 @@ use reading::types::{TypePlace, type_end, type_section_end};
 use stream::Fault;
 
 // Where a patch stands in its file: its input type, and from `nodes` on its nodes. The totals are the last bytes.
-#[derive(Drop)]
+#[derive(Clone, Copy)]
 pub struct PatchPlace {
     pub input: TypePlace,
     pub nodes: usize,
@@ -154,7 +156,7 @@ fn last_section_end(bytes: &[u8]) -> TreeEnd
 }
 
 // What became of a patch file: where its patch stands in it, or why it is refused.
-#[derive(Drop)]
+#[derive(Clone, Copy)]
 pub enum PatchRead {
     Whole(PatchPlace),
     Refused(Fault),

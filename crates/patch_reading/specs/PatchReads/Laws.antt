@@ -2,8 +2,8 @@
 use Rattle.std.specs.Prelude.{◌≡◌, refl, List, [], ◌∷◌, ◌++◌, ℕ, ◌+◌, ◌≤◌, ◌<◌, length, get_or, take, drop}
 use Rattle.std.proofs.Common.{sym, ap, ◌∙◌, append_assoc, arith, add-zero, length-append, length-drop, get_or-drop, drop-drop, take_at, drop_at}
 use Rattle.stream.specs.Types.{Ty, size, Small}
-use Rattle.stream.specs.Levels.Laws.{value_length, value_append}
-use Rattle.stream.specs.Reading.Laws.{◌&◌, past, every}
+use Rattle.stream.proofs.Levels.Laws.{value_length, value_append}
+use Rattle.stream.proofs.Reading.Laws.{◌&◌, past, every}
 use Rattle.stream.specs.TypeFiles.{type_bytes}
 use Rattle.reading.specs.TypeReads.{TypeAt}
 use Rattle.reading.specs.TypeReads.Laws.{type_before, type_width}

@@ -13,7 +13,7 @@ use Rattle.reading.specs.TypeReads.Laws.{type_before, type_drop, type_width}
 use Rattle.node.specs.Totals.{totals_bytes}
 use Rattle.node.specs.Nodes.{Patch}
 use Rattle.node.specs.PatchFiles.{node_bytes, patch_file_bytes, first_pass}
-use Rattle.node.specs.PatchFiles.Laws.{patch_file-size, first_pass_sound}
+use Rattle.node.proofs.PatchFiles.Laws.{patch_file-size, first_pass_sound}
 use Rattle.patch_reading.specs.declared.PatchPlace.{PatchPlace}
 use Rattle.patch_reading.specs.declared.PatchRead.{PatchRead}
 use Rattle.patch_reading.specs.declared.PatchRead.TheVariants.{Whole, Refused}
