@@ -8,7 +8,7 @@ use lib.ListN.{length}
 use Rattle.stream.specs.declared.Fault.TheVariants.{WrongShape}
 use Rattle.stream.specs.Types.{Ty, seq, par, size, type_limit, has_kind, first_part, second_part}
 use Rattle.stream.specs.Types.Kinds.{type_arity}
-use Rattle.stream.specs.Types.Laws.{limit_is, parts_size}
+use Rattle.stream.proofs.Types.Laws.{limit_is, parts_size}
 use Rattle.stream.specs.Reading.{Result, require}
 use Rattle.stream.specs.TypeFiles.{type_bytes}
 use Rattle.reading.specs.declared.nested.Pieces.{Pieces}

@@ -40,6 +40,12 @@ pub record Halved (types : List ℕ) (place first second : TypePlace) : Type 0 w
   pub is_first : first ≡ record { start = place.start + 1; end = middle }
   pub is_second : second ≡ record { start = middle; end = place.end }
 
+pub halved : {types : List ℕ} {place first second : TypePlace} {middle : ℕ} → get_or types place.start 0 ≡ 5
+    → TypeEnds types (place.start + 1) middle → first ≡ record { start = place.start + 1; end = middle }
+    → second ≡ record { start = middle; end = place.end } → Halved types place first second
+halved {middle = middle} is_either ends is_first is_second =
+    record { is_either = is_either; middle = middle; ends = ends; is_first = is_first; is_second = is_second }
+
 module _ {types : List ℕ} {place first second : TypePlace} (halved : Halved types place first second) {t : Ty} (here : TypeIn types place t) where
   forked : Fork t
   forked = is_fork here.stands halved.is_either refl
@@ -123,7 +129,7 @@ module _ {types : List ℕ} {place : TypePlace} {nodes : List ℕ} {from : ℕ} 
       some_given is_place due = record { type = (first_given due).type; here = held_in (first_given due).holds is_place }
 
       module _ {other : List ℕ} {end more : ℕ} (also : HasGiven types second nodes next other end more) where
-        second_given : (due : TypingDue types place nodes from) → GivenType (second_due due) other end more
+        pub second_given : (due : TypingDue types place nodes from) → GivenType (second_due due) other end more
         second_given due = given_type also (second_due due)
 
         module _ {same : Bool} (compared : Compares (take many one) (take more other) same) where

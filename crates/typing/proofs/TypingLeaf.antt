@@ -1,23 +1,20 @@
 -- The second pass at a node without parts: what it gives is known from its kind byte and its input type.
 use mathlib.Core.Path.{◌≡◌, refl, ap}
 use mathlib.Core.List.{List, [], ◌∷◌}
-use Prim.Native.Nat.{ℕ, suc, ◌+◌, ◌≤◌, ◌<◌}
+use Prim.Native.Nat.{ℕ, ◌+◌, ◌≤◌, ◌<◌}
 use native.Mathlib.Omega.{arith}
-use lib.ListN.{length, get_or}
+use lib.ListN.{get_or}
 use Rattle.stream.specs.Types.{Ty, size, Small}
-use Rattle.stream.specs.Levels.{value_width}
-use Rattle.stream.specs.Levels.Laws.{value_length}
 use Rattle.stream.specs.Reading.{Result}
 use Rattle.stream.specs.TypeFiles.{type_bytes}
 use Rattle.reading.specs.declared.types.TypePlace.{TypePlace}
 use Rattle.reading.specs.TypeReads.{TypeIn, SomeTypeAt}
 use Rattle.node.specs.Nodes.{Node}
 use Rattle.node.specs.Checking.{gives, typing}
-use Rattle.node.specs.PatchFiles.{node_bytes}
 use Rattle.typing.specs.declared.Typed.{Typed}
 use Rattle.typing.specs.declared.Typed.TheVariants.{Gives}
 use Rattle.patch_reading.specs.PatchReads.{node_arity, node_width}
-use Rattle.patch_reading.specs.PatchReads.Laws.{ends_inside, Case, by_byte, CarriesType, silent_carries, carried_at}
+use Rattle.patch_reading.specs.PatchReads.Laws.{Case, by_byte, CarriesType, silent_carries, carried_at}
 use Rattle.writing.specs.Appending.{Appends}
 use Rattle.typing.specs.Typing.{Answers, GivenCarried, TypingDue, TypesNode}
 use Rattle.writing.specs.Appending.Laws.{nothing_written, written_on}
@@ -61,13 +58,6 @@ module _ {types : List ℕ} {place : TypePlace} {nodes : List ℕ} {from : ℕ} 
           let node = carried_at silent_carries e due.node_at in
           let end : from + node_width due.node ≡ from + 1 + size node.type = omega (arith, node.wide) in
           rw (end, ap (typing due.type) node.made) (given.each node.type node.type_at)
-
-  -- A level's value stands behind its kind byte.
-  pub level_inside : TypingDue types place nodes from → get_or nodes from 0 ≡ 3 → from + suc value_width ≤ length nodes
-  unfolding node_bytes
-  level_inside due e =
-      let wide = by_byte (λ n. node_width n ≡ suc value_width) due.node_at e (λ v. ap suc (value_length v [])) in
-      omega (arith, ends_inside due.node_at)
 
 -- No kind below those that mark a choice is left when all others but those with parts have been tried.
 

@@ -7,7 +7,7 @@ use native.Mathlib.Omega.{arith}
 use lib.ListN.{length, get_or}
 use Rattle.stream.specs.declared.Fault.{Fault}
 use Rattle.stream.specs.declared.Fault.TheVariants.{WrongShape}
-use Rattle.stream.specs.Types.{Ty, size, type_limit, kind, first_part, second_part, Small}
+use Rattle.stream.specs.Types.{Ty, size, type_limit, first_part, second_part, Small}
 use Rattle.stream.specs.Types.Kinds.{type_arity, Fork}
 use Rattle.stream.specs.Reading.{Result, accepted, refused, go_on}
 use Rattle.stream.specs.TypeFiles.{type_bytes}
@@ -18,7 +18,7 @@ use Rattle.reading.specs.Nesting.Laws.{other_shape, same_shape, is_fork}
 use Rattle.writing.specs.Writing.Laws.{part, back}
 use Rattle.node.specs.Nodes.{Node, both, then, chain}
 use Rattle.node.specs.Checking.{gives, typing}
-use Rattle.node.specs.Checking.Laws.{gives_small}
+use Rattle.node.proofs.Checking.Laws.{gives_small}
 use Rattle.node.specs.Nodes.Functions.{Carries}
 use Rattle.typing.specs.declared.Typed.{Typed}
 use Rattle.typing.specs.declared.Typed.TheVariants.{Gives, Failed}
@@ -41,6 +41,11 @@ pub record FirstAnswer (kind : ℕ) (types : List ℕ) (first : TypePlace) (node
   pub kind_written : Appends (kind ∷ []) 0 lent now before
   pub starts : Within before (length now) start
   pub typed : TypesNode types first nodes from (part start now) y answer
+
+pub first_answer : {kind : ℕ} {types : List ℕ} {first : TypePlace} {nodes : List ℕ} {from : ℕ} {lent now y : List ℕ} {before start : ℕ}
+    {answer : Typed} → Appends (kind ∷ []) 0 lent now before → Within before (length now) start
+    → TypesNode types first nodes from (part start now) y answer → FirstAnswer kind types first nodes from lent now y before start answer
+first_answer kind_written starts typed = record { kind_written = kind_written; starts = starts; typed = typed }
 
 -- What is known once it has given a type of `many` nodes and ends at `next`.
 pub record FirstGiven (nodes : List ℕ) (from before next many : ℕ) : Type 0 where
@@ -276,9 +281,6 @@ module _ {types : List ℕ} {place : TypePlace} {nodes : List ℕ} {from : ℕ} 
         each : (due : TypingDue types place nodes from)
             → Answers (from + node_width due.node) (typing due.type due.node) lent lent (Failed fault)
         each due = rw (chain_is due, is_refused _ _ (sym e ∙ (first_typed.each (chain_first due)).answers)) (answers_refused refl)
-
-    pub middle_kept : TypingDue types place nodes from → length middle_after ≡ length middle
-    middle_kept due = (first_typed.each (chain_first due)).long
 
     module _ {next many : ℕ} (first_gives : answer ≡ Gives next many) (room : length middle ≡ 255) where
       pub middle_given : (due : TypingDue types place nodes from) → GivenType (chain_first due) middle_after next many

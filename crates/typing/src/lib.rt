@@ -6,6 +6,8 @@
 //
 // A type is handed down with where it ends, so that none looks for the end of its input: only where the first part of a type
 // ends is looked for.
+#![tactic(auto)]
+
 ghost use Rattle.std.specs.Prelude.{◌≡◌, get_or};
 ghost use Rattle.stream.specs.Types.Kinds.{type_arity};
 ghost use Rattle.reading.specs.TypeReads.{SomeTypeAt, SomeTypeIn};
@@ -26,7 +28,7 @@ use writing::reordering::{write_left, write_right, write_spread};
 const LEVEL_WIDTH: usize = 1 + VALUE_WIDTH;
 
 // How the second pass leaves a node: where the node ends and how many nodes the type has that it gives, or the first fault.
-#[derive(Drop)]
+#[derive(Clone, Copy)]
 pub enum Typed {
     Gives(usize, usize),
     Failed(Fault),

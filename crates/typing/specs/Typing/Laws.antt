@@ -5,7 +5,7 @@ use Rattle.std.proofs.lemmas.Bool.{lt-leb, eqb-false}
 use Rattle.stream.specs.declared.Fault.{Fault}
 use Rattle.stream.specs.declared.Fault.TheVariants.{TypeTooLarge}
 use Rattle.stream.specs.Types.{Ty, size, type_limit, Small}
-use Rattle.stream.specs.Types.Laws.{limit_is}
+use Rattle.stream.proofs.Types.Laws.{limit_is}
 use Rattle.stream.specs.Reading.{Result, accepted, refused, require}
 use Rattle.stream.specs.TypeFiles.{type_bytes}
 use Rattle.reading.specs.declared.types.TypePlace.{TypePlace}
@@ -17,9 +17,9 @@ use Rattle.writing.specs.Appending.{PartDue}
 use Rattle.writing.specs.Appending.Laws.{WrittenSoFar, part_due}
 use Rattle.writing.specs.Writing.Standing.{TypeHeld, type_held}
 use Rattle.node.specs.Nodes.{Node}
-use Rattle.node.specs.Nodes.Laws.{output_small}
+use Rattle.node.proofs.Nodes.Laws.{output_small}
 use Rattle.node.specs.Checking.{gives, typing}
-use Rattle.node.specs.Checking.Laws.{gives_accepted, typing_sound}
+use Rattle.node.proofs.Checking.Laws.{gives_accepted, typing_sound}
 use Rattle.node.specs.Nodes.Functions.{Carries}
 use Rattle.typing.specs.declared.Typed.{Typed}
 use Rattle.typing.specs.declared.Typed.TheVariants.{Gives, Failed}
