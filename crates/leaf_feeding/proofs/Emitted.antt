@@ -6,14 +6,14 @@ use Prim.Native.Nat.{ℕ, ◌<◌}
 use native.Mathlib.Omega.{arith}
 use lib.ListN.{length, set}
 use Rattle.stream.specs.Types.{Ty, cue, size}
-use Rattle.stream.specs.Types.Laws.{size_positive, limit_is}
+use Rattle.stream.proofs.Types.Laws.{size_positive, limit_is}
 use Rattle.stream.specs.Prefixes.{Prefix}
 use Rattle.stream.specs.Prefixes.Functions.{opens}
 use Rattle.stream.specs.TypeFiles.{type_bytes}
 use Rattle.stream.specs.SliceFiles.{prefix_bytes}
 use Rattle.reading.specs.SliceReads.{prefix_width}
 use Rattle.node.specs.Nodes.{Node, emit_cue, takes_cue}
-use Rattle.node.specs.Checking.Laws.{WellTyped}
+use Rattle.node.specs.Checking.{WellTyped}
 use Rattle.node.specs.Feeding.Functions.{sends, leaves}
 use Rattle.node.specs.PatchFiles.{node_bytes}
 use Rattle.patch_reading.specs.PatchReads.{node_width}

@@ -7,7 +7,7 @@ use native.Mathlib.Omega.{arith}
 use lib.ListN.{length, get_or, set}
 use Rattle.stream.specs.Types.{Ty, size, type_limit, Small}
 use Rattle.stream.specs.Prefixes.{Prefix, derivative}
-use Rattle.stream.specs.Prefixes.Laws.{derivative-size}
+use Rattle.stream.proofs.Prefixes.Laws.{derivative-size}
 use Rattle.stream.specs.TypeFiles.{type_bytes}
 use Rattle.reading.specs.declared.inputs.Input.{Input}
 use Rattle.reading.specs.declared.inputs.Halves.{Halves}
@@ -65,7 +65,7 @@ module _ {types slice : List ℕ} {input : Input} {out remainder given : List �
 
       -- There is room for the kind byte of silent, and behind it for the type.
 
-      pub byte_room : 0 < length remainder_now
+      byte_room : 0 < length remainder_now
       byte_room = omega (arith, gave.steps.node_left.long, due.room.left_room)
 
       begun : Leads (1 ∷ []) remainder (set remainder_now 0 1)
@@ -88,9 +88,6 @@ module _ {types slice : List ℕ} {input : Input} {out remainder given : List �
         unfolding spent_due
         spent_leads =
             leads_on begun refl (front_leads _ _ (written.each spent_due).1 (omega (arith, type_width left_over, spent_due.room)))
-
-        pub spent_kept : length (back 1 (set remainder_now 0 1) z) ≡ length remainder
-        spent_kept = spent_leads.long
 
         sized : many ≡ size left_over
         unfolding spent_due

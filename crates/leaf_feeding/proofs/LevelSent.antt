@@ -7,17 +7,17 @@ use native.Mathlib.Omega.{arith}
 use lib.ListN.{length, take, drop, set}
 use lib.Seq.{drop-drop}
 use Rattle.stream.specs.Types.{Ty, level, size}
-use Rattle.stream.specs.Types.Laws.{limit_is}
+use Rattle.stream.proofs.Types.Laws.{limit_is}
 use Rattle.stream.specs.Buffers.{at_front}
 use Rattle.stream.specs.Levels.{value_bytes, value_width}
-use Rattle.stream.specs.Levels.Laws.{value_length, value_front}
+use Rattle.stream.proofs.Levels.Laws.{value_length, value_front}
 use Rattle.stream.specs.Prefixes.{Prefix, level_come, of_level_come}
 use Rattle.stream.specs.Prefixes.Functions.{opens}
 use Rattle.stream.specs.TypeFiles.{type_bytes}
 use Rattle.stream.specs.SliceFiles.{prefix_bytes}
 use Rattle.reading.specs.SliceReads.{prefix_width}
 use Rattle.node.specs.Nodes.{emit_level, takes_level}
-use Rattle.node.specs.Checking.Laws.{WellTyped}
+use Rattle.node.specs.Checking.{WellTyped}
 use Rattle.node.specs.Feeding.Functions.{sends, leaves}
 use Rattle.node.specs.PatchFiles.{node_bytes}
 use Rattle.patch_reading.specs.PatchReads.{NodeAt, node_width}
@@ -87,18 +87,18 @@ module _ {nodes : List ℕ} {from : ℕ} {out remainder given : List ℕ} (due :
 
   -- Where there is room for the type, there is for the kind byte and the value.
   module _ (type_room : 0 < length given) where
-    pub level_room : 1 + value_width ≤ length out
+    level_room : 1 + value_width ≤ length out
     unfolding prefix_width size
     level_room = prefix_room due.room.rooms (of_level_come stands.carries) type_room
 
     kind_leads : Leads (4 ∷ []) out (set out 0 4)
     kind_leads = byte_leads 4 (omega (arith, level_room))
 
-    pub value_room : length copied ≤ length (part 1 (set out 0 4))
+    value_room : length copied ≤ length (part 1 (set out 0 4))
     value_room = rw (value_taken, leads_room kind_leads 1) (omega (arith, value_length value [], level_room))
 
     -- Both make a level that has come.
-    pub level_sent : {z : List ℕ} → z ≡ at_front copied (part 1 (set out 0 4)) → Leads (prefix_bytes (level_come value) []) out (back 1 (set out 0 4) z)
+    level_sent : {z : List ℕ} → z ≡ at_front copied (part 1 (set out 0 4)) → Leads (prefix_bytes (level_come value) []) out (back 1 (set out 0 4) z)
     unfolding prefix_bytes
     level_sent {z} h =
         leads_on kind_leads refl

@@ -1,6 +1,6 @@
 -- What regroup right, regroup left, spread and front read and send: a slice of a nested sequence, cut into pieces once its s has come,
 -- and the prefix sent, which is made of the same pieces.
-use mathlib.Core.Path.{◌≡◌, refl, sym, ap, ◌∙◌, subst}
+use mathlib.Core.Path.{◌≡◌, refl, sym, ap, ◌∙◌}
 use mathlib.Core.List.{List, [], ◌∷◌, ◌++◌, append_assoc}
 use Prim.Native.Nat.{ℕ, ◌+◌, ◌≤◌}
 use native.Mathlib.Omega.{arith}
@@ -10,9 +10,8 @@ use Rattle.stream.specs.Types.{Ty}
 use Rattle.stream.specs.Buffers.{at_front}
 use Rattle.stream.specs.Prefixes.{Prefix, IsPrefix, of_first, of_crossed, of_beside}
 use Rattle.stream.specs.SliceFiles.{prefix_bytes}
-use Rattle.stream.specs.SliceFiles.Laws.{prefix_before, prefix_short, slice_length}
+use Rattle.stream.proofs.SliceFiles.Laws.{prefix_before, prefix_short, slice_length}
 use Rattle.reading.specs.declared.nested.Pieces.{Pieces}
-use Rattle.reading.specs.declared.nested.Shaped.{Shaped}
 use Rattle.reading.specs.declared.nested.Shaped.TheVariants.{Nested, Other}
 use Rattle.reading.specs.declared.prefixes.PrefixPlace.{PrefixPlace}
 use Rattle.reading.specs.SliceReads.{prefix_width, PrefixIn}
@@ -79,49 +78,48 @@ module _ {n : Node} {Cuts : Prefix → Cut → Type 0} {order : ℕ → List ℕ
   pub some_slice : SomeSlice Cuts slice place
   some_slice = record { prefix = due.prefix; slice = cut_in }
 
-  module _ {answer : Shaped} (shapes : Shapes (SliceIn Cuts) Cuts slice place answer) where
-    -- None are found: s is still coming.
-    pub not_cut : answer ≡ Other → Cuts due.prefix uncut
-    not_cut is = go (subst (Told Cuts slice due.prefix) is (shapes.each due.prefix cut_in))
+  -- None are found: s is still coming.
+  pub not_cut : Shapes (SliceIn Cuts) Cuts slice place Other → Cuts due.prefix uncut
+  not_cut shapes = go (shapes.each due.prefix cut_in)
+    where
+      go : Told Cuts slice due.prefix Other → Cuts due.prefix uncut
+      go (told_other none) = none
+
+  -- They are found: they can be written, which makes what is sent.
+  module _ {places : Pieces} (shapes : Shapes (SliceIn Cuts) Cuts slice place (Nested places)) where
+    found : Told Cuts slice due.prefix (Nested places)
+    found = shapes.each due.prefix cut_in
+
+    pub reorder_due : ReorderDue slice places
+    reorder_due = go found
       where
-        go : Told Cuts slice due.prefix Other → Cuts due.prefix uncut
-        go (told_other none) = none
+        go : Told Cuts slice due.prefix (Nested places) → ReorderDue slice places
+        go (told_nested {k = k} {s = s} {t = t} {r = r} pieces_of pieces) =
+            record {
+              kind = k;
+              s = s;
+              t = t;
+              r = r;
+              pieces = pieces;
+              few =
+                  omega (
+                    arith,
+                    reorders.wide due.prefix k s t r pieces_of,
+                    whole_few due,
+                    prefix_bytes_length due.prefix [],
+                  );
+            }
 
-    -- They are found: they can be written, which makes what is sent.
-    module _ {places : Pieces} (is : answer ≡ Nested places) where
-      found : Told Cuts slice due.prefix (Nested places)
-      found = subst (Told Cuts slice due.prefix) is (shapes.each due.prefix cut_in)
-
-      pub reorder_due : ReorderDue slice places
-      reorder_due = go found
-        where
-          go : Told Cuts slice due.prefix (Nested places) → ReorderDue slice places
-          go (told_nested {k = k} {s = s} {t = t} {r = r} pieces_of pieces) =
-              record {
-                kind = k;
-                s = s;
-                t = t;
-                r = r;
-                pieces = pieces;
-                few =
-                    omega (
-                      arith,
-                      reorders.wide due.prefix k s t r pieces_of,
-                      whole_few due,
-                      prefix_bytes_length due.prefix [],
-                    );
-              }
-
-      pub pieces_delivered : {many : ℕ} {out_after : List ℕ} → Reordered (order places.kind) slice places out out_after many
-          → Delivers (sends due.type n due.prefix) (leaves due.type n due.prefix) out remainder out_after (set remainder 0 0) many
-      pieces_delivered {many} {out_after} written = go found
-        where
-          go : Told Cuts slice due.prefix (Nested places)
-              → Delivers (sends due.type n due.prefix) (leaves due.type n due.prefix) out remainder out_after (set remainder 0 0) many
-          go (told_nested {k = k} {s = s} {t = t} {r = r} pieces_of pieces) =
-              delivered due
-              (rw (← pieces.kind) at (reorders.turned due.type due.output_type due.prefix k s t r due.types due.is_prefix pieces_of))
-              (written.each k s t r pieces)
+    pub pieces_delivered : {many : ℕ} {out_after : List ℕ} → Reordered (order places.kind) slice places out out_after many
+        → Delivers (sends due.type n due.prefix) (leaves due.type n due.prefix) out remainder out_after (set remainder 0 0) many
+    pieces_delivered {many} {out_after} written = go found
+      where
+        go : Told Cuts slice due.prefix (Nested places)
+            → Delivers (sends due.type n due.prefix) (leaves due.type n due.prefix) out remainder out_after (set remainder 0 0) many
+        go (told_nested {k = k} {s = s} {t = t} {r = r} pieces_of pieces) =
+            delivered due
+            (rw (← pieces.kind) at (reorders.turned due.type due.output_type due.prefix k s t r due.types due.is_prefix pieces_of))
+            (written.each k s t r pieces)
 
 -- What is put behind the bytes of a prefix.
 onto : (p : Prefix) (r s : List ℕ) → prefix_bytes p r ++ s ≡ prefix_bytes p (r ++ s)
@@ -130,6 +128,7 @@ onto p r s = rw (prefix_before p r, prefix_before p (r ++ s)) (append_assoc (pre
 -- Regroup right: 5 6 b q and 6 6 b c q; and 5 5 p, whose bytes stand behind the first byte.
 
 right_cut : {t u : Ty} {p : Prefix} → Takes t regroup_right u → IsPrefix t p → Known FirstCut p
+right_cut takes_regroup_right (of_crossed (of_first h) d l) = elim d [ ]
 right_cut takes_regroup_right (of_first (of_first h)) = (uncut, first_coming)
 right_cut takes_regroup_right (of_first (of_crossed {b = b} {q = q} h c k)) = (cut 5 (prefix_bytes b []) (prefix_bytes q []) [], first_one)
 right_cut takes_regroup_right (of_crossed {q = r} (of_crossed {b = b} {q = q} h c k) d l) =
@@ -143,6 +142,8 @@ first_width (first_two {b = b} {c = c} {q = q}) = omega (arith, prefix_bytes_len
 right_sent : {ty u : Ty} {p : Prefix} {k : ℕ} {s t r : List ℕ} → Takes ty regroup_right u → IsPrefix ty p → FirstCut p (cut k s t r)
     → Sends ty regroup_right p (regrouped_right 6 k s t r) 0
 unfolding sends leaves node_bytes prefix_bytes
+right_sent takes_regroup_right (of_first (of_first h)) cuts = elim cuts [ ]
+right_sent takes_regroup_right (of_crossed (of_first h) d l) cuts = elim d [ ]
 right_sent takes_regroup_right (of_first (of_crossed h c k)) first_one = record { sent = simp onto; kept = refl }
 right_sent takes_regroup_right (of_crossed (of_crossed h c k) d l) first_two = record { sent = simp onto; kept = refl }
 
@@ -187,6 +188,7 @@ second_width (second_sides {b = b} {q = q} {r = r}) = omega (arith, prefix_bytes
 left_sent : {ty u : Ty} {p : Prefix} {k : ℕ} {s t r : List ℕ} → Takes ty regroup_left u → IsPrefix ty p → SecondCut p (cut k s t r)
     → Sends ty regroup_left p (regrouped_left k 6 s t r) 0
 unfolding sends leaves node_bytes prefix_bytes
+left_sent takes_regroup_left (of_first h) cuts = elim cuts [ ]
 left_sent takes_regroup_left (of_crossed h c (of_first k)) second_one = record { sent = simp onto; kept = refl }
 left_sent takes_regroup_left (of_crossed h c (of_crossed k d l)) second_two = record { sent = simp onto; kept = refl }
 
@@ -212,6 +214,7 @@ spread_cut takes_spread (of_crossed {b = b} h c (of_beside {p = q} {q = r} k l))
 spread_sent : {ty u : Ty} {p : Prefix} {k : ℕ} {s t r : List ℕ} → Takes ty spread u → IsPrefix ty p → SecondCut p (cut k s t r)
     → Sends ty spread p (spread_out 7 6 s t r) 0
 unfolding sends leaves node_bytes prefix_bytes
+spread_sent takes_spread (of_first h) cuts = elim cuts [ ]
 spread_sent takes_spread (of_crossed h c (of_beside k l)) second_sides = record { sent = simp onto; kept = refl }
 
 pub spreads : Reorders spread SecondCut (λ k. spread_out 7 6)

@@ -6,7 +6,7 @@ use Prim.Native.Nat.{ℕ, ◌+◌, ◌-◌, ◌≤◌, ◌<◌}
 use native.Mathlib.Omega.{arith}
 use lib.ListN.{length, take, drop}
 use Rattle.stream.specs.Types.{Ty, Nullable, null_empty, null_par, nullable, size, Small}
-use Rattle.stream.specs.Types.Laws.{nullable_sound, nullable-complete}
+use Rattle.stream.proofs.Types.Laws.{nullable_sound, nullable-complete}
 use Rattle.stream.specs.Buffers.{at_front}
 use Rattle.stream.specs.Prefixes.{Prefix, empty_prefix}
 use Rattle.stream.specs.TypeFiles.{type_bytes}
@@ -16,7 +16,7 @@ use Rattle.reading.specs.TypeReads.Laws.{EndsNullable, type_width, bytes_at}
 use Rattle.reading.specs.SliceReads.{prefix_width}
 use Rattle.reading.specs.SliceReads.Laws.{prefix_bytes_length}
 use Rattle.node.specs.Nodes.{Node, silent, Takes, takes_silent}
-use Rattle.node.specs.Checking.Laws.{WellTyped}
+use Rattle.node.specs.Checking.{WellTyped}
 use Rattle.node.specs.Feeding.Functions.{sends, leaves}
 use Rattle.node.specs.PatchFiles.{node_bytes}
 use Rattle.patch_reading.specs.PatchReads.{node_width}

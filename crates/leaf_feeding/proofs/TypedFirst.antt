@@ -1,7 +1,7 @@
 -- A node that is typed first and then sends: where the type given has room, it is fed, and otherwise no type has room.
 use mathlib.Core.Path.{◌≡◌, refl, sym, ap, ◌∙◌}
 use mathlib.Core.List.{List, []}
-use Prim.Native.Nat.{ℕ, ◌≤◌, ◌<◌}
+use Prim.Native.Nat.{ℕ, ◌≤◌}
 use native.Mathlib.Omega.{arith}
 use lib.ListN.{length}
 use Rattle.stream.specs.declared.Fault.{Fault}
@@ -15,55 +15,34 @@ use Rattle.typing.specs.Typing.{typed, Given}
 use Rattle.typing.specs.Typing.Laws.{IsGiven, is_given}
 use Rattle.node.specs.Nodes.{Node}
 use Rattle.node.specs.Nodes.Functions.{Carries}
-use Rattle.node.specs.Checking.{typing}
-use Rattle.node.specs.Checking.Laws.{WellTyped, typing_sound, typing-complete}
-use Rattle.node.specs.Feeding.Laws.{preserved}
+use Rattle.node.specs.Checking.{typing, WellTyped}
+use Rattle.node.proofs.Checking.Laws.{typing_sound, typing-complete}
+use Rattle.node.proofs.Feeding.Laws.{preserved}
 use Rattle.leaf_feeding.specs.declared.Step.{Step}
 use Rattle.leaf_feeding.specs.declared.Stepped.TheVariants.{Fed, Failed}
 use Rattle.leaf_feeding.specs.Steps.{fed, failed, NodeAnswers, LeafDue}
 use Rattle.leaf_feeding.specs.Steps.Laws.{front_leads, prefix_room}
 use Rattle.leaf_feeding.specs.Reordered.{FitsIn, SendDue, Sent}
 
--- A type has room or not, once one is given.
-
-apart : {A : Type 0} {fault : Fault} {end many : ℕ} → Refuses fault ≡ Gives end many → A
-apart e = let z : ◌≡◌ {A = ℕ} 0 1 = cc in absurd (omega arith)
-
-module _ {told : Typed} {room : ℕ} where
-  pub refused_before : {fault : Fault} → told ≡ Refuses fault → FitsIn told room (Refuses fault)
-  refused_before was = record { gives = λ end many is. apart is; fails = λ fault is end many given fits. apart (sym was ∙ given) }
-
-  module _ {end many : ℕ} (was : told ≡ Gives end many) where
-    pub without_room : (fault : Fault) → room < many → FitsIn told room (Refuses fault)
-    without_room fault less =
-        record {
-          gives = λ next size is. apart is;
-          fails = λ other is next size given fits. let same : many ≡ size = cc in omega arith;
-        }
-
-    pub with_room : many ≤ room → FitsIn told room (Gives end many)
-    with_room enough = record { gives = λ next size is. (was ∙ is, let same : many ≡ size = cc in omega arith); fails = λ fault is. apart (sym is) }
-
 module _ (n : Node) (carries : Carries n) {types slice : List ℕ} {input : Input} {end : ℕ} {out remainder given given_after : List ℕ}
-    {told answer : Typed} (typed_as : Given (λ t. typing t n) types input.ty end given given_after told) (fits : FitsIn told (length given_after) answer)
-    (due : LeafDue types slice input out remainder given) where
+    {told : Typed} (typed_as : Given (λ t. typing t n) types input.ty end given given_after told) (due : LeafDue types slice input out remainder given) where
   abbrev outcome_told : told ≡ typed end (typing due.type n)
   outcome_told = (typed_as.each due.type due.stands.type_in).answers
 
   kept : length given_after ≡ length given
   kept = (typed_as.each due.type due.stands.type_in).long
 
-  pub typed_failed : {fault : Fault} {out_after remainder_after given_now : List ℕ} → answer ≡ Refuses fault
+  pub typed_failed : {fault : Fault} {out_after remainder_after given_now : List ℕ} → FitsIn told (length given_after) (Refuses fault)
       → NodeAnswers end due.type n due.prefix out remainder given out_after remainder_after given_now Failed
   unfolding typed
-  typed_failed {fault} is =
+  typed_failed {fault} fits =
       failed
       (λ t well room.
-      fits.fails fault is end (size t) (outcome_told ∙ ap (typed end) (typing-complete well.types well.fits)) (omega (arith, kept)))
+      fits.fails fault refl end (size t) (outcome_told ∙ ap (typed end) (typing-complete well.types well.fits)) (omega (arith, kept)))
 
-  module _ {next many : ℕ} (is : answer ≡ Gives next many) where
+  module _ {next many : ℕ} (fits : FitsIn told (length given_after) (Gives next many)) where
     gave : IsGiven end next many (typing due.type n)
-    gave = is_given end (typing due.type n) (sym (fits.gives next many is).0 ∙ outcome_told)
+    gave = is_given end (typing due.type n) (sym (fits.gives next many refl).0 ∙ outcome_told)
 
     pub typed_ends : next ≡ end
     typed_ends = gave.ends
@@ -72,7 +51,7 @@ module _ (n : Node) (carries : Carries n) {types slice : List ℕ} {input : Inpu
     well_typed = typing_sound due.type n gave.type carries gave.given
 
     type_room : size gave.type ≤ length given
-    type_room = omega (arith, gave.sized, (fits.gives next many is).1, kept)
+    type_room = omega (arith, gave.sized, (fits.gives next many refl).1, kept)
 
     -- What it sends has room ..
     pub send_due : SendDue n slice input.prefix out remainder

@@ -11,7 +11,7 @@ use Rattle.reading.specs.TypeReads.{TypeIn}
 use Rattle.reading.specs.SliceReads.{prefix_width, PrefixIn}
 use Rattle.reading.specs.Inputs.{InputAt}
 use Rattle.node.specs.Nodes.{Node, silent, emit_cue, second}
-use Rattle.node.specs.Checking.Laws.{WellTyped}
+use Rattle.node.specs.Checking.{WellTyped}
 use Rattle.node.specs.Feeding.Functions.{sends, leaves}
 use Rattle.node.specs.PatchFiles.{node_bytes}
 use Rattle.patch_reading.specs.PatchReads.{node_width, NodeAt}

@@ -1,6 +1,8 @@
 // One feed of a node without parts: what it sends, written on `out`, the node left, written on `remainder`, and the type that it gives,
 // written on `given`. All three are work bytes; what is behind may be anything afterwards. A node fails if its type lacks the shape that
 // it takes, and if there is no room for the type that it gives. Where that has room, what is sent has.
+#![tactic(auto)]
+
 ghost use Rattle.std.specs.Prelude.{◌≡◌, ◌≤◌, length};
 ghost use Rattle.reading.specs.SliceReads.{SomePrefixIn};
 ghost use Rattle.node.specs.Nodes.{pass, left_side, right_side, first, second};
@@ -15,7 +17,7 @@ pub mod reordered;
 
 // How a feed leaves a node: where the node ends, how many bytes it sends, how many the node left has, and how many nodes the type
 // that it gives.
-#[derive(Drop)]
+#[derive(Clone, Copy)]
 pub struct Step {
     pub end: usize,
     pub sent: usize,
@@ -37,7 +39,7 @@ impl Step {
 }
 
 // What a feed answers. Why it failed is for Check's pass to find, which knows the first fault.
-#[derive(Drop)]
+#[derive(Clone, Copy)]
 pub enum Stepped {
     Fed(Step),
     Failed,

@@ -4,11 +4,11 @@ use Rattle.std.proofs.Common.{sym, ap, ◌∙◌, arith, length-append, take_at}
 use mathlib.Core.List.{List, [], ◌∷◌, ◌++◌, append_assoc}
 use Rattle.stream.specs.Types.{Ty, size, Small}
 use Rattle.stream.specs.Prefixes.{Prefix, IsPrefix, empty_prefix}
-use Rattle.stream.specs.Prefixes.Laws.{empty_prefix_is_prefix}
+use Rattle.stream.proofs.Prefixes.Laws.{empty_prefix_is_prefix}
 use Rattle.stream.specs.Buffers.{at_front}
 use Rattle.stream.specs.TypeFiles.{type_bytes}
 use Rattle.stream.specs.SliceFiles.{prefix_bytes}
-use Rattle.stream.specs.SliceFiles.Laws.{prefix_before}
+use Rattle.stream.proofs.SliceFiles.Laws.{prefix_before}
 use Rattle.reading.specs.declared.types.TypePlace.{TypePlace}
 use Rattle.reading.specs.declared.prefixes.PrefixPlace.{PrefixPlace}
 use Rattle.reading.specs.TypeReads.{TypeAt, TypeIn}
@@ -21,11 +21,12 @@ use Rattle.writing.specs.Writing.Laws.{part, back, byte, front_length}
 use Rattle.writing.specs.Appending.Laws.{part_length, back_length}
 use Rattle.node.specs.Nodes.{Node, Takes, count}
 use Rattle.node.specs.Nodes.Functions.{Fits}
-use Rattle.node.specs.Nodes.Laws.{output_type_is}
-use Rattle.node.specs.Checking.Laws.{WellTyped, types_carries}
+use Rattle.node.proofs.Nodes.Laws.{output_type_is}
+use Rattle.node.specs.Checking.{WellTyped}
+use Rattle.node.proofs.Checking.Laws.{types_carries}
 use Rattle.node.specs.Feeding.Functions.{sends, leaves}
-use Rattle.node.specs.Feeding.Laws.{preserved, leaves-count, leaves_fits}
-use Rattle.node.specs.PatchFiles.Laws.{node_length}
+use Rattle.node.proofs.Feeding.Laws.{preserved, leaves-count, leaves_fits}
+use Rattle.node.proofs.PatchFiles.Laws.{node_length}
 use Rattle.patch_reading.specs.PatchReads.{node_width}
 use Rattle.leaf_feeding.specs.declared.Step.{Step}
 use Rattle.leaf_feeding.specs.declared.Stepped.{Stepped}
