@@ -9,7 +9,7 @@ use lib.Seq.{drop-drop}
 use Rattle.stream.specs.Reading.{Reading, read, fault}
 use Rattle.node.specs.Nodes.{Node, pass, silent, emit_cue, emit_level, both, left_side, right_side, first, second, then, chain, regroup_right, regroup_left, spread, front, choose, mark_first, mark_second, count, Few}
 use Rattle.node.specs.PatchFiles.{read_node}
-use Rattle.node.specs.PatchFiles.Laws.{read_node_reads}
+use Rattle.node.proofs.PatchFiles.Laws.{read_node_reads}
 use Rattle.patch_reading.specs.PatchReads.{node_width, NodeAt}
 use Rattle.patch_reading.specs.PatchReads.Laws.{node_drop, Forks, Parts, parts_at}
 use Rattle.feeding.specs.Feeds.{nodes_below}

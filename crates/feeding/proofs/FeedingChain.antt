@@ -8,7 +8,7 @@ use Prim.Native.Nat.{ℕ, ◌+◌, ◌≤◌, ◌<◌}
 use native.Mathlib.Omega.{arith}
 use lib.ListN.{length, get_or, drop, set}
 use Rattle.stream.specs.Types.{Ty, size, Small}
-use Rattle.stream.specs.Types.Laws.{limit_is}
+use Rattle.stream.proofs.Types.Laws.{limit_is}
 use Rattle.stream.specs.Bounds.{slice_file_limit}
 use Rattle.stream.specs.Prefixes.{Prefix, IsPrefix}
 use Rattle.stream.specs.TypeFiles.{type_bytes}
@@ -21,10 +21,10 @@ use Rattle.reading.specs.Inputs.{InputAt}
 use Rattle.writing.specs.Writing.Laws.{part, back}
 use Rattle.writing.specs.Appending.Laws.{back_length}
 use Rattle.node.specs.Nodes.{Node, chain, count}
-use Rattle.node.specs.Nodes.Laws.{output_type_is, output_small}
-use Rattle.node.specs.Checking.Laws.{WellTyped}
+use Rattle.node.proofs.Nodes.Laws.{output_type_is, output_small}
+use Rattle.node.specs.Checking.{WellTyped}
 use Rattle.node.specs.Feeding.Functions.{sends, leaves}
-use Rattle.node.specs.Feeding.Laws.{preserved}
+use Rattle.node.proofs.Feeding.Laws.{preserved}
 use Rattle.node.specs.PatchFiles.{node_bytes}
 use Rattle.patch_reading.specs.PatchReads.{node_width, NodeAt}
 use Rattle.patch_reading.specs.PatchReads.Laws.{chain_forks, Parts as NodeParts, parts_at, node_before}
@@ -95,7 +95,6 @@ pub record SecondAnswered (types slice : List ℕ) (input : Input) (nodes : List
   pub out_after : List ℕ
   pub remainder_part : List ℕ
   pub given_after : List ℕ
-  pub remainder_long : length remainder_part ≡ length (part (1 + half.step.kept) (remainder_now half.first))
   pub feeds : FeedsNode half.first.type_part half.first.sent_part half.passed nodes half.step.end out
       (part (1 + half.step.kept) (remainder_now half.first)) given out_after remainder_part given_after answer
 
@@ -230,13 +229,6 @@ module _ {types slice : List ℕ} {input : Input} {nodes : List ℕ} {from : ℕ
 
   abbrev remainder_after : {answer : Stepped} → SecondAnswered types slice input nodes from out remainder given answer → List ℕ
   remainder_after second = back (1 + second.half.step.kept) (remainder_now second.half.first) second.remainder_part
-
-  pub remainder_kept_on : {answer : Stepped} (second : SecondAnswered types slice input nodes from out remainder given answer)
-      → length (remainder_after second) ≡ length remainder
-  remainder_kept_on second =
-      let first = second.half.first in
-      back_length (1 + second.half.step.kept) (remainder_now first) second.remainder_part (left_inside_now first) second.remainder_long
-      ∙ remainder_kept first
 
   pub second_fails : SecondAnswered types slice input nodes from out remainder given Failed → {out_end remainder_end given_end : List ℕ}
       → ChainAnswer out_end remainder_end given_end Failed

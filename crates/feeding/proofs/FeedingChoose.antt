@@ -9,7 +9,7 @@ use lib.ListN.{length, get_or, take, drop}
 use lib.Seq.{take_at, drop_at, length-take-le}
 use Rattle.stream.specs.declared.Fault.{Fault}
 use Rattle.stream.specs.Types.{Ty, either, size, kind, same_type}
-use Rattle.stream.specs.Types.Laws.{same_type-complete}
+use Rattle.stream.proofs.Types.Laws.{same_type-complete}
 use Rattle.stream.specs.Buffers.{at_front}
 use Rattle.stream.specs.Prefixes.{Prefix, none_chosen, empty_prefix}
 use Rattle.stream.specs.Prefixes.Kinds.{prefix_kind}
@@ -23,12 +23,12 @@ use Rattle.reading.specs.Inputs.Laws.{Unchosen, is_unchosen, is_second_chosen}
 use Rattle.writing.specs.Writing.{EmptyDue, EmptyWritten}
 use Rattle.writing.specs.Writing.Laws.{part, back}
 use Rattle.node.specs.Nodes.{Node, choose, count, Takes, takes_choose}
-use Rattle.node.specs.Nodes.Laws.{output_type_is, output_small}
-use Rattle.node.specs.Checking.{typing}
-use Rattle.node.specs.Checking.Laws.{WellTyped, typing_sound}
+use Rattle.node.proofs.Nodes.Laws.{output_type_is, output_small}
+use Rattle.node.specs.Checking.{typing, WellTyped}
+use Rattle.node.proofs.Checking.Laws.{typing_sound}
 use Rattle.node.specs.Feeding.Functions.{sends, leaves}
 use Rattle.node.specs.PatchFiles.{node_bytes}
-use Rattle.node.specs.PatchFiles.Laws.{node_length}
+use Rattle.node.proofs.PatchFiles.Laws.{node_length}
 use Rattle.patch_reading.specs.PatchReads.{node_width}
 use Rattle.patch_reading.specs.PatchReads.Laws.{Parts as NodeParts, parts_at, choose_forks, bytes_at, ends_inside}
 use Rattle.typing.specs.declared.Typed.{Typed}
@@ -59,10 +59,6 @@ module _ {s t r : Ty} {n l m : Node} (node : n ≡ choose l m) (type : s ≡ eit
 -- Two types that differ are not both the one that choose gives.
 pub tell_apart : {t u whole : Ty} → same_type t u ≡ false → t ≡ whole → u ≡ whole → ⊥
 tell_apart {whole = whole} differ one other = true≢false (sym (same_type-complete whole) ∙ (rw (one, other) at differ))
-
--- A range that begins at a place and has a length goes forward.
-pub forward : (a n : ℕ) → a ≤ a + n
-forward a n = omega arith
 
 -- What leads a part that was lent on stands there when the part has come back.
 pub behind_taken : (a : ℕ) (x : List ℕ) {e y : List ℕ} {n : ℕ} → a ≤ length x → Leads e (part a x) y → n ≡ length e

@@ -23,11 +23,11 @@ use Rattle.reading.specs.Inputs.Laws.{Coming, is_coming}
 use Rattle.writing.specs.Writing.Laws.{part, back}
 use Rattle.writing.specs.Appending.Laws.{back_length}
 use Rattle.node.specs.Nodes.{Node, then}
-use Rattle.node.specs.Checking.{typing}
-use Rattle.node.specs.Checking.Laws.{WellTyped, typing_sound}
+use Rattle.node.specs.Checking.{typing, WellTyped}
+use Rattle.node.proofs.Checking.Laws.{typing_sound}
 use Rattle.node.specs.Feeding.Functions.{sends, leaves}
 use Rattle.node.specs.PatchFiles.{node_bytes}
-use Rattle.node.specs.PatchFiles.Laws.{node_length}
+use Rattle.node.proofs.PatchFiles.Laws.{node_length}
 use Rattle.patch_reading.specs.PatchReads.{node_width, NodeAt}
 use Rattle.patch_reading.specs.PatchReads.Laws.{Parts as NodeParts, node_before, bytes_at, ends_inside}
 use Rattle.typing.specs.declared.Typed.{Typed}
@@ -71,7 +71,6 @@ pub record FirstAnswered (types slice : List ℕ) (input : Input) (nodes : List 
   pub out_part : List ℕ
   pub remainder_part : List ℕ
   pub given_part : List ℕ
-  pub out_long : length out_part ≡ length (part 1 (set out 0 5))
   pub remainder_long : length remainder_part ≡ length (part 1 (set remainder 0 9))
   pub given_long : length given_part ≡ length (part 1 (set given 0 3))
   pub feeds : FeedsNode types slice first nodes (from + 1) (part 1 (set out 0 5)) (part 1 (set remainder 0 9)) (part 1 (set given 0 3))
@@ -192,9 +191,6 @@ module _ {types slice : List ℕ} {input : Input} {nodes : List ℕ} {from : ℕ
     given_begun : Leads (3 ∷ []) given (set given 0 3)
     given_begun = byte_leads 3 room
 
-    pub out_begins : 1 ≤ length (set out 0 5)
-    out_begins = omega (arith, byte_out room, out_begun.long)
-
     pub given_begins : 1 ≤ length (set given 0 3)
     given_begins = omega (arith, room, given_begun.long)
 
@@ -220,9 +216,6 @@ module _ {types slice : List ℕ} {input : Input} {nodes : List ℕ} {from : ℕ
 
   -- The first node has answered: all is as long as it was.
   module _ {answer : Stepped} (first : FirstAnswered types slice input nodes from out remainder given answer) where
-    pub out_kept : length (out_now first) ≡ length out
-    out_kept = back_length 1 (set out 0 5) first.out_part (out_begins first.room) first.out_long ∙ (out_begun first.room).long
-
     pub remainder_kept : length (remainder_now first) ≡ length remainder
     remainder_kept = back_length 1 (set remainder 0 9) first.remainder_part remainder_begins first.remainder_long ∙ remainder_begun.long
 
@@ -426,9 +419,6 @@ module _ {types slice : List ℕ} {input : Input} {nodes : List ℕ} {from : ℕ
 
     pub size_both_inside : 1 + taking.size + whole.other ≤ length given
     size_both_inside = taken_inside sequence_leads
-
-    pub then_kept : length remainder_after ≡ length remainder
-    then_kept = then_leads.leads.long
 
     -- All together is what then has to do.
 

@@ -10,7 +10,7 @@ use lib.ListN.{length, take, drop}
 use lib.Seq.{length-take-le}
 use Rattle.stream.specs.declared.Fault.{Fault}
 use Rattle.stream.specs.Types.{Ty, either, same_type, Small}
-use Rattle.stream.specs.Types.Laws.{limit_is, same_type_sound}
+use Rattle.stream.proofs.Types.Laws.{limit_is, same_type_sound}
 use Rattle.stream.specs.Prefixes.{Prefix, first_chosen}
 use Rattle.stream.specs.TypeFiles.{type_bytes}
 use Rattle.reading.specs.declared.inputs.Input.{Input}
@@ -23,9 +23,9 @@ use Rattle.writing.specs.Writing.Laws.{part, back}
 use Rattle.writing.specs.Appending.Laws.{part_length}
 use Rattle.writing.specs.Comparing.{Compares}
 use Rattle.node.specs.Nodes.{Node, choose}
-use Rattle.node.specs.Nodes.Laws.{output_small}
-use Rattle.node.specs.Checking.{typing}
-use Rattle.node.specs.Checking.Laws.{WellTyped, typing_sound}
+use Rattle.node.proofs.Nodes.Laws.{output_small}
+use Rattle.node.specs.Checking.{typing, WellTyped}
+use Rattle.node.proofs.Checking.Laws.{typing_sound}
 use Rattle.node.specs.Feeding.Functions.{sends, leaves}
 use Rattle.node.specs.PatchFiles.{node_bytes}
 use Rattle.patch_reading.specs.PatchReads.{node_width, NodeAt}

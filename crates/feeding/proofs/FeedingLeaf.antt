@@ -4,9 +4,8 @@ use mathlib.Core.List.{List}
 use Prim.Native.Nat.{ℕ, zero, suc, ◌+◌, ◌<◌}
 use native.Mathlib.Omega.{arith}
 use lib.ListN.{get_or}
-use Rattle.stream.specs.Types.Laws.{limit_is}
+use Rattle.stream.proofs.Types.Laws.{limit_is}
 use Rattle.reading.specs.declared.inputs.Input.{Input}
-use Rattle.reading.specs.SliceReads.{SomePrefixIn}
 use Rattle.node.specs.Nodes.{Node}
 use Rattle.node.specs.PatchFiles.{node_bytes}
 use Rattle.patch_reading.specs.PatchReads.{node_width}
@@ -36,9 +35,6 @@ module _ {types slice : List ℕ} {input : Input} {nodes : List ℕ} {from : ℕ
 
     pub leaf_due : LeafDue types slice input out remainder given
     leaf_due = record { type = due.type; prefix = due.prefix; stands = due.stands; room = leaf_rooms }
-
-    pub some_prefix : SomePrefixIn slice input.prefix
-    some_prefix = record { prefix = due.prefix; here = due.stands.prefix_in }
 
     pub carrying_due : {k : ℕ} → get_or nodes from 0 ≡ k → CarryingDue k nodes from out remainder given
     carrying_due kind = record { node = due.node; node_at = due.node_at; kind = kind; room = leaf_rooms }

@@ -12,7 +12,7 @@ use Rattle.stream.specs.Bounds.{twice_node_bytes}
 use Rattle.stream.specs.Prefixes.{Prefix, IsPrefix}
 use Rattle.stream.specs.TypeFiles.{type_bytes}
 use Rattle.stream.specs.SliceFiles.{prefix_bytes}
-use Rattle.stream.specs.SliceFiles.Laws.{prefix_before}
+use Rattle.stream.proofs.SliceFiles.Laws.{prefix_before}
 use Rattle.reading.specs.TypeReads.Laws.{type_before, type_width}
 use Rattle.reading.specs.SliceReads.{prefix_width}
 use Rattle.reading.specs.SliceReads.Laws.{prefix_bytes_length}
@@ -20,9 +20,9 @@ use Rattle.reading.specs.Inputs.Laws.{width_within}
 use Rattle.writing.specs.Writing.Laws.{part, back}
 use Rattle.writing.specs.Appending.Laws.{back_length}
 use Rattle.node.specs.Nodes.{Node, count}
-use Rattle.node.specs.Checking.Laws.{WellTyped}
+use Rattle.node.specs.Checking.{WellTyped}
 use Rattle.node.specs.Feeding.Functions.{sends, leaves}
-use Rattle.node.specs.Feeding.Laws.{preserved}
+use Rattle.node.proofs.Feeding.Laws.{preserved}
 use Rattle.node.specs.PatchFiles.{node_bytes}
 use Rattle.patch_reading.specs.PatchReads.{node_width, NodeAt}
 use Rattle.patch_reading.specs.PatchReads.Laws.{node_before}
@@ -155,9 +155,6 @@ pub record SecondAnswered (types slice : List ℕ) (parts : Parts) (nodes : List
   pub out_part : List ℕ
   pub remainder_part : List ℕ
   pub given_part : List ℕ
-  pub out_long : length out_part ≡ length (part (1 + half.step.sent) (out_then half.first))
-  pub remainder_long : length remainder_part ≡ length (part half.left (remainder_then half.first))
-  pub given_long : length given_part ≡ length (part (1 + half.step.size) (given_then half.first))
   pub feeds : FeedsNode types slice parts.second nodes half.step.end (part (1 + half.step.sent) (out_then half.first))
       (part half.left (remainder_then half.first)) (part (1 + half.step.size) (given_then half.first))
       out_part remainder_part given_part answer
@@ -384,20 +381,6 @@ module _ {types slice : List ℕ} {parts : Parts} {nodes : List ℕ} {from : ℕ
           rooms = second_rooms;
           left_room = second_left_room;
         }
-
-  -- The second node has answered: again all is as long as it was.
-  module _ {answer : Stepped} (second : SecondAnswered types slice parts nodes from out remainder given answer) where
-    pub out_back_on : length (out_after second) ≡ length out
-    out_back_on =
-        back_length (1 + second.half.step.sent) (out_then second.half.first) second.out_part (out_left second.half.first) second.out_long ∙ out_back second.half.first
-
-    pub remainder_back_on : length (remainder_after second) ≡ length remainder
-    remainder_back_on =
-        back_length second.half.left (remainder_then second.half.first) second.remainder_part (remainder_left second.half) second.remainder_long ∙ remainder_back second.half.first
-
-    pub given_back_on : length (given_after second) ≡ length given
-    given_back_on =
-        back_length (1 + second.half.step.size) (given_then second.half.first) second.given_part (given_left second.half.first) second.given_long ∙ given_back second.half.first
 
   pub second_fails : SecondAnswered types slice parts nodes from out remainder given Failed → {out_end remainder_end given_end : List ℕ}
       → PartsAnswer out_end remainder_end given_end Failed

@@ -14,7 +14,7 @@ use Rattle.reading.specs.SliceReads.Laws.{kind_at}
 use Rattle.reading.specs.Inputs.{InputAt, first_crossed, HalvesDue, HalvesAt, HalvesFound}
 use Rattle.reading.specs.Inputs.Laws.{Crossing, is_crossing}
 use Rattle.node.specs.Nodes.{Node, count, then, Takes, takes_then}
-use Rattle.node.specs.Checking.Laws.{WellTyped}
+use Rattle.node.specs.Checking.{WellTyped}
 use Rattle.node.specs.Feeding.Functions.{sends, leaves}
 use Rattle.patch_reading.specs.PatchReads.{node_width}
 use Rattle.patch_reading.specs.PatchReads.Laws.{Parts as NodeParts, parts_at, then_forks}

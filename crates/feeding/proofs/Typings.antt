@@ -7,9 +7,9 @@ use Rattle.stream.specs.Types.{Ty, seq, either, Small}
 use Rattle.stream.specs.Reading.{refused}
 use Rattle.node.specs.Nodes.{Node, both, then, chain, choose, Takes, takes_both, takes_then, takes_chain, takes_choose}
 use Rattle.node.specs.Nodes.Functions.{Fits}
-use Rattle.node.specs.Nodes.Laws.{output_type_is, output_small}
-use Rattle.node.specs.Checking.{typing}
-use Rattle.node.specs.Checking.Laws.{WellTyped, typing-complete}
+use Rattle.node.proofs.Nodes.Laws.{output_type_is, output_small}
+use Rattle.node.specs.Checking.{typing, WellTyped}
+use Rattle.node.proofs.Checking.Laws.{typing-complete}
 use Rattle.feeding.specs.declared.Pair.TheVariants.{Beside, Crossed}
 use Rattle.feeding.specs.Feeds.{PairTyped}
 
@@ -25,9 +25,9 @@ untyped refuses well =
     omega arith
 
 pub both_parts : {s t : Ty} {n m : Node} → WellTyped s (both n m) t → PairTyped Beside s s n m t
-both_parts {s} {t} {n} {m} typed = go typed.types typed.fits
+both_parts typed = go typed.types typed.fits
   where
-    go : {u : Ty} → Takes s (both n m) u → Fits s (both n m) → PairTyped Beside s s n m u
+    go : {s u : Ty} {n m : Node} → Takes s (both n m) u → Fits s (both n m) → PairTyped Beside s s n m u
     go (takes_both d e) f =
         record {
           first = _;
@@ -45,9 +45,9 @@ both_whole typed small =
     (record { types = whole; fits = (typed.first_typed.fits, typed.second_typed.fits, rw (output_type_is whole) small-whole) })
 
 pub then_parts : {s r t : Ty} {n m : Node} → WellTyped (seq s r) (then n m) t → PairTyped Crossed s r n m t
-then_parts {s} {r} {t} {n} {m} typed = go typed.types typed.fits
+then_parts typed = go typed.types typed.fits
   where
-    go : {u : Ty} → Takes (seq s r) (then n m) u → Fits (seq s r) (then n m) → PairTyped Crossed s r n m u
+    go : {s r u : Ty} {n m : Node} → Takes (seq s r) (then n m) u → Fits (seq s r) (then n m) → PairTyped Crossed s r n m u
     go (takes_then d e) f =
         record {
           first = _;
@@ -72,9 +72,9 @@ pub record ChainTyped (s : Ty) (n m : Node) (t : Ty) : Type 0 where
   pub second_typed : WellTyped middle m t
 
 pub chain_parts : {s t : Ty} {n m : Node} → WellTyped s (chain n m) t → ChainTyped s n m t
-chain_parts {s} {t} {n} {m} typed = go typed.types typed.fits
+chain_parts typed = go typed.types typed.fits
   where
-    go : {u : Ty} → Takes s (chain n m) u → Fits s (chain n m) → ChainTyped s n m u
+    go : {s u : Ty} {n m : Node} → Takes s (chain n m) u → Fits s (chain n m) → ChainTyped s n m u
     go (takes_chain d e) f =
         record {
           middle = _;
@@ -99,9 +99,9 @@ pub record ChooseTyped (s r : Ty) (n m : Node) (t : Ty) : Type 0 where
   pub second_typed : WellTyped r m t
 
 pub choose_parts : {s r t : Ty} {n m : Node} → WellTyped (either s r) (choose n m) t → ChooseTyped s r n m t
-choose_parts {s} {r} {t} {n} {m} typed = go typed.types typed.fits
+choose_parts typed = go typed.types typed.fits
   where
-    go : {u : Ty} → Takes (either s r) (choose n m) u → Fits (either s r) (choose n m) → ChooseTyped s r n m u
+    go : {s r u : Ty} {n m : Node} → Takes (either s r) (choose n m) u → Fits (either s r) (choose n m) → ChooseTyped s r n m u
     go (takes_choose d e) f =
         record { first_typed = record { types = d; fits = f.0 }; second_typed = record { types = e; fits = f.1 } }
 

@@ -7,7 +7,7 @@ use Rattle.stream.specs.Bounds.{twice_node_bytes}
 use Rattle.reading.specs.declared.inputs.Input.{Input}
 use Rattle.reading.specs.Inputs.{InputAt}
 use Rattle.node.specs.Nodes.{Node, both, count, node_limit, Few}
-use Rattle.node.specs.Checking.Laws.{WellTyped}
+use Rattle.node.specs.Checking.{WellTyped}
 use Rattle.node.specs.Feeding.Functions.{sends, leaves}
 use Rattle.node.specs.PatchFiles.{read_node}
 use Rattle.patch_reading.specs.PatchReads.{node_width, NodeAt}

@@ -1,5 +1,7 @@
 // One feed of a node: what it sends, written on `out`, the node left, written on `remainder`, and the type that it gives, written on
 // `given`, as in `leaf_feeding`; or it fails, which it does exactly if Check refuses the node.
+#![tactic(auto)]
+
 ghost use Rattle.std.specs.Prelude.{◌≡◌, ◌+◌, get_or};
 ghost use Rattle.std.proofs.Common.{Fits};
 ghost use Rattle.std.specs.Int.{w64};
@@ -20,14 +22,14 @@ use writing::comparing::same_types;
 use writing::{copy, write_empty};
 
 // How two nodes that are fed in turn belong together: side by side, or as the two parts of a sequence of which the first was crossed.
-#[derive(Drop)]
+#[derive(Clone, Copy)]
 pub enum Pair {
     Beside,
     Crossed,
 }
 
 // What two nodes are fed.
-#[derive(Drop)]
+#[derive(Clone, Copy)]
 pub struct Parts {
     pub pair: Pair,
     pub first: Input,
