@@ -17,7 +17,6 @@ use Rattle.meaning.specs.declared.Written.{Written}
 use Rattle.meaning.specs.declared.Admitted.{Admitted}
 use Rattle.meaning.specs.declared.Fed.{Fed}
 use Rattle.node.specs.Nodes.{Patch}
-pub mod Laws
 pub mod Examples
 
 -- The files of a call are read one after the other, up to the first fault. Admit and Left read "a type file and a slice"; Join a

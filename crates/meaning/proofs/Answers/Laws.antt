@@ -7,29 +7,29 @@ use Rattle.stream.specs.declared.Fault.TheVariants.{CutShort, Unlisted, LeftOver
 use Rattle.stream.specs.Bounds.{type_file_limit, slice_file_limit, patch_file_limit}
 use Rattle.stream.specs.Faults.{number, type_numbers, slice_numbers, patch_numbers, Listed, contains}
 use Rattle.stream.specs.Types.{Ty, par, Small}
-use Rattle.stream.specs.Types.Laws.{and_both}
+use Rattle.stream.proofs.Types.Laws.{and_both}
 use Rattle.stream.specs.Prefixes.{Prefix, beside, IsPrefix, of_beside, empty_prefix, derivative, Concat}
 use Rattle.stream.specs.Prefixes.Functions.{concat}
-use Rattle.stream.specs.Prefixes.Laws.{derivative-size, concat_is_prefix, empty_prefix_is_prefix, left_lane_first, right_lane_first, right_lane_after, left_lane_after, concat-only, concats}
+use Rattle.stream.proofs.Prefixes.Laws.{derivative-size, concat_is_prefix, empty_prefix_is_prefix, left_lane_first, right_lane_first, right_lane_after, left_lane_after, concat-only, concats}
 use Rattle.stream.specs.Reading.{Bytes, Result, accepted, refused, IsAccepted, go_on, require, section_bytes}
-use Rattle.stream.specs.Reading.Laws.{bytes_nil, go_on_accepted, require_accepted}
-use Rattle.stream.specs.Reading.Refusals.{Refusals, go_on_refusals, require_refusals, refusals_too, listed_first, listed_second}
+use Rattle.stream.proofs.Reading.Laws.{bytes_nil, go_on_accepted, require_accepted}
+use Rattle.stream.proofs.Reading.Refusals.{Refusals, go_on_refusals, require_refusals, refusals_too, listed_first, listed_second}
 use Rattle.stream.specs.TypeFiles.{type_bytes, type_file, type_file_bytes, TypeFile}
-use Rattle.stream.specs.TypeFiles.Laws.{type_file-complete, type_file_sound, type_file_length, type_section_is_bytes, type_file_accepted, type_file_refusals}
+use Rattle.stream.proofs.TypeFiles.Laws.{type_file-complete, type_file_sound, type_file_length, type_section_is_bytes, type_file_accepted, type_file_refusals}
 use Rattle.stream.specs.SliceFiles.{slice_file, slice_file_bytes, SliceFile}
-use Rattle.stream.specs.SliceFiles.Laws.{prefix_short, slice_file-complete, slice_file_sound, slice_file_length, slice_file_is_bytes, slice_file_refusals}
+use Rattle.stream.proofs.SliceFiles.Laws.{prefix_short, slice_file-complete, slice_file_sound, slice_file_length, slice_file_is_bytes, slice_file_refusals}
 use Rattle.stream.specs.Longest.{longest_prefix}
-use Rattle.stream.specs.Longest.Laws.{longest_prefix_is_prefix}
+use Rattle.stream.proofs.Longest.Laws.{longest_prefix_is_prefix}
 use Rattle.node.specs.Totals.{Totals, Held, held, totals_bytes}
-use Rattle.node.specs.Totals.Laws.{held_test}
+use Rattle.node.proofs.Totals.Laws.{held_test}
 use Rattle.node.specs.Nodes.{Node, Allowed, Patch, patch_of}
-use Rattle.node.specs.Nodes.Laws.{output_small, allowed_fits}
+use Rattle.node.proofs.Nodes.Laws.{output_small, allowed_fits}
 use Rattle.node.specs.Feeding.{Within}
 use Rattle.node.specs.Feeding.Functions.{patch_left}
-use Rattle.node.specs.Feeding.Laws.{preserved, leaves_allowed}
-use Rattle.node.specs.Feeding.Patches.{within_test}
+use Rattle.node.proofs.Feeding.Laws.{preserved, leaves_allowed}
+use Rattle.node.proofs.Feeding.Patches.{within_test}
 use Rattle.node.specs.PatchFiles.{Checked, node_bytes, patch_file, patch_file_bytes, PatchFile}
-use Rattle.node.specs.PatchFiles.Laws.{patch_file-complete, patch_file_sound, patch_file_accepted, patch_file_length, patch_file_is_bytes, patch_file_refusals}
+use Rattle.node.proofs.PatchFiles.Laws.{patch_file-complete, patch_file_sound, patch_file_accepted, patch_file_length, patch_file_is_bytes, patch_file_refusals}
 use Rattle.meaning.specs.Answers.{takes_slice, number_of, check, admit, left, join, FedFiles, feed, longest, with_room, fits_both, admit_numbers, feed_numbers, first_section, fed_files}
 
 -- No refusal has the number 0, and none has more than two digits.
