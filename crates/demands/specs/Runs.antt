@@ -8,7 +8,6 @@ use Rattle.node.specs.PatchFiles.{PatchFile}
 use Rattle.meaning.specs.declared.Fed.{Fed}
 use Rattle.meaning.specs.Promises.{FeedPromise}
 use Rattle.demands.specs.Calls.{WroteBoth}
-pub mod Laws
 pub mod Files
 
 -- "Feed calls, none or any number, each with a slice file and two buffers of its own, of any bytes and any lengths."

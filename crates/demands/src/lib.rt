@@ -1,1 +1,2 @@
-// The demands are definitions and theorems, in specs/. No code stands above them.
+// Calls and runs are definitions, in specs/; the demands are theorems, in proofs/. No code stands above them.
+#![tactic(auto)]

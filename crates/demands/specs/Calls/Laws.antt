@@ -3,7 +3,7 @@
 use Rattle.std.specs.Prelude.{◌≡◌, ◌↔◌, ◌⊎◌, Bool, List, [], ◌∷◌, ℕ, ◌+◌, ◌≤◌, eqb, drop}
 use Rattle.std.proofs.Math.Path.{refl, ap, ap₂}
 use Rattle.std.proofs.Common.{sym, ◌∙◌, inl, inr, ⊎_elim, arith, le_trans}
-use Rattle.std.proofs.Math.Logic.{Iff·trans}
+use Rattle.std.proofs.Math.Logic.Iff
 use Rattle.std.proofs.Math.Bool.{true, false, true≢false, or-true}
 use Rattle.std.proofs.Math.Dec.{leb}
 use Rattle.std.proofs.Math.ListN.{length, take}
@@ -14,33 +14,33 @@ use Rattle.stream.specs.declared.Fault.TheVariants.{NoRoom, TotalTooLarge}
 use Rattle.stream.specs.Faults.{number, contains, Listed}
 use Rattle.stream.specs.Prefixes.{Prefix, Complete, IsPrefix, arrivals, derivative}
 use Rattle.stream.specs.Prefixes.Functions.{complete, concat}
-use Rattle.stream.specs.Prefixes.Laws.{complete_sound, complete-complete, concats, concat-only, concat_is_prefix, derivative-size, arrivals-concat}
+use Rattle.stream.proofs.Prefixes.Laws.{complete_sound, complete-complete, concats, concat-only, concat_is_prefix, derivative-size, arrivals-concat}
 use Rattle.stream.specs.Reading.{Bytes, Result, accepted, refused, IsAccepted, require, go_on}
-use Rattle.stream.specs.Reading.Laws.{bytes_append, bytes_drop, go_on_accepted}
-use Rattle.stream.specs.Reading.Refusals.{Refusals, refusals_too}
+use Rattle.stream.proofs.Reading.Laws.{bytes_append, bytes_drop, go_on_accepted}
+use Rattle.stream.proofs.Reading.Refusals.{Refusals, refusals_too}
 use Rattle.meaning.specs.declared.Written.{Written}
 use Rattle.meaning.specs.declared.Admitted.{Admitted}
 use Rattle.meaning.specs.declared.Fed.{Fed}
 use Rattle.stream.specs.Bounds.{slice_file_limit, patch_file_limit, arrivals_limit}
 use Rattle.meaning.specs.Answers.{on_patch, takes_slice, with_room, number_of, value_of, as_number, after, fits_one, fits_both, written, admitted, fed, FedFiles, check, left, join, feed, admit, longest, files_of, fed_files, into_both}
-use Rattle.meaning.specs.Answers.Laws.{takes_sound, number_positive, enough_room, room_accepted, room_refusals, both_fit, check_refused_feed, admit_answers, left_answers, joins, admit_accepted, join_accepted, longest_of, longest_accepted, Refuses, WritesSized, FeedsSized}
+use Rattle.meaning.proofs.Answers.Laws.{takes_sound, number_positive, enough_room, room_accepted, room_refusals, both_fit, check_refused_feed, admit_answers, left_answers, joins, admit_accepted, join_accepted, longest_of, longest_accepted, Refuses, WritesSized, FeedsSized}
 use Rattle.meaning.specs.Promises.{Writes, Admits, CheckPromise, AdmitPromise, LeftPromise, JoinPromise, FeedPromise, LongestPromise}
 use Rattle.demands.specs.Calls.{type_and_slice, two_slices, FeedTakes, patch_refused, slice_refused, total_passed, taken, DueFromCheck, DueFromAdmit, DueFromLeft, DueFromJoin, DueFromFeed, DueFromLongest, RoomFor, Wrote, WroteBoth, Decided, is_accepted, is_refused, is_short, TooShortFor, Ty}
 use Rattle.stream.specs.TypeFiles.{type_file, type_file_bytes, TypeFile}
-use Rattle.stream.specs.TypeFiles.Laws.{type_file-complete}
+use Rattle.stream.proofs.TypeFiles.Laws.{type_file-complete}
 use Rattle.stream.specs.Longest.{longest_prefix}
-use Rattle.stream.specs.Longest.Laws.{longest_prefix_is_prefix, longest_prefix-complete, no_file_longer}
+use Rattle.stream.proofs.Longest.Laws.{longest_prefix_is_prefix, longest_prefix-complete, no_file_longer}
 use Rattle.stream.specs.SliceFiles.{slice_file, slice_file_bytes, SliceFile}
-use Rattle.stream.specs.SliceFiles.Laws.{slice_file_sound, few_arrivals}
+use Rattle.stream.proofs.SliceFiles.Laws.{slice_file_sound, few_arrivals}
 use Rattle.node.specs.PatchFiles.{Checked, patch_file}
-use Rattle.node.specs.PatchFiles.Laws.{patch_file_sound}
+use Rattle.node.proofs.PatchFiles.Laws.{patch_file_sound}
 use Rattle.node.specs.Totals.{held}
 use Rattle.node.specs.Nodes.{Allowed, Patch}
 use Rattle.node.specs.Feeding.Functions.{patch_left}
 use Rattle.node.specs.Feeding.{FeedsPatch, Within}
-use Rattle.node.specs.Feeding.Patches.{feeds_patch_only, within_test}
+use Rattle.node.proofs.Feeding.Patches.{feeds_patch_only, within_test}
 use Rattle.stream.specs.Types.{Ty}
-use Rattle.stream.specs.Types.Laws.{and_left, and_right}
+use Rattle.stream.proofs.Types.Laws.{and_left, and_right}
 
 abbrev NotRoom : Fault → Type 0
 NotRoom e = number e ≡ 20 → ⊥
@@ -331,7 +331,7 @@ module _ {o : Result Prefix} {answer : Admitted} (promise : Admits o answer) whe
   unfolding admitted
   admits_complete {p} d =
       rw (ap (λ (a : Admitted). a.complete) (promise.answers ∙ ap admitted d)) (
-        Iff·trans (one_true (complete p)) ((λ e. complete_sound p e), (λ c. complete-complete c)),
+        Iff.trans (one_true (complete p)) ((λ e. complete_sound p e), (λ c. complete-complete c)),
         (λ not. else_zero (complete p) (λ e. not (complete_sound p e))),
       )
 
@@ -494,10 +494,10 @@ admits_few type slice {answer} call b c = go (eqb answer.number 0) refl
         rw (admits_counts call (admits_file both.0 both.1)) (few_arrivals both.1.is_prefix both.0.small)
     go false e = rw (admits_refused call (eqb-false _ _ e)) (omega arith)
 
-module _ (type first second : List ℕ) {lent lent_after left_lent left_After : List ℕ} {joined left_answer : Written} {one next both : Admitted} where
+module _ (type first second : List ℕ) {lent lent_after left_lent left_after : List ℕ} {joined left_answer : Written} {one next both : Admitted} where
   pub join_counts : JoinPromise type first second lent joined lent_after → joined.number ≡ 0
-      → LeftPromise type first left_lent left_answer left_After → left_answer.number ≡ 0
-      → AdmitPromise type first one → AdmitPromise (take left_answer.written left_After) second next
+      → LeftPromise type first left_lent left_answer left_after → left_answer.number ≡ 0
+      → AdmitPromise type first one → AdmitPromise (take left_answer.written left_after) second next
       → AdmitPromise type (take joined.written lent_after) both → Bytes type → Bytes first → Bytes second
       → (both.number ≡ 0) × (both.arrived ≡ one.arrived + next.arrived)
   join_counts joins-call zero left-call left-zero first-admits second-admits both-admits b c d =
@@ -513,9 +513,9 @@ module _ (type first second : List ℕ) {lent lent_after left_lent left_After : 
       let small = le_trans (derivative-size p.is_prefix) t.small in
       let joined_is : take joined.written lent_after ≡ slice_file_bytes whole
       = wrote.in_front ∙ (let e = wrote.due in let f = joins t p q (concats q.prefix p.is_prefix q.is_prefix) in cc) in
-      let left_is : take left_answer.written left_After ≡ type_file_bytes rest
+      let left_is : take left_answer.written left_after ≡ type_file_bytes rest
       = remained.in_front ∙ (let e = remained.due in let f = rw (t.bytes, p.bytes) at (left_answers t.small p.is_prefix) in cc) in
-      let rest-file : TypeFile (take left_answer.written left_After) = record { type = rest; small = small; bytes = sym left_is } in
+      let rest-file : TypeFile (take left_answer.written left_after) = record { type = rest; small = small; bytes = sym left_is } in
       let whole-file : SliceFile t.type (take joined.written lent_after) = record { prefix = whole; is_prefix = is_prefix; bytes = sym joined_is } in (
         (admits_zero both-admits).1 (whole, admits_file t whole-file),
         admits_counts both-admits (admits_file t whole-file) ∙ arrivals-concat q.prefix p.is_prefix q.is_prefix

@@ -2,42 +2,44 @@
 use Rattle.std.proofs.Math.Path.{◌≡◌, refl, ap}
 use Rattle.std.proofs.Common.{sym, ap₂, ◌∙◌, ⊎_elim, arith, length-append, eqb-true, le_trans}
 use Rattle.std.specs.Prelude.{Bool, true, false, ◌↔◌, ℕ, ◌+◌, ◌≤◌, eqb, length, take, drop}
-use Rattle.std.proofs.Math.Logic.{Iff·trans}
+use Rattle.std.proofs.Math.Logic.Iff
 use mathlib.Core.List.{List, [], ◌∷◌, ◌++◌, map, append-nil, append_assoc}
 use Rattle.std.proofs.Math.Seq.{take-append_seam}
 use Rattle.std.proofs.lemmas.Bool.{eqb-false}
 use Rattle.stream.specs.Bounds.{arrivals_limit}
 use Rattle.stream.specs.Types.{Ty, Small}
 use Rattle.stream.specs.Prefixes.{Prefix, IsPrefix, Opens, arrivals, derivative}
-use Rattle.stream.specs.Prefixes.Laws.{closed_derivative, closed_arrivals, concat_is_prefix, derivative-concat, concats, concat-only, derivative-size}
+use Rattle.stream.proofs.Prefixes.Laws.{closed_derivative, closed_arrivals, concat_is_prefix, derivative-concat, concats, concat-only, derivative-size}
 use Rattle.stream.specs.Reading.{Bytes, accepted}
 use Rattle.stream.specs.SliceFiles.{slice_file, slice_file_bytes, SliceFile}
-use Rattle.stream.specs.SliceFiles.Laws.{prefix_short, few_arrivals, slice_file-complete}
+use Rattle.stream.proofs.SliceFiles.Laws.{prefix_short, few_arrivals, slice_file-complete}
 use Rattle.node.specs.Totals.{Held}
-use Rattle.node.specs.Totals.Laws.{held_test}
+use Rattle.node.proofs.Totals.Laws.{held_test}
 use Rattle.node.specs.Nodes.{Node, Allowed, Patch}
 use Rattle.node.specs.Feeding.{Feeds, FeedsPatch, Within}
 use Rattle.node.specs.Feeding.Functions.{sends, leaves, patch_left}
-use Rattle.node.specs.Feeding.Laws.{Preserved, preserved, leaves_allowed}
-use Rattle.node.specs.Feeding.Patches.{feeds_patch, feeds_patch_only, within_test, FeedsAll, feeds_all, patch_left_all, patch_left-none, patch_left_next, patch_left-concat_all, as_one_feed, held_along, held_first, within_held}
-use Rattle.node.specs.Feeding.Lists.{Pieces, no_more, piece, concat_all, derivative_all, sends_all, arrivals_all, arrivals-concat_all, sends_pieces, derivative-concat_all, leaves_all_allowed}
+use Rattle.node.proofs.Feeding.Laws.{Preserved, preserved, leaves_allowed}
+use Rattle.node.specs.Feeding.Patches.{FeedsAll, patch_left_all}
+use Rattle.node.proofs.Feeding.Patches.{feeds_patch, feeds_patch_only, within_test, feeds_all, patch_left-none, patch_left_next, patch_left-concat_all, as_one_feed, held_along, held_first, within_held}
+use Rattle.node.specs.Feeding.Lists.{Pieces, no_more, piece, concat_all, derivative_all, sends_all, arrivals_all}
+use Rattle.node.proofs.Feeding.Lists.{arrivals-concat_all, sends_pieces, derivative-concat_all, leaves_all_allowed}
 use Rattle.node.specs.PatchFiles.{patch_file_bytes, PatchFile, patch_file, Checked}
 use Rattle.stream.specs.Buffers.{at_front}
 use Rattle.meaning.specs.declared.Written.{Written}
 use Rattle.meaning.specs.declared.Admitted.{Admitted}
 use Rattle.meaning.specs.declared.Fed.{Fed}
 use Rattle.meaning.specs.Answers.{FedFiles, feed, files_of, fed_files}
-use Rattle.meaning.specs.Answers.Laws.{admit_answers, feed_answers, fed_patch, fed_piece, feed_passed, feed_refuses, longest_answers}
+use Rattle.meaning.proofs.Answers.Laws.{admit_answers, feed_answers, fed_patch, fed_piece, feed_passed, feed_refuses, longest_answers}
 use Rattle.meaning.specs.Promises.{AdmitPromise, FeedPromise, LongestPromise}
 use Rattle.demands.specs.Calls.{WroteBoth}
 use Rattle.demands.specs.Calls.Laws.{writes_accepted, admits_counts, feeds_exactly, feeds_accepted, feeds_refused, feeds_aside, feeds_number, feed_kept, feeds_alike, left-only}
 use Rattle.demands.specs.Runs.{Call, ByteSlices, RunEnd, Ran, no_call, accepted_call, refused_call, Joined, alone, and_next, AsOne, Faithful, Through, NoneShort, handed, NoneLonger}
 use Rattle.stream.specs.Prefixes.Functions.{concat}
-use Rattle.node.specs.Nodes.Laws.{output_small, allowed_fits}
+use Rattle.node.proofs.Nodes.Laws.{output_small, allowed_fits}
 use Rattle.stream.specs.TypeFiles.{type_file_bytes}
 use Rattle.stream.specs.Longest.{longest_prefix}
-use Rattle.stream.specs.Longest.Laws.{no_file_longer, no_file_longer_later, longest-slice_file}
-use Rattle.node.specs.PatchFiles.Laws.{patch_file-complete}
+use Rattle.stream.proofs.Longest.Laws.{no_file_longer, no_file_longer_later, longest-slice_file}
+use Rattle.node.proofs.PatchFiles.Laws.{patch_file-complete}
 
 -- Where a run has come to, by trees.
 record Traced (a : Patch) (r : RunEnd) : Type 0 where
@@ -96,9 +98,9 @@ joined_on : {s : Ty} {p : Prefix} (done : List (List ℕ)) (ps : List Prefix) �
     → Joined s (done ++ map slice_file_bytes ps) (concat_all p ps)
 unfolding concat_all
 joined_on done [] j h k = rw (append-nil done) j
-joined_on done (q ∷ ps) j h (piece k r) =
+joined_on {p = p} done (q ∷ ps) j h (piece k r) =
     rw (← append_assoc done (slice_file_bytes q ∷ []) (map slice_file_bytes ps))
-    (joined_on (done ++ slice_file_bytes q ∷ []) ps (and_next j k (concats q h k)) (concat_is_prefix q h k) (rw (derivative-concat q h k) r))
+    (joined_on {p = concat p q} (done ++ slice_file_bytes q ∷ []) ps (and_next j k (concats q h k)) (concat_is_prefix q h k) (rw (derivative-concat q h k) r))
 
 joined_all : {s : Ty} {p : Prefix} (ps : List Prefix) → IsPrefix s p → Pieces (derivative s p) ps
     → Joined s (slice_file_bytes p ∷ map slice_file_bytes ps) (concat_all p ps)
@@ -301,8 +303,8 @@ run_through {r = r} [] more ran =
 run_through (c ∷ calls) more (refused_call k z ran) =
     let t = run_through calls more ran in
     record { so_far = t.so_far; ran = refused_call k z t.ran; rest = t.rest; goes_on = t.goes_on; comes_to = t.comes_to }
-run_through (c ∷ calls) more (accepted_call {answer = answer} {output_after = output} {r = r} k z ran) =
-    let t = run_through calls more ran in
+run_through (c ∷ calls) more (accepted_call {answer = answer} {output_after = output} {patch_after = left} {r = r} k z ran) =
+    let t = run_through {start = take answer.patch left} calls more ran in
     let came : answer.arrived + r.arrived ≡ answer.arrived + t.so_far.arrived + t.rest.arrived
     = omega (arith, ap (λ (e : RunEnd). e.arrived) t.comes_to) in
     let went : answer.sent + r.sent ≡ answer.sent + t.so_far.sent + t.rest.sent = omega (arith, ap (λ (e : RunEnd). e.sent) t.comes_to) in
@@ -346,7 +348,7 @@ runs_alike (c ∷ calls) (accepted_call h x ran) (refused_call k y also) = absur
 runs_alike (c ∷ calls) (accepted_call {answer = a} {output_after = o} {patch_after = l} h x ran) (accepted_call {answer = b} {output_after = u} {patch_after = v} {r = q} k y also) =
     let e = feeds_alike h k in
     let next : take b.patch v ≡ take a.patch l = λ i. take (sym e.0 i).patch (sym e.2 i) in
-    let d = runs_alike calls ran (rw next at also) in
+    let d = runs_alike {start = take a.patch l} calls ran (rw next at also) in
     λ i. record {
       file = (d i).file;
       slices = c.slice ∷ (d i).slices;
@@ -461,7 +463,7 @@ one_patch {file} a b =
 pub feeds_passed : {file slice output_lent patch_lent output_after patch_after : List ℕ} {answer : Fed}
     → FeedPromise file slice output_lent patch_lent answer output_after patch_after → (patch : PatchFile file) → Bytes slice
     → answer.number ≡ 31 ↔ ((taken : SliceFile patch.trees.input slice) × (Within patch.trees taken.prefix → ⊥))
-feeds_passed {slice = slice} call patch b = Iff·trans (feeds_number call 31 (λ e. omega (arith, e)) (λ e. omega (arith, e))) (feed_passed slice patch b)
+feeds_passed {slice = slice} call patch b = Iff.trans (feeds_number call 31 (λ e. omega (arith, e)) (λ e. omega (arith, e))) (feed_passed slice patch b)
 
 pub run_totals : {start : List ℕ} {calls : List Call} {r : RunEnd} → Ran start calls r → (patch : PatchFile start) → ByteSlices calls
     → (next : PatchFile r.file)
@@ -487,8 +489,8 @@ pieces_last : {t : Ty} {p q : Prefix} (ps : List Prefix) → IsPrefix t p → Pi
     → Pieces (derivative t p) (ps ++ q ∷ [])
 unfolding concat_all
 pieces_last [] h k l = piece l no_more
-pieces_last {q = q} (x ∷ ps) h (piece i k) l =
-    piece {ps = ps ++ q ∷ []} i (rw (← derivative-concat x h i) (pieces_last ps (concat_is_prefix x h i) (rw (derivative-concat x h i) k) l))
+pieces_last {p = p} {q = q} (x ∷ ps) h (piece i k) l =
+    piece {ps = ps ++ q ∷ []} i (rw (← derivative-concat x h i) (pieces_last {p = concat p x} ps (concat_is_prefix x h i) (rw (derivative-concat x h i) k) l))
 
 concat_all_last : (p q : Prefix) (ps : List Prefix) → concat_all p (ps ++ q ∷ []) ≡ concat (concat_all p ps) q
 unfolding concat_all
@@ -561,9 +563,9 @@ cut_anyhow {start} {slice} {calls = calls} {p = p} call zero patch b j e ran sho
 
 pieces_fit : {t : Ty} {n : ℕ} (ps : List Prefix) → Pieces t ps → length (slice_file_bytes (longest_prefix t)) ≤ n → NoneLonger n (map slice_file_bytes ps)
 pieces_fit [] no_more h = tt
-pieces_fit (p ∷ ps) (piece k rest) h = (
+pieces_fit {t = t} (p ∷ ps) (piece k rest) h = (
   le_trans (no_file_longer (record { prefix = p; is_prefix = k; bytes = refl })) h,
-  pieces_fit ps rest (le_trans (no_file_longer_later k (longest-slice_file _)) h),
+  pieces_fit {t = derivative t p} ps rest (le_trans (no_file_longer_later k (longest-slice_file _)) h),
 )
 
 -- What Longest tells of a type of at most 255 nodes.

@@ -1,5 +1,5 @@
 -- The user's three demands, whole and in order, and behind them what a request of document 02 demands. A statement takes the promise
--- of the call that it speaks of: the very proposition that is the `ensures` of that operation (crates/wosthile/src/exports.rt), with
+-- of the call that it speaks of: the very proposition that is the `ensures` of that operation (crates/wosthile_c/src/lib.rt), with
 -- the bytes handed in, the answer, and each lent buffer as it is afterwards. The prover shows the promise of every call, so nobody
 -- has to read it. What a reader has to believe is what the conclusions are written in: reading with the first fault (TypeFiles,
 -- SliceFiles, PatchFiles, Checking), the rules (IsPrefix and Concat in Prefixes, Takes and Allowed in Nodes, Feeds and Within in
@@ -8,7 +8,7 @@
 -- says that a list of numbers is one of bytes, as whatever a byte slice holds is; nobody has to test it. `Consequences` has what else
 -- follows; the laws have the proofs.
 use Rattle.std.specs.Prelude.{◌≡◌, ◌↔◌, List, [], ◌∷◌, ◌++◌, ℕ, ◌+◌, ◌≤◌, length, take}
-use Rattle.std.proofs.Math.Logic.{Iff·trans}
+use Rattle.std.proofs.Math.Logic.Iff
 use Rattle.stream.specs.Bounds.{type_file_limit, slice_file_limit, patch_file_limit}
 use Rattle.stream.specs.Prefixes.{Prefix, arrivals, derivative}
 use Rattle.stream.specs.Reading.{Bytes, Result}
@@ -22,12 +22,12 @@ use Rattle.meaning.specs.declared.Written.{Written}
 use Rattle.meaning.specs.declared.Admitted.{Admitted}
 use Rattle.meaning.specs.declared.Fed.{Fed}
 use Rattle.meaning.specs.Answers.{files_of}
-use Rattle.meaning.specs.Answers.Laws.{check_accepted, admit_accepted, left_accepted, join_accepted, feed_accepted, feed_accepted_of_bytes, longest_accepted, check_sized, left_sized, join_sized, longest_sized, feed_sized, feed_sized_of_bytes}
+use Rattle.meaning.proofs.Answers.Laws.{check_accepted, admit_accepted, left_accepted, join_accepted, feed_accepted, feed_accepted_of_bytes, longest_accepted, check_sized, left_sized, join_sized, longest_sized, feed_sized, feed_sized_of_bytes}
 use Rattle.meaning.specs.Promises.{CheckPromise, AdmitPromise, LeftPromise, JoinPromise, FeedPromise, LongestPromise}
 use Rattle.demands.specs.Calls.{type_and_slice, two_slices, FeedTakes, DueFromCheck, DueFromAdmit, DueFromLeft, DueFromJoin, DueFromFeed, DueFromLongest, Decided, WroteBoth}
 use Rattle.demands.specs.Calls.Laws.{check_decided, admit_decided, left_decided, join_decided, feed_decided, longest_decided, check_kept, admit_kept, left_kept, join_kept, feed_kept, longest_kept, writes_zero, admits_zero, admits_counts, feeds_zero, feeds_as_check, none_admitted_longer, longest_admits, admits_file, join_counts}
 use Rattle.demands.specs.Runs.{Call, ByteSlices, RunEnd, Ran, NoneShort, handed, Joined, Faithful, Through}
-use Rattle.demands.specs.Runs.Laws.{feed_by_rules, feed_defined, run_faithful, run_faithful_so_far, every_list_runs, feeds_passed, run_totals, cut_anyhow}
+use Rattle.demands.proofs.Runs.Laws.{feed_by_rules, feed_defined, run_faithful, run_faithful_so_far, every_list_runs, feeds_passed, run_totals, cut_anyhow}
 
 -- Demand 1. "A patch, type or slice handed in, whatever its bytes and length, is accepted or is refused with the number that
 -- document 01 gives for its first fault. (`Decided`, by what the files are read as and by the files that are then due. The rules
@@ -81,7 +81,7 @@ promises_can_be_kept = (check_kept, admit_kept, left_kept, join_kept, feed_kept,
 
 pub demand_2_patch : (file : List ℕ) {lent lent_after : List ℕ} {answer : Written} → CheckPromise file lent answer lent_after
     → Bytes file → type_file_limit ≤ length lent → answer.number ≡ 0 ↔ PatchFile file
-demand_2_patch file call b h = Iff·trans (writes_zero call (check_sized file b) h) (check_accepted file b)
+demand_2_patch file call b h = Iff.trans (writes_zero call (check_sized file b) h) (check_accepted file b)
 
 pub demand_2_patch_fed : {file slice lent lent_after output_lent patch_lent output_after patch_after : List ℕ} {checked : Written} {answer : Fed}
     → CheckPromise file lent checked lent_after → FeedPromise file slice output_lent patch_lent answer output_after patch_after
@@ -95,32 +95,32 @@ pub demand_2_slice : {file slice output_lent patch_lent output_after patch_after
     → FeedPromise file slice output_lent patch_lent answer output_after patch_after → (patch : PatchFile file) → Bytes slice
     → slice_file_limit ≤ length output_lent → patch_file_limit ≤ length patch_lent
     → answer.number ≡ 0 ↔ ((taken : SliceFile patch.trees.input slice) × Within patch.trees taken.prefix)
-demand_2_slice {slice = slice} call patch b h k = Iff·trans (feeds_zero call (feed_sized slice patch b) h k) (feed_accepted slice patch b)
+demand_2_slice {slice = slice} call patch b h k = Iff.trans (feeds_zero call (feed_sized slice patch b) h k) (feed_accepted slice patch b)
 
 pub demand_2_feed : {file slice output_lent patch_lent output_after patch_after : List ℕ} {answer : Fed}
     → FeedPromise file slice output_lent patch_lent answer output_after patch_after → Bytes file → Bytes slice
     → slice_file_limit ≤ length output_lent → patch_file_limit ≤ length patch_lent
     → answer.number ≡ 0 ↔ ((patch : PatchFile file) × (taken : SliceFile patch.trees.input slice) × Within patch.trees taken.prefix)
-demand_2_feed call b c h k = Iff·trans (feeds_zero call (feed_sized_of_bytes _ _ b c) h k) (feed_accepted_of_bytes _ _ b c)
+demand_2_feed call b c h k = Iff.trans (feeds_zero call (feed_sized_of_bytes _ _ b c) h k) (feed_accepted_of_bytes _ _ b c)
 
 pub demand_2_admit : (type slice : List ℕ) {answer : Admitted} → AdmitPromise type slice answer → Bytes type → Bytes slice
     → answer.number ≡ 0 ↔ ((t : TypeFile type) × SliceFile t.type slice)
-demand_2_admit type slice call b c = Iff·trans (admits_zero call) (admit_accepted type slice b c)
+demand_2_admit type slice call b c = Iff.trans (admits_zero call) (admit_accepted type slice b c)
 
 pub demand_2_left : (type slice : List ℕ) {lent lent_after : List ℕ} {answer : Written} → LeftPromise type slice lent answer lent_after
     → Bytes type → Bytes slice → type_file_limit ≤ length lent → answer.number ≡ 0 ↔ ((t : TypeFile type) × SliceFile t.type slice)
-demand_2_left type slice call b c h = Iff·trans (writes_zero call (left_sized type slice b c) h) (left_accepted type slice b c)
+demand_2_left type slice call b c h = Iff.trans (writes_zero call (left_sized type slice b c) h) (left_accepted type slice b c)
 
 pub demand_2_join : (type first second : List ℕ) {lent lent_after : List ℕ} {answer : Written} → JoinPromise type first second lent answer lent_after
     → Bytes type → Bytes first → Bytes second → slice_file_limit ≤ length lent
     → answer.number ≡ 0 ↔ ((t : TypeFile type) × (p : SliceFile t.type first) × SliceFile (derivative t.type p.prefix) second)
-demand_2_join type first second call b c d h = Iff·trans (writes_zero call (join_sized type first second b c d) h) (join_accepted type first second b c d)
+demand_2_join type first second call b c d h = Iff.trans (writes_zero call (join_sized type first second b c d) h) (join_accepted type first second b c d)
 
 -- (Longest takes no slice: a type, exactly when it is one.)
 
 pub demand_2_longest : (type : List ℕ) {lent lent_after : List ℕ} {answer : Written} → LongestPromise type lent answer lent_after
     → Bytes type → slice_file_limit ≤ length lent → answer.number ≡ 0 ↔ TypeFile type
-demand_2_longest type call b h = Iff·trans (writes_zero call (longest_sized type b) h) (longest_accepted type b)
+demand_2_longest type call b h = Iff.trans (writes_zero call (longest_sized type b) h) (longest_accepted type b)
 
 -- Given long enough buffers, a feed sends the output and leaves the patch that those rules define." (For every prefix they define an
 -- output and a patch, and no other: one_rule in Consequences.)
@@ -185,10 +185,10 @@ admit-counts type slice call t p = admits_counts call (admits_file t p)
 -- Joining two slices adds their counts." (Admit accepts the file that Join wrote, and tells the sum of what it tells of the two slices, of
 -- the second for the type that Left wrote.)
 
-pub joining_adds : (type first second : List ℕ) {lent lent_after left_lent left_After : List ℕ} {joined left : Written} {one next both : Admitted}
+pub joining_adds : (type first second : List ℕ) {lent lent_after left_lent left_after : List ℕ} {joined left : Written} {one next both : Admitted}
     → JoinPromise type first second lent joined lent_after → joined.number ≡ 0
-    → LeftPromise type first left_lent left left_After → left.number ≡ 0
-    → AdmitPromise type first one → AdmitPromise (take left.written left_After) second next
+    → LeftPromise type first left_lent left left_after → left.number ≡ 0
+    → AdmitPromise type first one → AdmitPromise (take left.written left_after) second next
     → AdmitPromise type (take joined.written lent_after) both → Bytes type → Bytes first → Bytes second
     → (both.number ≡ 0) × (both.arrived ≡ one.arrived + next.arrived)
 joining_adds type first second join zero left left-zero one next both b c d = join_counts type first second join zero left left-zero one next both b c d

@@ -5,32 +5,33 @@
 use Rattle.std.specs.Prelude.{◌≡◌, true, ◌↔◌, ◌⊎◌, List, ◌∷◌, ℕ, ◌≤◌, length, take}
 use Rattle.std.proofs.Math.Path.{refl}
 use Rattle.std.proofs.Common.{sym, ◌∙◌}
-use Rattle.std.proofs.Math.Logic.{Iff·trans}
+use Rattle.std.proofs.Math.Logic.Iff
 use Rattle.stream.specs.Bounds.{type_file_limit, slice_file_limit, patch_file_limit, arrivals_limit}
 use Rattle.stream.specs.Faults.{type_numbers, patch_numbers, contains}
 use Rattle.stream.specs.Types.{Ty, par, Small}
 use Rattle.stream.specs.Prefixes.{Prefix, cue_awaited, level_awaited, beside, IsPrefix, Complete, empty_prefix, Opens, arrivals, derivative, Concat}
-use Rattle.stream.specs.Prefixes.Laws.{concats, concat-only}
+use Rattle.stream.proofs.Prefixes.Laws.{concats, concat-only}
 use Rattle.stream.specs.Reading.{Bytes, Result, accepted}
 use Rattle.stream.specs.TypeFiles.{type_file_bytes, TypeFile}
 use Rattle.stream.specs.SliceFiles.{slice_file_bytes, SliceFile}
 use Rattle.stream.specs.Longest.{longest_prefix}
 use Rattle.node.specs.Nodes.{Node, emit_cue, emit_level, Patch, Allowed}
 use Rattle.node.specs.Feeding.{Feeds, feeds_cue_waiting, feeds_level_waiting, FeedsPatch, Within}
-use Rattle.node.specs.Feeding.Laws.{feeds, feeds_only}
+use Rattle.node.proofs.Feeding.Laws.{feeds, feeds_only}
 use Rattle.node.specs.PatchFiles.{patch_file_bytes, PatchFile}
 use Rattle.meaning.specs.declared.Written.{Written}
 use Rattle.meaning.specs.declared.Admitted.{Admitted}
 use Rattle.meaning.specs.declared.Fed.{Fed}
 use Rattle.meaning.specs.Answers.{check, left, join, feed, longest, files_of, fits_one, fits_both, admit_numbers, feed_numbers}
-use Rattle.meaning.specs.Answers.Laws.{lanes_join, check_accepted, left_accepted, join_accepted, feed_accepted_of_bytes, longest_accepted, longest_of, check_answers, admit_answers, left_answers, joins, check_refuses, admit_refuses, left_refuses, join_refuses, feed_refuses, longest_refuses, check_sized, left_sized, join_sized, feed_sized_of_bytes, longest_sized}
+use Rattle.meaning.proofs.Answers.Laws.{lanes_join, check_accepted, left_accepted, join_accepted, feed_accepted_of_bytes, longest_accepted, longest_of, check_answers, admit_answers, left_answers, joins, check_refuses, admit_refuses, left_refuses, join_refuses, feed_refuses, longest_refuses, check_sized, left_sized, join_sized, feed_sized_of_bytes, longest_sized}
 use Rattle.meaning.specs.Promises.{CheckPromise, AdmitPromise, LeftPromise, JoinPromise, FeedPromise, LongestPromise}
 use Rattle.demands.specs.Calls.{FeedTakes, Wrote, WroteBoth, TooShortFor}
 use Rattle.demands.specs.Calls.Laws.{writes_aside, feeds_aside, writes_exactly, admits_complete, admits_few, admits_refused, feeds_refused, writes_listed, admits_listed, feeds_listed, writes_twenty, feeds_twenty, writes_bounded, feeds_bounded, writes_never_twenty, feeds_never_twenty, writes_bytes, feeds_bytes, writes_alike, admits_alike, feeds_alike, one_type, takes_one}
 use Rattle.demands.specs.Runs.{Call, ByteSlices, RunEnd, Ran, Joined, AsOne, NoneLonger}
-use Rattle.demands.specs.Runs.Laws.{stays_on_file, feeds_few, counts_as_admit, run_patch, runs_alike, runs_agree, one_joined, one_patch, one_prefix, run_slices_fit, run_outputs_fit}
-use Rattle.demands.specs.Runs.Files.{OnFiles, on_files}
-use Rattle.demands.specs.Demands.{demand_2_slice, demand_2_sends}
+use Rattle.demands.proofs.Runs.Laws.{stays_on_file, feeds_few, counts_as_admit, run_patch, runs_alike, runs_agree, one_joined, one_patch, one_prefix, run_slices_fit, run_outputs_fit}
+use Rattle.demands.specs.Runs.Files.{OnFiles}
+use Rattle.demands.proofs.Runs.Files.{on_files}
+use Rattle.demands.proofs.Demands.{demand_2_slice, demand_2_sends}
 
 -- A call of Check
 
@@ -45,7 +46,7 @@ module _ (patch : List ℕ) {lent lent_after : List ℕ} {answer : Written} (cal
 
   -- "With 20 aside", whatever the buffer, a patch file is accepted exactly if the rules and the limits allow it.
   pub aside_check : Bytes patch → (answer.number ≡ 0) ⊎ (answer.number ≡ 20) ↔ PatchFile patch
-  aside_check b = Iff·trans (writes_aside call (check_refuses patch)) (check_accepted patch b)
+  aside_check b = Iff.trans (writes_aside call (check_refuses patch)) (check_accepted patch b)
 
   -- "So a slice file has at most 513 bytes", a type file 257 and a patch file 8,492: no answer is longer.
   pub bound_check : Bytes patch → answer.written ≤ type_file_limit
@@ -99,7 +100,7 @@ module _ (type slice : List ℕ) {lent lent_after : List ℕ} {answer : Written}
   twenty_left = writes_twenty call (left_refuses type slice)
 
   pub aside_left : Bytes type → Bytes slice → (answer.number ≡ 0) ⊎ (answer.number ≡ 20) ↔ ((t : TypeFile type) × SliceFile t.type slice)
-  aside_left b c = Iff·trans (writes_aside call (left_refuses type slice)) (left_accepted type slice b c)
+  aside_left b c = Iff.trans (writes_aside call (left_refuses type slice)) (left_accepted type slice b c)
 
   pub bound_left : Bytes type → Bytes slice → answer.written ≤ type_file_limit
   bound_left b c = writes_bounded call (left_sized type slice b c)
@@ -130,7 +131,7 @@ module _ (type first second : List ℕ) {lent lent_after : List ℕ} {answer : W
 
   pub aside_join : Bytes type → Bytes first → Bytes second → (answer.number ≡ 0) ⊎ (answer.number ≡ 20)
       ↔ ((t : TypeFile type) × (p : SliceFile t.type first) × SliceFile (derivative t.type p.prefix) second)
-  aside_join b c d = Iff·trans (writes_aside call (join_refuses type first second)) (join_accepted type first second b c d)
+  aside_join b c d = Iff.trans (writes_aside call (join_refuses type first second)) (join_accepted type first second b c d)
 
   pub bound_join : Bytes type → Bytes first → Bytes second → answer.written ≤ slice_file_limit
   bound_join b c d = writes_bounded call (join_sized type first second b c d)
@@ -163,7 +164,7 @@ module _ {patch slice output_lent patch_lent output_after patch_after : List ℕ
 
   pub aside_feed : Bytes patch → Bytes slice → (answer.number ≡ 0) ⊎ (answer.number ≡ 20)
       ↔ ((f : PatchFile patch) × (p : SliceFile f.trees.input slice) × Within f.trees p.prefix)
-  aside_feed b c = Iff·trans (feeds_aside call (feed_refuses patch slice)) (feed_accepted_of_bytes patch slice b c)
+  aside_feed b c = Iff.trans (feeds_aside call (feed_refuses patch slice)) (feed_accepted_of_bytes patch slice b c)
 
   pub bound_feed : Bytes patch → Bytes slice → (answer.output ≤ slice_file_limit) × (answer.patch ≤ patch_file_limit)
   bound_feed b c = feeds_bounded call (feed_sized_of_bytes patch slice b c)
@@ -195,7 +196,7 @@ module _ (type : List ℕ) {lent lent_after : List ℕ} {answer : Written} (call
   twenty_longest = writes_twenty call (longest_refuses type)
 
   pub aside_longest : Bytes type → (answer.number ≡ 0) ⊎ (answer.number ≡ 20) ↔ TypeFile type
-  aside_longest b = Iff·trans (writes_aside call (longest_refuses type)) (longest_accepted type b)
+  aside_longest b = Iff.trans (writes_aside call (longest_refuses type)) (longest_accepted type b)
 
   pub bound_longest : Bytes type → answer.written ≤ slice_file_limit
   bound_longest b = writes_bounded call (longest_sized type b)
