@@ -9,9 +9,9 @@ use lib.Seq.{length-take-le}
 use Rattle.stream.specs.declared.Fault.{Fault}
 use Rattle.stream.specs.declared.Fault.TheVariants.{TotalTooLarge}
 use Rattle.stream.specs.Types.{Ty, size}
-use Rattle.stream.specs.Types.Laws.{limit_is}
+use Rattle.stream.proofs.Types.Laws.{limit_is}
 use Rattle.stream.specs.Prefixes.{Prefix, arrivals, derivative}
-use Rattle.stream.specs.Prefixes.Laws.{derivative-size}
+use Rattle.stream.proofs.Prefixes.Laws.{derivative-size}
 use Rattle.stream.specs.Reading.{Result, accepted, refused}
 use Rattle.stream.specs.SliceFiles.{prefix_bytes, slice_file, slice_file_bytes}
 use Rattle.reading.specs.declared.prefixes.PrefixPlace.{PrefixPlace}
@@ -22,10 +22,10 @@ use Rattle.reading.specs.SliceReads.{PrefixIn}
 use Rattle.reading.specs.SliceReads.Laws.{prefix_bytes_length}
 use Rattle.node.specs.Totals.{held}
 use Rattle.node.specs.Nodes.{Node, Patch, count, node_limit}
-use Rattle.node.specs.Nodes.Laws.{output_small}
+use Rattle.node.proofs.Nodes.Laws.{output_small}
 use Rattle.node.specs.Feeding.Functions.{sends, leaves, patch_left}
-use Rattle.node.specs.Checking.{typing}
-use Rattle.node.specs.Checking.Laws.{WellTyped, typing_sound, typing-complete}
+use Rattle.node.specs.Checking.{typing, WellTyped}
+use Rattle.node.proofs.Checking.Laws.{typing_sound, typing-complete}
 use Rattle.node.specs.PatchFiles.{node_bytes, patch_file_bytes, first_pass, second_pass, patch_file}
 use Rattle.patch_reading.specs.declared.PatchPlace.{PatchPlace}
 use Rattle.patch_reading.specs.PatchReads.Laws.{count_within}

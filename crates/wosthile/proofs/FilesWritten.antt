@@ -7,12 +7,12 @@ use lib.ListN.{length}
 use borrow.Author.Tests.{le-leb, lt-leb}
 use Rattle.stream.specs.declared.Fault.TheVariants.{NoRoom}
 use Rattle.stream.specs.Reading.{refused, section_bytes}
-use Rattle.stream.specs.Reading.Laws.{section_length}
+use Rattle.stream.proofs.Reading.Laws.{section_length}
 use Rattle.stream.specs.Buffers.{at_front}
 use Rattle.stream.specs.SliceFiles.{prefix_bytes, slice_file_bytes}
-use Rattle.node.specs.Totals.Laws.{totals_length}
+use Rattle.node.proofs.Totals.Laws.{totals_length}
 use Rattle.node.specs.PatchFiles.{patch_file_bytes}
-use Rattle.node.specs.PatchFiles.Laws.{patch_file-size}
+use Rattle.node.proofs.PatchFiles.Laws.{patch_file-size}
 use Rattle.meaning.specs.Answers.{FedFiles, with_room, fed as told, after}
 use Rattle.wosthile.specs.PatchWriting.{PatchWriteDue, BothDue, FeedsFiles}
 

@@ -5,9 +5,9 @@ use Prim.Native.Nat.{ℕ, ◌+◌, ◌≤◌}
 use native.Mathlib.Omega.{arith}
 use lib.ListN.{length}
 use Rattle.stream.specs.Reading.{section_bytes}
-use Rattle.stream.specs.Reading.Laws.{section_length}
+use Rattle.stream.proofs.Reading.Laws.{section_length}
 use Rattle.stream.specs.Buffers.{at_front}
-use Rattle.node.specs.Totals.Laws.{totals_length}
+use Rattle.node.proofs.Totals.Laws.{totals_length}
 use Rattle.node.specs.Nodes.{Patch}
 use Rattle.node.specs.PatchFiles.{patch_file_bytes}
 use Rattle.writing.specs.Writing.{Begun}

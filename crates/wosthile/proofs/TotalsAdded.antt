@@ -8,10 +8,10 @@ use native.Mathlib.Nat.{add-zero}
 use lib.ListN.{length, get_or, drop, drop_of_length-le}
 use lib.Seq.{get_or-drop, drop-drop}
 use Rattle.stream.specs.Reading.{number_bytes}
-use Rattle.stream.specs.Reading.Numbers.{number_behind, number_append, number_length}
+use Rattle.stream.proofs.Reading.Numbers.{number_behind, number_append, number_length}
 use Rattle.stream.specs.Buffers.{at_front}
 use Rattle.node.specs.Totals.{Totals, Held, held, total_limit, total_width, totals_bytes}
-use Rattle.node.specs.Totals.Laws.{held_test}
+use Rattle.node.proofs.Totals.Laws.{held_test}
 use Rattle.writing.specs.Writing.{Begun}
 use Rattle.writing.specs.Writing.Laws.{part, back, goes_on}
 use Rattle.wosthile.specs.TotalsLeft.{total_in, CountsAdded}

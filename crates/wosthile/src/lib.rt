@@ -1,5 +1,7 @@
 // The operations on files, for the frame loop: any bytes may be handed to them. What each promises stands in
-// Promises.antt of the crate `meaning`; `exports` has their names for C.
+// Promises.antt of the crate `meaning`; the crate `wosthile_c` has their names for C.
+#![tactic(auto)]
+
 ghost use Rattle.meaning.specs.Promises.{CheckPromise, AdmitPromise, LeftPromise, JoinPromise, FeedPromise, LongestPromise};
 ghost use Rattle.patch_reading.specs.PatchReads.{AcceptedPatch};
 ghost use Rattle.wosthile.specs.FeedReads.{Refuses, FeedRead, FewRead, SendDue};
@@ -19,7 +21,6 @@ use typing::{Typed, type_node};
 use writing::slices::read_slice_file;
 use writing::{write_joined_file, write_section};
 
-pub mod exports;
 mod totals;
 
 // "Accepted is 0."
@@ -227,7 +228,8 @@ fn send(
             let kept = step.kept;
             let went = count_arrivals(&sent, PrefixPlace::new(0, many));
             let mut totals = [0u8; PatchPlace::TOTALS];
-            if add_counts(patch, arrived, went, &mut totals) {
+            let fit = add_counts(patch, arrived, went, &mut totals);
+            if fit {
                 return write_both(
                     &sent[..many],
                     left,

@@ -1,9 +1,11 @@
-// The operations under their C names; include/wosthile.h declares them.
+// The operations under their C names; include/wosthile.h declares them. Each is the library's, and promises what that does.
+#![tactic(auto)]
+
 ghost use Rattle.std.specs.Prelude.{◌≡◌};
 ghost use Rattle.meaning.specs.Promises.{CheckPromise, AdmitPromise, LeftPromise, JoinPromise, FeedPromise, LongestPromise};
 
-use crate::{admit, check, feed, join, left, longest};
 use meaning::{Admitted, Fed, Written};
+use wosthile::{admit, check, feed, join, left, longest};
 
 #[unsafe(no_mangle)]
 pub extern "C" fn wosthile_check(patch: &[u8], out: &mut [u8]) -> Written
