@@ -11,7 +11,7 @@ use Rattle.stream.specs.Reading.{Bytes, Result, accepted, refused}
 use Rattle.meaning.specs.declared.Written.{Written}
 use Rattle.meaning.specs.declared.Fed.{Fed}
 use Rattle.meaning.specs.Answers.{check, feed, FedFiles, with_room, fits_one, fits_both, number_of, written, fed, after}
-use Rattle.meaning.specs.Answers.Laws.{number_bounds, enough_room, both_fit, check_sized, feed_sized_of_bytes}
+use Rattle.meaning.proofs.Answers.Laws.{number_bounds, enough_room, both_fit, check_sized, feed_sized_of_bytes}
 use Rattle.meaning.specs.Promises.{CheckPromise, FeedPromise}
 use Rattle.stream.specs.Bounds.{type_file_limit, slice_file_limit, patch_file_limit}
 

@@ -1,3 +1,5 @@
 mod Answered
 mod TakingPatch
 mod TakingSlice
+pub mod Transcripts
+pub mod Playing

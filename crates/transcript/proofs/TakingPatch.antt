@@ -9,12 +9,12 @@ use Rattle.stream.specs.Reading.{Bytes, Result, accepted, refused}
 use Rattle.stream.specs.Buffers.{at_front}
 use Rattle.writing.specs.Writing.Laws.{front_length}
 use Rattle.writing.specs.Writing.{Begun}
-use Rattle.node.specs.PatchFiles.Laws.{patch_file_length}
+use Rattle.node.proofs.PatchFiles.Laws.{patch_file_length}
 use Rattle.meaning.specs.Answers.{check, number_of}
-use Rattle.meaning.specs.Answers.Laws.{number_bounds, check_accepted}
+use Rattle.meaning.proofs.Answers.Laws.{number_bounds, check_accepted}
 use Rattle.transcript.specs.declared.Stage.TheVariants.{Awaiting, Feeding, Stopped}
 use Rattle.transcript.specs.Transcripts.{feeding, number_line, takes}
-use Rattle.transcript.specs.Transcripts.Laws.{number_line_length}
+use Rattle.transcript.proofs.Transcripts.Laws.{number_line_length}
 use Rattle.transcript.specs.Playing.{state_of, Inside, TakesFile}
 use Rattle.stream.specs.Bounds.{patch_file_limit}
 

@@ -7,25 +7,25 @@ use native.Mathlib.Nat.{le_trans}
 use lib.ListN.{length, get_or, take, drop}
 use lib.Seq.{take_at}
 use Rattle.stream.specs.TypeFiles.{type_bytes, type_file_bytes}
-use Rattle.stream.specs.TypeFiles.Laws.{type_file_length}
+use Rattle.stream.proofs.TypeFiles.Laws.{type_file_length}
 use Rattle.stream.specs.SliceFiles.{prefix_bytes, slice_file_bytes}
 use Rattle.stream.specs.Reading.{Bytes, Result, accepted, refused, section_bytes}
-use Rattle.stream.specs.Reading.Laws.{section_length}
+use Rattle.stream.proofs.Reading.Laws.{section_length}
 use Rattle.stream.specs.Buffers.{at_front}
 use Rattle.stream.specs.Types.{Ty, Small}
 use Rattle.node.specs.Totals.{Held, totals_bytes}
 use Rattle.node.specs.Nodes.{Allowed, Patch}
 use Rattle.node.specs.Feeding.Functions.{sends, patch_left}
-use Rattle.node.specs.Feeding.Laws.{leaves_allowed}
+use Rattle.node.proofs.Feeding.Laws.{leaves_allowed}
 use Rattle.node.specs.PatchFiles.{node_bytes, patch_file_bytes}
 use Rattle.writing.specs.Writing.Laws.{front_length}
 use Rattle.writing.specs.Writing.{Begun}
 use Rattle.meaning.specs.declared.Fed.{Fed}
 use Rattle.meaning.specs.Answers.{feed, FedFiles, number_of, fed, after}
-use Rattle.meaning.specs.Answers.Laws.{number_bounds, fed_piece, fed_patch, FedSized, feed_sized_of_bytes, first_section_of}
+use Rattle.meaning.proofs.Answers.Laws.{number_bounds, fed_piece, fed_patch, FedSized, feed_sized_of_bytes, first_section_of}
 use Rattle.transcript.specs.declared.Stage.TheVariants.{Feeding}
 use Rattle.transcript.specs.Transcripts.{number_line, contents, fed_line, line, feeding, patch_after, takes}
-use Rattle.transcript.specs.Transcripts.Laws.{number_line_length, fed_line_length}
+use Rattle.transcript.proofs.Transcripts.Laws.{number_line_length, fed_line_length}
 use Rattle.transcript.specs.Playing.{state_of, Inside, TakesFile}
 use Rattle.transcript.proofs.Answered.{FedBy}
 use Rattle.stream.specs.Bounds.{slice_limit, slice_file_limit, patch_file_limit}

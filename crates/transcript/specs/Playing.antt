@@ -8,7 +8,6 @@ use Rattle.transcript.specs.declared.Line.{Line}
 use Rattle.transcript.specs.declared.Played.{Played}
 use Rattle.transcript.specs.Transcripts.{State, awaiting, feeding, stopped, files, takes, prints}
 use Rattle.stream.specs.Bounds.{patch_file_limit}
-pub mod Laws
 
 -- The stage that the code keeps, with the bytes at whose front the patch stands.
 unfoldable pub state_of : Stage → List ℕ → State

@@ -3,7 +3,6 @@ use Rattle.std.specs.Prelude.{true, false, List, [], ◌∷◌, ◌++◌, ℕ, z
 use Rattle.stream.specs.Faults.{number}
 use Rattle.stream.specs.Reading.{Result, accepted, refused}
 use Rattle.meaning.specs.Answers.{check, feed, FedFiles, first_section}
-pub mod Laws
 pub mod Examples
 
 -- "A two-byte length and a patch file, then slice files, each after such a length .. a stream that ends, between files or inside

@@ -1,4 +1,6 @@
 // The program of document 01 without its reads and writes: what it prints for the files of a stream, played as they come.
+#![tactic(auto)]
+
 ghost use Rattle.std.specs.Prelude.{◌≡◌, ◌*◌, ◌-◌, ◌≤◌, ◌<◌, length, take, drop};
 ghost use Rattle.stream.specs.Buffers.{at_front};
 ghost use Rattle.writing.specs.Writing.{Begun};
@@ -16,7 +18,7 @@ use writing::copy;
 
 // Where the program stands between two files: it awaits the patch, feeds the slices that follow to the patch, which has so
 // many bytes, or has stopped.
-#[derive(Drop)]
+#[derive(Clone, Copy)]
 pub enum Stage {
     Awaiting,
     Feeding(usize),
@@ -24,6 +26,7 @@ pub enum Stage {
 }
 
 // A program that has stopped reads no more.
+#[tactic(auto, unfolding(crate::specs::Playing::is_stopped))]
 pub fn has_stopped(stage: Stage) -> bool
     ensures { result ≡ is_stopped stage }
 {
@@ -35,14 +38,14 @@ pub fn has_stopped(stage: Stage) -> bool
 }
 
 // What one file comes to: the stage, and how many bytes its line has.
-#[derive(Drop)]
+#[derive(Clone, Copy)]
 pub struct Line {
     pub stage: Stage,
     pub written: usize,
 }
 
 // What the files in some bytes come to: the stage, how many of the bytes were taken, and how many their lines have.
-#[derive(Drop)]
+#[derive(Clone, Copy)]
 pub struct Played {
     pub stage: Stage,
     pub taken: usize,
@@ -61,6 +64,7 @@ impl Line {
 }
 
 // A digit in ASCII, of a number below 16.
+#[tactic(auto, unfolding(crate::specs::Transcripts::digit), using(crate::proofs::Transcripts::Laws::digit_low, crate::proofs::Transcripts::Laws::digit_high))]
 fn digit(value: u8) -> u8
     requires { value < 16 }
     ensures { result ≡ Transcripts·digit value }

@@ -16,7 +16,7 @@ use Rattle.transcript.specs.declared.Stage.TheVariants.{Awaiting, Feeding, Stopp
 use Rattle.transcript.specs.declared.Line.{Line}
 use Rattle.transcript.specs.declared.Played.{Played}
 use Rattle.transcript.specs.Transcripts.{stopped, files_within, files, takes, prints}
-use Rattle.transcript.specs.Transcripts.Laws.{file_first, no_first}
+use Rattle.transcript.proofs.Transcripts.Laws.{file_first, no_first}
 use Rattle.transcript.specs.Playing.{state_of, is_stopped, Inside, TakesFile, Plays, Waits, has_stopped, no_file, PlaysNext}
 
 -- The file at the front of the input, where the reader of sections says that it ends; or there is none.
