@@ -1,10 +1,12 @@
 // Case 10 of document 01: 63 nodes pass, 65 give 5; a type of 255 passes, 257 gives 4. The tests hold what this prints to the
 // second interpreter's answers.
+#![tactic(auto)]
+
 ghost use Rattle.std.specs.Prelude.{◌≡◌, ◌+◌, ◌*◌, ◌≤◌, length};
 
-use libc::STDOUT_FILENO;
 use patch_reading::PatchPlace;
 use reading::types::TypePlace;
+use std::io;
 use wosthile::check;
 
 // Writes at `at` the section of a tree of `2 * pairs + 1` nodes, a fork and a leaf again and again and a last leaf; says where
@@ -38,7 +40,12 @@ fn put_totals(at: usize, file: &mut [u8]) -> usize
 
 // One line: `case`, and Check's number for the patch of these two trees and totals of 0. The type is of cues side by side, the nodes are
 // chains of pass.
-fn print_answer(case: &[u8], type_pairs: usize, node_pairs: usize)
+fn print_answer(
+    rt: &HostRuntime,
+    case: &str,
+    type_pairs: usize,
+    node_pairs: usize,
+) -> io::Result<()>
     requires { (type_pairs ≤ 128) × (node_pairs ≤ 32) }
 {
     let mut file = [0u8; 336];
@@ -47,14 +54,13 @@ fn print_answer(case: &[u8], type_pairs: usize, node_pairs: usize)
     let end = put_totals(totals, &mut file);
     let mut given = [0u8; TypePlace::MAX_FILE];
     let answer = check(&file[..end], &mut given);
-    io::write_all(STDOUT_FILENO, case);
-    io::print_decimal(STDOUT_FILENO, answer.number as u64);
-    io::write_all(STDOUT_FILENO, b"\n");
+    let number = answer.number;
+    println!(rt; "{case}: {number}")
 }
 
-fn main() {
-    print_answer(b"63 nodes: ", 0, 31);
-    print_answer(b"65 nodes: ", 0, 32);
-    print_answer(b"type of 255: ", 127, 0);
-    print_answer(b"type of 257: ", 128, 0);
+fn main(rt: HostRuntime) -> io::Result<()> {
+    print_answer(&rt, "63 nodes", 0, 31)?;
+    print_answer(&rt, "65 nodes", 0, 32)?;
+    print_answer(&rt, "type of 255", 127, 0)?;
+    print_answer(&rt, "type of 257", 128, 0)
 }

@@ -1,15 +1,17 @@
 // The program of document 01: it reads a patch and slices, each after its length, from standard input, feeds them in turn, and
 // prints a line for each slice. What it prints for what it reads is the library's (`transcript`); here are the reads and writes.
-ghost use Rattle.std.specs.Prelude.{◌≡◌, ◌-◌, ◌≤◌, length};
-ghost use Rattle.transcript.specs.Playing.{Inside};
+#![tactic(auto)]
+
+ghost use Rattle.std.specs.Prelude.{◌≡◌, ◌-◌, ◌≤◌, false, length};
+ghost use Rattle.transcript.specs.Playing.{is_stopped, Inside, PlaysAll};
 ghost use Rattle.stream.specs.Bounds.{patch_file_limit};
 
-use libc::{STDIN_FILENO, STDOUT_FILENO};
 use patch_reading::PatchPlace;
-use transcript::{Line, Stage, has_stopped, move_to_front, play};
+use std::io::{Print, Read};
+use transcript::{Line, Played, Stage, has_stopped, move_to_front, play};
 
 // Where the program stands: its stage, the part of the input that it holds, from one place to another, and whether it goes on.
-#[derive(Drop)]
+#[derive(Clone, Copy)]
 struct Progress {
     stage: Stage,
     from: usize,
@@ -25,6 +27,13 @@ fn input_buffer() -> [u8; 131072]
     [0; 131072]
 }
 
+// Room for many lines, so that what came is played at once and written in one go.
+fn line_buffer() -> [u8; 65536]
+    ensures { 65536 ≡ length result }
+{
+    [0; 65536]
+}
+
 fn patch_buffer() -> [u8; PatchPlace::MAX_FILE]
     ensures { patch_file_limit ≡ length result }
 {
@@ -32,22 +41,24 @@ fn patch_buffer() -> [u8; PatchPlace::MAX_FILE]
 }
 
 // Reads what has come, into room for all that a file can still lack: so it is the end of the input, and no want of room, if
-// nothing comes.
-fn read_some(room: &mut [u8]) -> usize
+// nothing comes. A read that fails ends the input too.
+fn read_some(rt: &HostRuntime, room: &mut [u8]) -> usize
     requires { 65536 ≤ length room.old }
     ensures { result ≤ length room.new }
 {
-    let got = libc::read(STDIN_FILENO, room);
-    io::count(got, room)
+    match rt.stdin().read(room) {
+        Ok(came) => came,
+        Err(_) => 0,
+    }
 }
 
 // Reads behind the bytes that are held; at the end of the input the program ends.
-fn read_more(stage: Stage, from: usize, held: usize, input: &mut [u8]) -> Progress
+fn read_more(rt: &HostRuntime, stage: Stage, from: usize, held: usize, input: &mut [u8]) -> Progress
     requires { (from ≤ held) × (held ≤ length input.old) × (held - from ≤ 65536) × (131072 ≤ length input.old) }
     ensures { (result.stage ≡ stage) × (result.from ≤ result.held) × (result.held ≤ length input.new) }
 {
     let kept = move_to_front(from, held, input);
-    let came = read_some(&mut input[kept..]);
+    let came = read_some(rt, &mut input[kept..]);
     Progress {
         stage,
         from: 0,
@@ -56,19 +67,34 @@ fn read_more(stage: Stage, from: usize, held: usize, input: &mut [u8]) -> Progre
     }
 }
 
+// Plays what is held. Where there was room for one more line and the program goes on, no whole file is left.
+fn play_held(input: &[u8], stage: Stage, patch: &mut [u8], lines: &mut [u8]) -> Played
+    requires { Inside stage patch.old × (patch_file_limit ≤ length patch.old) }
+    ensures plays { PlaysAll stage patch.old input.now lines.old result patch.new lines.new }
+    ensures no_file_left { is_stopped result.stage ≡ false → 1536 ≤ length lines.new - result.written → length input.now - result.taken ≤ 65536 }
+{
+    play(input, stage, patch, lines)
+}
+
 // Plays what is held and writes its lines. Where there was room for one more line, no whole file is left, and more is read.
-fn turn(progress: Progress, input: &mut [u8], patch: &mut [u8], lines: &mut [u8]) -> Progress
+fn turn(
+    rt: &HostRuntime,
+    progress: Progress,
+    input: &mut [u8],
+    patch: &mut [u8],
+    lines: &mut [u8],
+) -> Progress
     requires { Inside progress.stage patch.old × (patch_file_limit ≤ length patch.old) × (progress.from ≤ progress.held) × (progress.held ≤ length input.old) × (131072 ≤ length input.old) }
     ensures { Inside result.stage patch.new × (result.from ≤ result.held) × (result.held ≤ length input.new) }
 {
     let before = progress.stage;
     let start = progress.from;
     let held = progress.held;
-    let played = play(&input[start..held], before, patch, lines);
+    let played = play_held(&input[start..held], before, patch, lines);
     let stage = played.stage;
     let written = played.written;
     let from = start + played.taken;
-    let is_written = io::write_all(STDOUT_FILENO, &lines[..written]);
+    let is_written = rt.write_all(&lines[..written]).is_ok();
     if !is_written || has_stopped(stage) {
         return Progress {
             stage,
@@ -78,7 +104,7 @@ fn turn(progress: Progress, input: &mut [u8], patch: &mut [u8], lines: &mut [u8]
         };
     }
     if lines.len() - written >= Line::MAX {
-        return read_more(stage, from, held, input);
+        return read_more(rt, stage, from, held, input);
     }
     Progress {
         stage,
@@ -90,10 +116,11 @@ fn turn(progress: Progress, input: &mut [u8], patch: &mut [u8], lines: &mut [u8]
 
 // A loop that is proved has to end, and nothing says that the input does: it counts its turns down from a number that no run
 // uses up.
-fn main() {
+#[tactic(auto, unfolding(transcript::specs::Playing::Inside))]
+fn main(rt: HostRuntime) {
     let mut input = input_buffer();
     let mut patch = patch_buffer();
-    let mut lines = io::large_buffer();
+    let mut lines = line_buffer();
     let mut progress = Progress {
         stage: Stage::Awaiting,
         from: 0,
@@ -102,7 +129,7 @@ fn main() {
     };
     let mut turns = u64::MAX;
     while turns > 0 && progress.open {
-        progress = turn(progress, &mut input, &mut patch, &mut lines);
+        progress = turn(&rt, progress, &mut input, &mut patch, &mut lines);
         turns -= 1;
     }
 }
