@@ -1,5 +1,5 @@
 # make demo      builds everything, then explains, plays, rehearses and draws a shipped show
-# make test      the gate: every proof from nothing, the must-fail edits, the layout, the library and the programs in use
+# make test      the gate: every proof, the must-fail edits, the layout, the library and the programs in use
 # make prove     the proofs alone, without the edits; what has not changed is not proved again
 # make lib       the library alone: target/staticlib/libwosthile.a
 # make programs  the program of document 01, target/bin/runner, and the example programs in C
@@ -45,7 +45,7 @@ test:
 	.ci/run
 
 prove:
-	rt check
+	rt all check
 
 lib: $(ARCHIVE)
 
@@ -70,19 +70,21 @@ example: target/calls
 	target/calls
 
 # Specifications and proofs change no byte of the archive or the program.
-SOURCES = crates.txt $(shell find crates -name '*.rt')
+SOURCES = crates.txt $(shell find crates -name out -prune -o -name '*.rt' -print)
 $(ARCHIVE): $(SOURCES)
-	@$(call proving, rt staticlib wosthile)
-	@touch $@
+	@$(call proving,wosthile_c,rt lib)
+	@install -D -m 644 crates/wosthile_c/out/libwosthile_c.a $@
 
+# A program is built when it is run.
 $(RUNNER): $(SOURCES)
-	@$(call proving, rt check runner)
-	@touch $@
+	@$(call proving,runner,rt run </dev/null)
+	@install -D crates/runner/out/runner $@
 
 # The prover's log goes to a file, and a line for each crate to the screen; of a failure the end of the log too.
 PROVER_LOG = target/prover.log
-proving = mkdir -p target; echo '$(strip $(1)), with its log in $(PROVER_LOG):'; set -o pipefail; \
-	$(1) 2>&1 | tee $(PROVER_LOG) | sed -n 's/^rt: /  /p' || { tail -n 40 $(PROVER_LOG); exit 1; }
+EACH_CRATE = /^crate / { name = $$2 } /^logic=proved/ { print "  " name " proved"; fflush() }
+proving = mkdir -p target; echo '$(2) in crates/$(1), with its log in $(PROVER_LOG):'; set -o pipefail; \
+	(cd crates/$(1) && $(2)) 2>&1 | tee $(PROVER_LOG) | awk '$(EACH_CRATE)' || { tail -n 40 $(PROVER_LOG); exit 1; }
 
 # A program is one file and what all programs share.
 HEADERS = $(wildcard examples/shared/*.h) include/wosthile.h
@@ -125,4 +127,4 @@ install: $(ARCHIVE)
 	chmod 644 $(DESTDIR)$(PREFIX)/lib/pkgconfig/wosthile.pc
 
 clean:
-	rm -rf target
+	rm -rf target crates/*/out

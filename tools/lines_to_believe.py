@@ -1,7 +1,7 @@
 #!/usr/bin/env python3
 """Counts the lines that a reader has to believe to take the page of demands at its word.
 
-It follows names from the statements of crates/demands/specs/Demands.antt to every definition that they rest on, through the
+It follows names from the statements of crates/demands/proofs/Demands.antt to every definition that they rest on, through the
 `use` lines, and counts the lines of each: code lines, without comments, imports and `unfolding`. Of a theorem only the statement
 counts, since the prover has its proof. Types that the code declares (structs and enums in src/) count too.
 
@@ -15,14 +15,14 @@ import re
 import sys
 
 ROOT = os.path.join(os.path.dirname(os.path.abspath(__file__)), "..", "crates")
-PAGE = ("demands", "Demands")
+PAGE = ("demands", "proofs.Demands")
 PROMISES = {"CheckPromise", "AdmitPromise", "LeftPromise", "JoinPromise", "FeedPromise", "LongestPromise"}
 
 COMMENT = re.compile(r"(^|\s)--(\s.*)?$")
 USE = re.compile(r"use (\S+?)\.\{(.*)\}$")
 DECLARES = re.compile(r"((?:unfoldable |abbrev |pub )*)(?:(data|record) (\S+)|(\S+) :(?: |$))")
-OURS = re.compile(r"Rattle·(\w+?)(?:·specs)?\.specs\.(.+)")
-DECLARED = re.compile(r"declared\.(?:\w+\.)*?(\w+)(\.the-variants)?$")
+OURS = re.compile(r"Rattle\.(\w+)\.((?:specs|proofs)\..+)")
+DECLARED = re.compile(r"specs\.declared\.(?:\w+\.)*?(\w+)(\.TheVariants)?$")
 
 
 class Definition:
@@ -38,7 +38,7 @@ class Module:
         self.imports = {}  # name here -> (module path, name there)
         self.definitions = {}
         self.constructors = {}  # constructor -> the data type that it belongs to
-        with open(os.path.join(ROOT, crate, "specs", *name.split(".")) + ".antt", encoding="utf-8") as file:
+        with open(os.path.join(ROOT, crate, *name.split(".")) + ".antt", encoding="utf-8") as file:
             self.read(file.read().split("\n"))
 
     def read(self, lines):
@@ -92,7 +92,7 @@ def words(lines):
     for line in lines:
         for word in re.split(r"[\s(){}\[\];,|λ]+", line):
             if word and not word.startswith("."):
-                yield word.rstrip(".")
+                yield word.split(".")[0]
 
 
 class Reader:
@@ -115,7 +115,7 @@ class Reader:
         elif name in module.imports and name not in self.set_aside:
             path, there = module.imports[name]
             ours = OURS.match(path)
-            if ours:
+            if ours and os.path.isdir(os.path.join(ROOT, ours.group(1))):
                 self.follow_import(ours.group(1), ours.group(2), there)
 
     def follow_import(self, crate, path, name):
@@ -150,7 +150,7 @@ def main():
         modules.setdefault((crate, module), []).append((name, lines))
     for (crate, module), names in sorted(modules.items()):
         listed = "   " + " ".join(name for name, _ in names) if "--names" in sys.argv else ""
-        print(f"{sum(lines for _, lines in names):5}  {crate}.{module}{listed}")
+        print(f"{sum(lines for _, lines in names):5}  {crate}.{module.split('.', 1)[-1]}{listed}")
     print(f"{believed:5}  lines to believe")
     print(f"{Reader(set()).read_page() - believed:5}  more in the promises, which the prover shows of every call")
 

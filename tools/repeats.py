@@ -4,9 +4,8 @@ numbers are blanked. A row is a place to look, not a verdict.
 
     tools/repeats.py [DIR] [--min LINES] [--most ROWS] [--shape] [--since REV]
 
---since REV keeps the pairs of which one side stands in lines added since that commit. Blank lines, comments, imports and needs that the
-prover answers by itself are passed over, and what nobody writes: the list of needs that a proof ends with, whose order the prover
-fixes, and the ways of a map of places (tools/map_places.py).
+--since REV keeps the pairs of which one side stands in lines added since that commit. Blank lines, comments, imports, the names of
+goals and answers that the prover finds by itself are passed over.
 """
 import argparse
 import os
@@ -14,11 +13,9 @@ import re
 import subprocess
 from collections import defaultdict
 
-PASSED_OVER = re.compile(r"^\s*(--|//|use |ghost use |mod |pub mod |pub use |unfolding |$|[)}\]];?,?$)|search needs$|: tie\.Need-")
-NEED_LISTED = re.compile(r"^\(?[\w·′₀-₉-]+( t)?\)*$")
-WAY = re.compile(r"^abbrev (\S+) : \S*(tie|lts)\.[^→]*→ \S*(tie|lts)\.")
+PASSED_OVER = re.compile(r"^\s*(--|//|use |ghost use |mod |pub mod |pub use |unfolding |$|[)}\]];?,?$)|search rules$|: goal\.")
 COMMENT = re.compile(r"(--|//).*")
-NAME = re.compile(r"[\w·′₀-₉-]+")
+NAME = re.compile(r"[\w·'₀-₉-]+")
 HUNK = re.compile(r"@@ -\S+ \+(\d+)(?:,(\d+))?")
 MOST_PLACES = 8  # of one run that are compared with each other
 
@@ -37,20 +34,17 @@ def files_below(folder):
     """The files to look at."""
     found = []
     for path, _, names in os.walk(folder):
-        if "target" not in path:
+        if not {"out", "target"} & set(path.split(os.sep)):
             found += [os.path.join(path, name) for name in names if name.endswith((".rt", ".antt"))]
     return sorted(found)
 
 
 def lines_of(path, shape):
     """The lines of a file that count: the number and the text of each."""
-    way = None
     with open(path, encoding="utf-8", errors="replace") as file:
         for number, text in enumerate(file, 1):
             text = re.sub(r"\s+", " ", COMMENT.sub("", text)).strip()
-            way = WAY.match(text) or way
-            of_map = way and re.match(rf"(abbrev )?{re.escape(way[1])} ", text)
-            if len(text) >= 4 and not of_map and not PASSED_OVER.search(text) and not NEED_LISTED.match(text):
+            if len(text) >= 4 and not PASSED_OVER.search(text):
                 yield number, NAME.sub("x", text) if shape else text
 
 

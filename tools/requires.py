@@ -3,7 +3,7 @@
 
     tools/requires.py
 
-A function that is exported to C (`#[no_mangle]`) has to ask nothing, since a caller in C proves nothing. The exit status is 0 if none of
+A function that is exported to C (`#[unsafe(no_mangle)]`) has to ask nothing, since a caller in C proves nothing. The exit status is 0 if none of
 them has a `requires`, 1 if one has, and 2 if the sources cannot be read or export nothing.
 """
 import argparse
@@ -16,9 +16,9 @@ ROOT = os.path.join(os.path.dirname(os.path.abspath(__file__)), "..", "crates")
 
 COMMENT = re.compile(r"//.*")
 IMPLEMENTS = re.compile(r"^impl (\w+) \{", re.M)
-FUNCTION = re.compile(r'^(?P<exported>[ \t]*#\[no_mangle\]\n)?(?P<indent>[ \t]*)(?P<public>pub )?(?:extern "C" )?fn (?P<name>\w+)(?=[<(])', re.M)
-CLAUSE = re.compile(r"\s*(requires|ensures)\s*(?=\{)")
-RESULT = re.compile(r"[^{]*?(?=\s(?:requires|ensures)\s*\{|\{)")
+FUNCTION = re.compile(r'^(?P<exported>[ \t]*#\[unsafe\(no_mangle\)\]\n)?(?P<indent>[ \t]*)(?P<public>pub )?(?:extern "C" )?fn (?P<name>\w+)(?=[<(])', re.M)
+CLAUSE = re.compile(r"\s*(requires|ensures)\*?(?:\s+\w+)?\s*(?=\{)")
+RESULT = re.compile(r"[^{]*?(?=\s(?:requires|ensures)\b|\{)")
 BRACKETS = {"(": ")", "{": "}"}
 
 
@@ -48,7 +48,7 @@ def clauses(text, place):
     clause = CLAUSE.match(text, RESULT.match(text, place).end())
     while clause:
         end = closes(text, clause.end())
-        found.append((clause[1], " ".join(text[clause.end() + 1 : end - 1].strip(" \n⌜⌝").split())))
+        found.append((clause[1], " ".join(text[clause.end() + 1 : end - 1].split())))
         clause = CLAUSE.match(text, end)
     return found
 
