@@ -1,4 +1,4 @@
-# make demo      builds everything, then explains, plays, rehearses and draws a shipped show
+# make demo      builds everything, then explains, plays, rehearses, moves and draws a shipped show
 # make test      the gate: every proof, the must-fail edits, the layout, the library and the programs in use
 # make prove     the proofs alone, without the edits; what has not changed is not proved again
 # make lib       the library alone: target/staticlib/libwosthile.a
