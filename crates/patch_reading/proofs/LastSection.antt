@@ -11,7 +11,7 @@ use Rattle.stream.specs.declared.Fault.{Fault}
 use Rattle.stream.specs.declared.Fault.TheVariants.{CutShort, LeftOver}
 use Rattle.reading.specs.declared.sections.TreeEnd.TheVariants.{At, Failed}
 use Rattle.stream.specs.Reading.{read, fault, refused, whole, section}
-use Rattle.stream.proofs.Reading.Walking.{count, body}
+use Rattle.stream.specs.Reading.Walking.{count, body}
 use Rattle.reading.specs.Sections.{end_of, any_bytes}
 use Rattle.reading.specs.Sections.Laws.{SectionEnds, section_ended, section_failed, failed, body_length, tree_failed, left_inside, section_read, byte_behind, none_behind}
 use Rattle.node.specs.Totals.{Totals, read_totals, totals_section}

@@ -17,7 +17,8 @@ use Rattle.stream.proofs.Levels.Laws.{value_length, value_behind, value_sound, v
 use Rattle.stream.specs.Reading.{Bytes, Reading, read, fault, read_on, Root, leaf, two_parts}
 use Rattle.stream.proofs.Reading.Laws.{◌&◌, past, every, bytes_drop}
 use Rattle.stream.proofs.Reading.Numbers.{long_or_short}
-use Rattle.stream.proofs.Reading.Walking.{Owes, MakesOne, leaf_makes, two_makes}
+use Rattle.stream.specs.Reading.Walking.{Owes, MakesOne}
+use Rattle.stream.proofs.Reading.Walking.{leaf_makes, two_makes}
 use Rattle.stream.specs.TypeFiles.{read_type}
 use Rattle.stream.proofs.TypeFiles.Laws.{type_length, read_type_sound}
 use Rattle.reading.specs.Sections.{end_of}

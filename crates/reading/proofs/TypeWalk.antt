@@ -10,7 +10,8 @@ use Rattle.stream.specs.declared.Fault.TheVariants.{CutShort, Unlisted}
 use Rattle.stream.specs.Types.{Ty, empty, cue, level, seq, par, either}
 use Rattle.stream.specs.Reading.{Reading, fault, Root}
 use Rattle.stream.proofs.Reading.Laws.{◌&◌, past, every}
-use Rattle.stream.proofs.Reading.Walking.{Owes, MakesOne, leaf_makes, two_makes}
+use Rattle.stream.specs.Reading.Walking.{Owes, MakesOne}
+use Rattle.stream.proofs.Reading.Walking.{leaf_makes, two_makes}
 use Rattle.stream.specs.TypeFiles.{type_kinds, type_root}
 use Rattle.stream.specs.Types.Kinds.{type_arity}
 

@@ -2,6 +2,7 @@
 use Rattle.std.specs.Prelude.{Bool, true, false, List, [], ◌∷◌, ◌++◌, ◌≡◌, ℕ, zero, suc, ◌+◌, ◌*◌, ◌/◌, ◌%◌, ◌<◌, leb, length, get_or, take, drop}
 use Rattle.stream.specs.declared.Fault.{Fault}
 pub mod Examples
+pub mod Walking
 
 -- A list of numbers that are bytes.
 abbrev pub Bytes : List ℕ → Type 0

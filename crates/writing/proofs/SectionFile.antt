@@ -6,7 +6,8 @@ use native.Mathlib.Omega.{arith}
 use lib.ListN.{length, drop}
 use Rattle.stream.specs.declared.Fault.{Fault}
 use Rattle.stream.specs.Reading.{Reading, read, fault, Result, accepted, refused, whole, section}
-use Rattle.stream.proofs.Reading.Walking.{count, body, no_count, body_short}
+use Rattle.stream.specs.Reading.Walking.{count, body}
+use Rattle.stream.proofs.Reading.Walking.{no_count, body_short}
 use Rattle.reading.specs.Sections.Laws as sections
 
 module _ {A : Type 0} (cut_short left_over : Fault) (contents : List ℕ → Reading A) where

@@ -15,7 +15,7 @@ use Rattle.stream.specs.Types.{Ty, type_limit}
 use Rattle.stream.specs.Prefixes.{Prefix, derivative}
 use Rattle.stream.specs.Reading.{Bytes, accepted, refused}
 use Rattle.stream.proofs.Reading.Laws.{bytes_drop, bytes_take}
-use Rattle.stream.proofs.Reading.Walking.{count, body}
+use Rattle.stream.specs.Reading.Walking.{count, body}
 use Rattle.reading.specs.TypeReads.{TypeAt}
 use Rattle.stream.specs.TypeFiles.{type_bytes}
 use Rattle.stream.specs.SliceFiles.{read_prefix, slice_file}

@@ -11,7 +11,8 @@ use Rattle.stream.specs.declared.Fault.{Fault}
 use Rattle.stream.specs.declared.Fault.TheVariants.{CutShort, LeftOver}
 use Rattle.reading.specs.declared.sections.TreeEnd.TheVariants.{At, Failed}
 use Rattle.stream.specs.Reading.{Reading, read, fault, accepted, refused, read_on, whole, section, Root, forest, only, tree}
-use Rattle.stream.proofs.Reading.Walking.{count, body, no_count, body_short, body_whole}
+use Rattle.stream.specs.Reading.Walking.{count, body}
+use Rattle.stream.proofs.Reading.Walking.{no_count, body_short, body_whole}
 use Rattle.reading.specs.Sections.{end_of, any_bytes, filled}
 
 -- After something was read, a byte is left or none.

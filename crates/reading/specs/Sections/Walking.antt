@@ -6,7 +6,8 @@ use Rattle.std.proofs.Math.ListN.{length, length-drop}
 use Rattle.stream.specs.declared.Fault.{Fault}
 use Rattle.reading.specs.declared.sections.TreeEnd.TheVariants.{At, Failed}
 use Rattle.stream.specs.Reading.{Reading, read, fault, Root, forest, tree}
-use Rattle.stream.proofs.Reading.Walking.{rest_of, Owes, ahead_same, stopped_same, spent_same, done, MakesOne, tree_rest}
+use Rattle.stream.specs.Reading.Walking.{rest_of, Owes, MakesOne}
+use Rattle.stream.proofs.Reading.Walking.{ahead_same, stopped_same, spent_same, done, tree_rest}
 use Rattle.reading.specs.Sections.{end_of}
 
 -- Where a tree ends is decided by what stands after it.

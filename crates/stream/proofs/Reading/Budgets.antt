@@ -9,7 +9,8 @@ use Rattle.std.proofs.Math.ListN.{length, length-append}
 use Rattle.stream.specs.declared.Fault.{Fault}
 use Rattle.stream.specs.Reading.{Reading, read, fault, read_on, Root, forest, only, tree, leaf, one_part, two_parts, on_one, on_two}
 use Rattle.stream.proofs.Reading.Laws.{none_owed}
-use Rattle.stream.proofs.Reading.Walking.{MakesOne, OneEach, one_each}
+use Rattle.stream.specs.Reading.Walking.{MakesOne}
+use Rattle.stream.proofs.Reading.Walking.{OneEach, one_each}
 use Rattle.stream.proofs.Reading.Parts.{then_read, as_read, built, one_read, second_read, alone, InFront}
 
 -- The nodes of some trees; a root makes of its parts a tree of one node more.

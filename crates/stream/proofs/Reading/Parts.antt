@@ -7,7 +7,8 @@ use native.Mathlib.Omega.{arith}
 use Rattle.stream.specs.declared.Fault.{Fault}
 use Rattle.stream.specs.Reading.{Reading, read, fault, read_on, Root, forest, only, tree, one_part, two_parts, on_one, on_two}
 use Rattle.stream.proofs.Reading.Laws.{none_owed}
-use Rattle.stream.proofs.Reading.Walking.{MakesOne, OneEach, one_each}
+use Rattle.stream.specs.Reading.Walking.{MakesOne}
+use Rattle.stream.proofs.Reading.Walking.{OneEach, one_each}
 
 -- What is read for some entries, and then for others, given what was read for the first.
 abbrev pub then_read : {A : Type 0} → Reading (List A) → (List A → List ℕ → Reading (List A)) → Reading (List A)

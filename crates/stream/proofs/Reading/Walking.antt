@@ -1,5 +1,5 @@
 -- Reading one root at a time, and sections by their counts: what a loop over the bytes is held to.
-use Rattle.std.specs.Prelude.{◌≡◌, get_or, take, drop, replicate}
+use Rattle.std.specs.Prelude.{◌≡◌, drop, replicate}
 use Rattle.std.proofs.Math.Path.{refl, ap}
 use Rattle.std.proofs.Common.{◌∙◌}
 use mathlib.Core.List.{List, [], ◌∷◌, ◌++◌}
@@ -10,12 +10,8 @@ use Rattle.std.proofs.lemmas.List.{replicate-append-replicate}
 use borrow.Author.Tests.{le-leb, lt-leb}
 use Rattle.stream.specs.declared.Fault.{Fault}
 use Rattle.stream.specs.Reading.{Reading, read, fault, read_on, whole, followed_by, read_number, counted, section, Root, forest, only, tree, leaf, one_part, two_parts, on_one, on_two}
+use Rattle.stream.specs.Reading.Walking.{rest_of, Owes, MakesOne, count, body}
 use Rattle.stream.proofs.Reading.Laws.{none_owed}
-
--- The bytes after what was read, or the fault: all that a loop knows of trees that it does not build.
-abbrev pub rest_of : {A : Type 0} → Reading A → Reading (Unit {0})
-rest_of (read a r) = read tt r
-rest_of (fault e) = fault e
 
 -- One turn of a loop that has read i roots of at most `top`.
 module _ {W A : Type 0} (over : Fault) (root : W → List ℕ → Reading (Root W A)) where
@@ -62,10 +58,6 @@ first_owed : {W : Type 0} (w : W) (owed : ℕ) → 0 < owed → replicate owed w
 first_owed w zero h = absurd (omega arith)
 first_owed w (suc owed) h = let e : suc owed - 1 ≡ owed = omega arith in rw e
 
--- A root was read that owes k parts, and r is left.
-abbrev pub Owes : {W A : Type 0} → W → ℕ → List ℕ → Reading (Root W A) → Type 0
-Owes {W} {A} w k r g = (n : Root W A) × (g ≡ read n r) × (n.parts ≡ replicate k w)
-
 module _ {W A : Type 0} (over : Fault) (root : W → List ℕ → Reading (Root W A))
     (w : W) (top i owed : ℕ) (wanted : 0 < owed) (s : List ℕ) where
   pub ahead_same : (k : ℕ) (r : List ℕ) → i < top → Owes w k r (root w s)
@@ -83,10 +75,6 @@ module _ {W A : Type 0} (over : Fault) (root : W → List ℕ → Reading (Root 
   spent_same h = rw (first_owed w owed wanted) (spent over root top i w (replicate (owed - 1) w) s h)
 
 -- After a tree stands what stands after a forest for one entry, if each root makes one tree of those of its parts.
-abbrev pub MakesOne : {W A : Type 0} → Reading (Root W A) → Type 0
-MakesOne {A = A} (read n r) = (ts : List A) (k : ℕ) → length ts ≡ length n.parts + k → length (n.build ts) ≡ suc k
-MakesOne (fault e) = Unit
-
 pub leaf_makes : {W A : Type 0} (w : W) (a : A) (s : List ℕ) → MakesOne {W = W} (leaf a s)
 leaf_makes w a s = λ ts k h. omega arith
 
@@ -137,13 +125,7 @@ module _ {W A : Type 0} (over : Fault) (root : W → List ℕ → Reading (Root 
       go (read (t ∷ ts) r) h = refl
       go (fault e) h = refl
 
--- A section's count, and the bytes that it counts.
-abbrev pub count : List ℕ → ℕ
-count s = get_or s 0 0 * 256 + get_or s 1 0
-
-abbrev pub body : List ℕ → List ℕ
-body s = take (count s) (drop 2 s)
-
+-- Sections by their counts.
 module _ {A : Type 0} (if_short if_left : Fault) (contents : List ℕ → Reading A) where
   pub no_count : (s : List ℕ) → length s < 2 → section if_short if_left contents s ≡ fault if_short
   unfolding section read_number

@@ -18,7 +18,8 @@ use Rattle.stream.specs.Prefixes.Kinds.{tally}
 use Rattle.stream.proofs.Prefixes.Laws.{crossed_second, beside_first, beside_second, first_chosen-inside, second_chosen-inside}
 use Rattle.stream.specs.Reading.{Bytes, Reading, read, fault, accepted, IsAccepted, read_on, section_bytes, section, Root, forest, leaf, one_part, two_parts}
 use Rattle.stream.proofs.Reading.Laws.{Reads, reads_leaf, reads_one, reads_two, tree_reads, RootIs, leaf_is, carried_is, one_is, two_is, tree_sound, section_reads, section_sound, whole_sound, ◌&◌, past, every, bytes_tail, bytes_nil, bytes_cons, section_is_bytes}
-use Rattle.stream.proofs.Reading.Walking.{MakesOne, leaf_makes, one_makes, two_makes}
+use Rattle.stream.specs.Reading.Walking.{MakesOne}
+use Rattle.stream.proofs.Reading.Walking.{leaf_makes, one_makes, two_makes}
 use Rattle.stream.proofs.Reading.Parts.{weight, Lighter, same_forest, InFront, one_in_front, two_in_front}
 use Rattle.stream.proofs.Reading.Budgets.{Spends, OneMore, leaf_one_more, one_one_more, two_one_more}
 use Rattle.stream.proofs.Reading.Refusals.{Faults, Refusals, read_on_faults, section_faults, tree_faults, whole_refusals}

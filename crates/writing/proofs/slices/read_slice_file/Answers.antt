@@ -2,7 +2,7 @@
 -- writes what it leaves, and the two lengths say whether a byte is left inside the section or behind it.
 use Rattle.std.proofs.Common.{◌-◌, ◌+◌, false, refl, arith}
 use Rattle.stream.specs.Reading.{Bytes}
-use Rattle.stream.proofs.Reading.Walking.{body}
+use Rattle.stream.specs.Reading.Walking.{body}
 use Rattle.reading.specs.declared.prefixes.Walk.TheVariants.{Past}
 use Rattle.writing.specs.Leaving.{WalksLeaving}
 use Rattle.writing.proofs.SliceFile.{count_missing, section_short, walk_failed, left_inside, left_behind, section_walked, refused_leaving, whole_leaving}
