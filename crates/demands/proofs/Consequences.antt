@@ -243,7 +243,7 @@ pub feed-counts : {file slice output_lent patch_lent output_after patch_after : 
     → AdmitPromise (type_file_bytes patch.trees.input) slice taken
     → AdmitPromise (type_file_bytes patch.output) (take answer.output output_after) sent
     → (answer.arrived ≡ taken.arrived) × (answer.sent ≡ sent.arrived)
-feed-counts call zero patch c takes sends-on = counts_as_admit call zero patch c takes sends-on
+feed-counts call zero patch c takes sends_on = counts_as_admit call zero patch c takes sends_on
 
 -- Document 02, M-103, of a patch that is a node 2 or 3: until the slice "differs from its type's empty slice or is complete" the node sends
 -- "the empty slice of [its] own type" and stays, so that the patch file is written back, byte for byte; nothing is counted.
@@ -256,13 +256,13 @@ module _ {file slice output_lent patch_lent output_after patch_after : List ℕ}
       → WroteBoth (record { output = slice_file_bytes cue_awaited; patch = file; arrived = 0; sent = 0 })
       output_lent patch_lent answer output_after patch_after
   unfolding arrivals
-  cue_stays is-cue h = stays_on_file call patch taken closed (rw is-cue (feeds_cue_waiting closed)) refl h room
+  cue_stays is_cue h = stays_on_file call patch taken closed (rw is_cue (feeds_cue_waiting closed)) refl h room
 
   pub level_stays : {v : ℕ} → patch.trees.node ≡ emit_level v → length (slice_file_bytes level_awaited) ≤ length output_lent
       → WroteBoth (record { output = slice_file_bytes level_awaited; patch = file; arrived = 0; sent = 0 })
       output_lent patch_lent answer output_after patch_after
   unfolding arrivals
-  level_stays is-level h = stays_on_file call patch taken closed (rw is-level (feeds_level_waiting closed)) refl h room
+  level_stays is_level h = stays_on_file call patch taken closed (rw is_level (feeds_level_waiting closed)) refl h room
 
 -- What a link has to carry: no slice that a run takes is longer than the longest slice of the input type at the start, and no output
 -- longer than that of the output type. (The input type file is the first section of the patch; Check writes the output type file.)

@@ -86,7 +86,7 @@ demand_2_patch file call b h = Iff.trans (writes_zero call (check_sized file b) 
 pub demand_2_patch_fed : {file slice lent lent_after output_lent patch_lent output_after patch_after : List ℕ} {checked : Written} {answer : Fed}
     → CheckPromise file lent checked lent_after → FeedPromise file slice output_lent patch_lent answer output_after patch_after
     → (checked.number ≡ 0 → ⊥) → (checked.number ≡ 20 → ⊥) → answer ≡ record { number = checked.number; output = 0; patch = 0; arrived = 0; sent = 0 }
-demand_2_patch_fed check-call feed-call not-0 not_20 = feeds_as_check check-call feed-call not-0 not_20
+demand_2_patch_fed check_call feed_call not_0 not_20 = feeds_as_check check_call feed_call not_0 not_20
 
 -- a slice, exactly when it is a prefix of the type in force. (`SliceFile`: by Feed, of the patch's input type; by Admit and Left, of
 -- the type beside it; by Join, the second of what the first leaves. Feed has limits of its own besides, document 02's: `Within`.)
@@ -191,7 +191,7 @@ pub joining_adds : (type first second : List ℕ) {lent lent_after left_lent lef
     → AdmitPromise type first one → AdmitPromise (take left.written left_after) second next
     → AdmitPromise type (take joined.written lent_after) both → Bytes type → Bytes first → Bytes second
     → (both.number ≡ 0) × (both.arrived ≡ one.arrived + next.arrived)
-joining_adds type first second join zero left left-zero one next both b c d = join_counts type first second join zero left left-zero one next both b c d
+joining_adds type first second join zero left left_zero one next both b c d = join_counts type first second join zero left left_zero one next both b c d
 
 -- Document 02, M-105. "Feed adds its two counts. (`totals_left` in FeedsPatch, by demand_2_sends; and of a list of feeds.)
 

@@ -54,7 +54,7 @@ pub data Ran : List ℕ → List Call → RunEnd → Type 0 where
 abbrev pub NoneShort : {file : List ℕ} {calls : List Call} {r : RunEnd} → Ran file calls r → Type 0
 NoneShort no_call = Unit
 NoneShort (accepted_call call zero ran) = NoneShort ran
-NoneShort (refused_call {answer = answer} call not-zero ran) = (answer.number ≡ 20 → ⊥) × NoneShort ran
+NoneShort (refused_call {answer = answer} call not_zero ran) = (answer.number ≡ 20 → ⊥) × NoneShort ran
 
 -- The slice files that the calls are handed.
 abbrev pub handed : List Call → List (List ℕ)

@@ -63,11 +63,11 @@ below_one {nodes} {from} {n} stands few = below_read 0 (drop from nodes) (stands
 -- Of two nodes one behind the other, as many as both have.
 pub below_two : {nodes : List ℕ} {from : ℕ} {n m : Node} → NodeAt nodes from n → NodeAt nodes (from + node_width n) m
     → Few n → Few m → nodes_below 2 (drop from nodes) ≡ count n + count m
-below_two {nodes} {from} {n} {m} stands behind few few-behind =
+below_two {nodes} {from} {n} {m} stands behind few few_behind =
     let follows : stands.rest ≡ drop (from + node_width n) nodes
     = rw (← drop-drop (node_width n) from nodes, stands.here, node_drop n stands.rest) in
     below_read 1 (drop from nodes) (stands_read stands few)
-    ∙ ap (λ k. count n + k) (ap (nodes_below 1) follows ∙ below_one behind few-behind)
+    ∙ ap (λ k. count n + k) (ap (nodes_below 1) follows ∙ below_one behind few_behind)
 
 -- A node with two parts has one more than they have.
 

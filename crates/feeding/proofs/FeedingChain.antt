@@ -237,8 +237,8 @@ module _ {types slice : List ℕ} {input : Input} {nodes : List ℕ} {from : ℕ
       failed
       (λ t typed room.
       let whole = in_chain typed in
-      let given-first = gave second.half.first in
-      let same : whole.middle ≡ given-first.type = sym (output_type_is whole.first_typed.types) ∙ output_type_is given-first.gives.types in
+      let given_first = gave second.half.first in
+      let same : whole.middle ≡ given_first.type = sym (output_type_is whole.first_typed.types) ∙ output_type_is given_first.gives.types in
       has_failed (second.feeds.each (second_due second.half)) t (rw same at whole.second_typed) room)
 
   -- Both have answered with a step.
@@ -294,6 +294,6 @@ module _ {types slice : List ℕ} {input : Input} {nodes : List ℕ} {from : ℕ
     chain_fed told =
         let first_typed = (gave half.first).gives in
         let typed = chain_typed nodes_at.made (record { middle = between_type; first_typed = first_typed; second_typed = gave_rest.gives }) in
-        let sent-chain = chain_sends {m = nodes_at.second} nodes_at.made first_typed due.prefix in
-        let left-chain = chain_leaves {m = nodes_at.second} nodes_at.made first_typed due.prefix in
-        rw (told, ← sent-chain, ← left-chain) (fed {step = after} typed both_steps)
+        let sent_chain = chain_sends {m = nodes_at.second} nodes_at.made first_typed due.prefix in
+        let left_chain = chain_leaves {m = nodes_at.second} nodes_at.made first_typed due.prefix in
+        rw (told, ← sent_chain, ← left_chain) (fed {step = after} typed both_steps)

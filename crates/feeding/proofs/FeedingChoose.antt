@@ -16,7 +16,7 @@ use Rattle.stream.specs.Prefixes.Kinds.{prefix_kind}
 use Rattle.stream.specs.TypeFiles.{type_bytes}
 use Rattle.reading.specs.declared.inputs.Input.{Input}
 use Rattle.reading.specs.TypeReads.{TypeAt}
-use Rattle.reading.specs.TypeReads.Laws.{kind_at as type-kind-at, type_width}
+use Rattle.reading.specs.TypeReads.Laws.{kind_at as type_kind_at, type_width}
 use Rattle.reading.specs.SliceReads.Laws.{kind_at}
 use Rattle.reading.specs.Inputs.{ChoiceDue as PartDue}
 use Rattle.reading.specs.Inputs.Laws.{Unchosen, is_unchosen, is_second_chosen}
@@ -99,14 +99,14 @@ module _ {types slice : List ℕ} {input : Input} {nodes : List ℕ} {from : ℕ
   no_either other =
       failed
       (λ t typed room.
-      other (type-kind-at due.stands.type_in.stands ∙ takes_either {n = nodes_at.first} {m = nodes_at.second} (rw nodes_at.made at typed.types)))
+      other (type_kind_at due.stands.type_in.stands ∙ takes_either {n = nodes_at.first} {m = nodes_at.second} (rw nodes_at.made at typed.types)))
 
   -- Behind either stand 8, 9 or 10.
   pub second_marked : get_or types input.ty.start 0 ≡ 5 → (get_or slice input.prefix.start 0 ≡ 8 → ⊥)
       → (get_or slice input.prefix.start 0 ≡ 9 → ⊥) → get_or slice input.prefix.start 0 ≡ 10
   second_marked five some other =
       let mark = kind_at due.stands.prefix_in.stands in
-      let chosen = is_second_chosen due.stands.is_prefix (sym (type-kind-at due.stands.type_in.stands) ∙ five)
+      let chosen = is_second_chosen due.stands.is_prefix (sym (type_kind_at due.stands.type_in.stands) ∙ five)
       (λ e. some (mark ∙ e)) (λ e. other (mark ∙ e)) in
       mark ∙ ap prefix_kind chosen.prefix_is
 
@@ -142,7 +142,7 @@ module _ {k : ℕ} {types slice : List ℕ} {input : Input} {nodes : List ℕ} {
         type = due.type;
         prefix = due.prefix;
         stands = due.stands;
-        is_either = sym (type-kind-at due.stands.type_in.stands) ∙ asked.is_either;
+        is_either = sym (type_kind_at due.stands.type_in.stands) ∙ asked.is_either;
       }
 
 -- No part is chosen.
@@ -227,9 +227,9 @@ module _ {types slice : List ℕ} {input : Input} {nodes : List ℕ} {from : ℕ
           → step ≡ record { end = end; sent = sent; kept = end - from; size = many }
           → Answer asked out_after remainder_after given_after (Fed step)
       waited {sent} {out_after} {remainder_after} written copied told =
-          let typed-parts = in_choose asked unchosen.type_is well_typed in
-          let sends-is = unchosen_sends (parts asked).made unchosen.type_is unchosen.prefix_is typed-parts.first_typed.types in
-          let leaves-is = unchosen_leaves (parts asked).made unchosen.type_is unchosen.prefix_is in
+          let typed_parts = in_choose asked unchosen.type_is well_typed in
+          let sends_is = unchosen_sends (parts asked).made unchosen.type_is unchosen.prefix_is typed_parts.first_typed.types in
+          let leaves_is = unchosen_leaves (parts asked).made unchosen.type_is unchosen.prefix_is in
           let node_leads : Leads (node_bytes due.node []) remainder remainder_after = rw (← node_taken) (front_leads _ remainder copied copy_room) in
           let steps : Steps (from + node_width due.node) (empty_prefix found.type) due.node found.type
           out remainder given out_after remainder_after given_after (record { end = end; sent = sent; kept = end - from; size = many })
@@ -242,4 +242,4 @@ module _ {types slice : List ℕ} {input : Input} {nodes : List ℕ} {from : ℕ
             node_left = node_leads;
             type_given = type_leads;
           } in
-          rw (told, ← sends-is, ← leaves-is) (fed well_typed steps)
+          rw (told, ← sends_is, ← leaves_is) (fed well_typed steps)

@@ -457,6 +457,6 @@ module _ {types slice : List ℕ} {input : Input} {nodes : List ℕ} {from : ℕ
         } in
         let small : size sequence ≤ length given = omega (arith, size_both_inside, sequence_leads.long, type_width sequence) in
         let is_typed = whole_typed parts.made coming.type_is pair (omega (arith, small, due.rooms.for_type)) in
-        let sent-then = coming_sends {r = coming.second_type} {m = parts.second} parts.made coming.type_is coming.prefix_is in
-        let left-then = coming_leaves {r = coming.second_type} parts.made coming.type_is coming.prefix_is in
-        rw (told, ← sent-then, ← left-then) (fed {step = after} is_typed first_steps)
+        let sent_then = coming_sends {r = coming.second_type} {m = parts.second} parts.made coming.type_is coming.prefix_is in
+        let left_then = coming_leaves {r = coming.second_type} parts.made coming.type_is coming.prefix_is in
+        rw (told, ← sent_then, ← left_then) (fed {step = after} is_typed first_steps)

@@ -265,6 +265,6 @@ module _ {types slice : List ℕ} {input : Input} {nodes : List ℕ} {from : ℕ
             node_left = left_leads second;
             type_given = (gave first).steps.type_given;
           } in
-          let sends-is = chosen_sends {r = chosen.second_type} {m = (parts asked).second} (parts asked).made chosen.type_is chosen.prefix_is in
-          let leaves-is = chosen_leaves {r = chosen.second_type} {m = (parts asked).second} (parts asked).made chosen.type_is chosen.prefix_is in
-          rw (is, ← sends-is, ← leaves-is) (fed (of_choose asked chosen.type_is both) steps)
+          let sends_is = chosen_sends {r = chosen.second_type} {m = (parts asked).second} (parts asked).made chosen.type_is chosen.prefix_is in
+          let leaves_is = chosen_leaves {r = chosen.second_type} {m = (parts asked).second} (parts asked).made chosen.type_is chosen.prefix_is in
+          rw (is, ← sends_is, ← leaves_is) (fed (of_choose asked chosen.type_is both) steps)

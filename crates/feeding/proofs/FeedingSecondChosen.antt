@@ -16,7 +16,7 @@ use Rattle.stream.specs.Prefixes.{Prefix, second_chosen}
 use Rattle.stream.specs.TypeFiles.{type_bytes}
 use Rattle.reading.specs.declared.inputs.Input.{Input}
 use Rattle.reading.specs.declared.inputs.Choice.{Choice}
-use Rattle.reading.specs.TypeReads.Laws.{kind_at as type-kind-at, type_width}
+use Rattle.reading.specs.TypeReads.Laws.{kind_at as type_kind_at, type_width}
 use Rattle.reading.specs.SliceReads.Laws.{kind_at}
 use Rattle.reading.specs.Inputs.{ChosenAt, ChoiceFound}
 use Rattle.reading.specs.Inputs.Laws.{Chosen, is_second_chosen}
@@ -94,7 +94,7 @@ module _ {types slice : List ℕ} {input : Input} {nodes : List ℕ} {from : ℕ
   pub chosen : Chosen second_chosen due.type due.prefix
   chosen =
       let ten = sym (kind_at due.stands.prefix_in.stands) ∙ asked.is_marked in
-      is_second_chosen due.stands.is_prefix (sym (type-kind-at due.stands.type_in.stands) ∙ asked.is_either)
+      is_second_chosen due.stands.is_prefix (sym (type_kind_at due.stands.type_in.stands) ∙ asked.is_either)
       (λ eight. omega (arith, ten, eight)) (λ nine. omega (arith, ten, nine))
 
   -- What the second node sends and leaves is what choose does.
@@ -281,6 +281,6 @@ module _ {types slice : List ℕ} {input : Input} {nodes : List ℕ} {from : ℕ
             node_left = left_leads;
             type_given = gave.steps.type_given;
           } in
-          let sends-is = chosen_sends {t = chosen.first_type} {l = (parts asked).first} (parts asked).made chosen.type_is chosen.prefix_is in
-          let leaves-is = chosen_leaves {t = chosen.first_type} {l = (parts asked).first} (parts asked).made chosen.type_is chosen.prefix_is in
-          rw (← sends-is, ← leaves-is) (fed (of_choose asked chosen.type_is both) steps)
+          let sends_is = chosen_sends {t = chosen.first_type} {l = (parts asked).first} (parts asked).made chosen.type_is chosen.prefix_is in
+          let leaves_is = chosen_leaves {t = chosen.first_type} {l = (parts asked).first} (parts asked).made chosen.type_is chosen.prefix_is in
+          rw (← sends_is, ← leaves_is) (fed (of_choose asked chosen.type_is both) steps)

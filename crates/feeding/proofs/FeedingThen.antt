@@ -9,7 +9,7 @@ use Rattle.stream.specs.Types.{Ty, seq, kind, Small}
 use Rattle.stream.specs.Prefixes.{Prefix, crossed}
 use Rattle.reading.specs.declared.inputs.Input.{Input}
 use Rattle.reading.specs.declared.inputs.Halves.{Halves}
-use Rattle.reading.specs.TypeReads.Laws.{kind_at as type-kind-at}
+use Rattle.reading.specs.TypeReads.Laws.{kind_at as type_kind_at}
 use Rattle.reading.specs.SliceReads.Laws.{kind_at}
 use Rattle.reading.specs.Inputs.{InputAt, first_crossed, HalvesDue, HalvesAt, HalvesFound}
 use Rattle.reading.specs.Inputs.Laws.{Crossing, is_crossing}
@@ -68,7 +68,7 @@ module _ {types slice : List ℕ} {input : Input} {nodes : List ℕ} {from : ℕ
   no_sequence other =
       failed
       (λ t typed room.
-      other (type-kind-at due.stands.type_in.stands ∙ takes_sequence {n = nodes_at.first} {m = nodes_at.second} (rw nodes_at.made at typed.types)))
+      other (type_kind_at due.stands.type_in.stands ∙ takes_sequence {n = nodes_at.first} {m = nodes_at.second} (rw nodes_at.made at typed.types)))
 
   -- Fewer nodes are below.
   pub both_below : nodes_below 2 (drop (from + 1) nodes) < nodes_below 1 (drop from nodes)
@@ -78,7 +78,7 @@ module _ {types slice : List ℕ} {input : Input} {nodes : List ℕ} {from : ℕ
   module _ (three : get_or types input.ty.start 0 ≡ 3) (other : get_or slice input.prefix.start 0 ≡ 5 → ⊥) where
     pub crossing : Crossing due.type due.prefix
     crossing =
-        is_crossing due.stands.is_prefix (sym (type-kind-at due.stands.type_in.stands) ∙ three)
+        is_crossing due.stands.is_prefix (sym (type_kind_at due.stands.type_in.stands) ∙ three)
         (λ five. other (kind_at due.stands.prefix_in.stands ∙ five))
 
     crossed_at : InputAt types slice input (seq crossing.first_type crossing.second_type) (crossed crossing.first_prefix crossing.second_prefix)

@@ -40,9 +40,9 @@ both_parts typed = go typed.types typed.fits
 pub both_whole : {s t : Ty} {n m : Node} → PairTyped Beside s s n m t → Small t → WellTyped s (both n m) t
 both_whole typed small =
     let whole = takes_both typed.first_typed.types typed.second_typed.types in
-    let small-whole = rw typed.made at small in
+    let small_whole = rw typed.made at small in
     rw typed.made
-    (record { types = whole; fits = (typed.first_typed.fits, typed.second_typed.fits, rw (output_type_is whole) small-whole) })
+    (record { types = whole; fits = (typed.first_typed.fits, typed.second_typed.fits, rw (output_type_is whole) small_whole) })
 
 pub then_parts : {s r t : Ty} {n m : Node} → WellTyped (seq s r) (then n m) t → PairTyped Crossed s r n m t
 then_parts typed = go typed.types typed.fits
@@ -60,9 +60,9 @@ then_parts typed = go typed.types typed.fits
 pub then_whole : {s r t : Ty} {n m : Node} → PairTyped Crossed s r n m t → Small t → WellTyped (seq s r) (then n m) t
 then_whole typed small =
     let whole = takes_then typed.first_typed.types typed.second_typed.types in
-    let small-whole = rw typed.made at small in
+    let small_whole = rw typed.made at small in
     rw typed.made
-    (record { types = whole; fits = (typed.first_typed.fits, typed.second_typed.fits, rw (output_type_is whole) small-whole) })
+    (record { types = whole; fits = (typed.first_typed.fits, typed.second_typed.fits, rw (output_type_is whole) small_whole) })
 
 -- Of a chain, the type between its nodes.
 

@@ -82,7 +82,7 @@ fn kept_before(pair: Pair, kept: usize) -> usize
 
 // Feeds the input to the node at `from`. A node is fed by its kind; a kind above 17 is refused where the patch is read, and does not
 // stand here.
-#[cycle(feed_both_feed_chain_feed_choose_feed_coming_feed_first_chosen_feed_node_feed_parts_feed_second_chosen_feed_then)]
+#[cycle(feed_each_node)]
 pub fn feed_node(
     types: &[u8],
     slice: &[u8],
@@ -122,7 +122,7 @@ pub fn feed_node(
 
 // Feeds *both*: each of its nodes gets the whole input. A function of its own, so that its parts take no room in the frame of
 // `feed_node`, which stands on the stack once for each level of a patch.
-#[cycle(feed_both_feed_chain_feed_choose_feed_coming_feed_first_chosen_feed_node_feed_parts_feed_second_chosen_feed_then)]
+#[cycle(feed_each_node)]
 fn feed_both(
     types: &[u8],
     slice: &[u8],
@@ -142,7 +142,7 @@ fn feed_both(
 }
 
 // Feeds the two nodes at `from` in turn.
-#[cycle(feed_both_feed_chain_feed_choose_feed_coming_feed_first_chosen_feed_node_feed_parts_feed_second_chosen_feed_then)]
+#[cycle(feed_each_node)]
 fn feed_parts(
     types: &[u8],
     slice: &[u8],
@@ -203,7 +203,7 @@ fn feed_parts(
 }
 
 // Feeds *then*: its first node alone while the first part is still coming, both nodes at the crossing.
-#[cycle(feed_both_feed_chain_feed_choose_feed_coming_feed_first_chosen_feed_node_feed_parts_feed_second_chosen_feed_then)]
+#[cycle(feed_each_node)]
 fn feed_then(
     types: &[u8],
     slice: &[u8],
@@ -232,7 +232,7 @@ fn feed_then(
 }
 
 // Feeds *then* while the first part is still coming. The second node stays as it is; its type is given all the same.
-#[cycle(feed_both_feed_chain_feed_choose_feed_coming_feed_first_chosen_feed_node_feed_parts_feed_second_chosen_feed_then)]
+#[cycle(feed_each_node)]
 fn feed_coming(
     types: &[u8],
     slice: &[u8],
@@ -284,7 +284,7 @@ fn feed_coming(
 }
 
 // Feeds *chain*: the second node takes what the first sends, of the type that the first gives.
-#[cycle(feed_both_feed_chain_feed_choose_feed_coming_feed_first_chosen_feed_node_feed_parts_feed_second_chosen_feed_then)]
+#[cycle(feed_each_node)]
 fn feed_chain(
     types: &[u8],
     slice: &[u8],
@@ -341,7 +341,7 @@ fn feed_chain(
 }
 
 // Feeds *choose*: until one part is chosen it waits, and then the chosen part's node is fed alone.
-#[cycle(feed_both_feed_chain_feed_choose_feed_coming_feed_first_chosen_feed_node_feed_parts_feed_second_chosen_feed_then)]
+#[cycle(feed_each_node)]
 fn feed_choose(
     types: &[u8],
     slice: &[u8],
@@ -399,7 +399,7 @@ fn feed_unchosen(
 
 // Feeds the first node of *choose*, which is left alone. The second node has to give the same type: it is written behind what is left
 // of the first, where the second node itself would have had room.
-#[cycle(feed_both_feed_chain_feed_choose_feed_coming_feed_first_chosen_feed_node_feed_parts_feed_second_chosen_feed_then)]
+#[cycle(feed_each_node)]
 fn feed_first_chosen(
     types: &[u8],
     slice: &[u8],
@@ -444,7 +444,7 @@ fn feed_first_chosen(
 
 // Feeds the second node of *choose*, which is left alone. Where it begins is known once the first node is typed, whose type is written at
 // the end of the room for what is left, where the first node itself would have had room.
-#[cycle(feed_both_feed_chain_feed_choose_feed_coming_feed_first_chosen_feed_node_feed_parts_feed_second_chosen_feed_then)]
+#[cycle(feed_each_node)]
 fn feed_second_chosen(
     types: &[u8],
     slice: &[u8],

@@ -20,7 +20,7 @@ use Rattle.node.specs.Checking.{WellTyped}
 use Rattle.node.specs.Feeding.Functions.{sends, leaves}
 use Rattle.node.specs.PatchFiles.{node_bytes}
 use Rattle.patch_reading.specs.PatchReads.{node_width}
-use Rattle.patch_reading.specs.PatchReads.Laws.{ends_inside, Carried, silent_carries, carried_at, bytes_at as node-bytes-at}
+use Rattle.patch_reading.specs.PatchReads.Laws.{ends_inside, Carried, silent_carries, carried_at, bytes_at as node_bytes_at}
 use Rattle.writing.specs.Writing.{SilenceDue, SilenceWritten}
 use Rattle.leaf_feeding.specs.declared.Step.{Step}
 use Rattle.leaf_feeding.specs.declared.Stepped.TheVariants.{Fed, Failed}
@@ -101,7 +101,7 @@ module _ {nodes : List ℕ} {from : ℕ} {out remainder given : List ℕ} (due :
     node_taken : node_part ≡ node_bytes due.node []
     node_taken =
         let long : end - from ≡ node_width due.node = omega (arith, node_ends) in
-        rw long (node-bytes-at due.node_at)
+        rw long (node_bytes_at due.node_at)
 
     abbrev silent_step : Step
     silent_step = record { end = end; sent = end - (from + 1); kept = 1 + (end - (from + 1)); size = end - (from + 1) }

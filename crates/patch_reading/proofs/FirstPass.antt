@@ -36,16 +36,16 @@ module _ (s : List ℕ) (bytes : Bytes s) (end : ℕ) (type_ends : end_of (lengt
   unfolding first_pass patch_sections
   node_failed e h = rw (type_held.reads, failed (length (drop end s)) (node_section (drop end s)) e h)
 
-  module _ (Node_End : ℕ) (node_ends : end_of (length (drop end s)) (node_section (drop end s)) ≡ At Node_End) where
-    pub node_held : SectionEnds read_node (drop end s) Node_End
+  module _ (node_end : ℕ) (node_ends : end_of (length (drop end s)) (node_section (drop end s)) ≡ At node_end) where
+    pub node_held : SectionEnds read_node (drop end s) node_end
     unfolding node_section
-    node_held = section_ended read_node (drop end s) Node_End node_ends
+    node_held = section_ended read_node (drop end s) node_end node_ends
 
-    pub sections_fit : (2 ≤ Node_End) × (end + Node_End ≤ length s)
+    pub sections_fit : (2 ≤ node_end) × (end + node_end ≤ length s)
     sections_fit = omega (arith, type_held.fits, node_held.fits, node_held.place, length-drop end s)
 
     abbrev pub behind : List ℕ
-    behind = drop (end + Node_End) s
+    behind = drop (end + node_end) s
 
     abbrev patch_with : Totals → Patch
     patch_with c = patch_of type_held.type node_held.tree c
@@ -54,7 +54,7 @@ module _ (s : List ℕ) (bytes : Bytes s) (end : ℕ) (type_ends : end_of (lengt
     last : first_pass s ≡ go_on (whole LeftOver (totals_section behind)) (λ c. accepted (patch_with c))
     unfolding first_pass patch_sections node_section
     last =
-        rw (type_held.reads, node_held.reads, drop-drop Node_End end s)
+        rw (type_held.reads, node_held.reads, drop-drop node_end end s)
         (all_whole (totals_section behind) patch_with)
 
     pub last_failed : (n : ℕ) (e : Fault) → whole_end n (whole LeftOver (totals_section behind)) ≡ Failed e → first_pass s ≡ refused e

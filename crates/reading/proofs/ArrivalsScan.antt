@@ -62,16 +62,16 @@ module _ {slice : List ℕ} {place : PrefixPlace} {p : Prefix} {count next : ℕ
   -- The kind byte come to is counted, and passed with its value.
   pub counted_on : {later behind : ℕ} → next < place.end → later ≡ count + root_arrivals (get_or slice next 0) → behind ≡ next + root_width (get_or slice next 0)
       → later + place.start ≤ behind → Counting slice place.start p later behind
-  counted_on more is_later is-behind fits =
+  counted_on more is_later is_behind fits =
       record {
         passed = _;
         owed = counting.owed + prefix_arity (get_or slice next 0) - 1;
-        run = turned counting.run (still_owed more) _ _ (omega (arith, still_owed more)) is-behind;
+        run = turned counting.run (still_owed more) _ _ (omega (arith, still_owed more)) is_behind;
         counted = omega (arith, counting.counted);
         few = fits;
       }
 
   pub counted_all : place.end ≤ next → count ≡ arrivals p
-  counted_all at-end =
+  counted_all at_end =
       let none : counting.owed ≡ 0 = omega (arith, inside) in
       counting.counted ∙ summed counting.run none root_arrivals ∙ sym (arrivals-tally p)

@@ -86,7 +86,7 @@ module _ {slice : List ℕ} {place : ℕ} {p : Prefix} {passed : List ℕ} {owed
   -- The kind at `end` gives way to its parts.
   pub turned : 0 < owed → (next behind : ℕ) → next + 1 ≡ owed + prefix_arity (get_or slice end 0) → behind ≡ end + root_width (get_or slice end 0)
       → Run slice place p (get_or slice end 0 ∷ passed) next behind
-  turned wanted next behind more is-behind = go run.ahead run.here run.many run.sums
+  turned wanted next behind more is_behind = go run.ahead run.here run.many run.sums
     where
       go : (ps : List Prefix) → drop end slice ≡ several ps run.rest → length ps ≡ owed
           → ((weight : ℕ → ℕ) → totals weight passed + tallies weight ps ≡ tally weight p)
@@ -99,7 +99,7 @@ module _ {slice : List ℕ} {place : ℕ} {p : Prefix} {passed : List ℕ} {owed
             ahead = prefix_parts q ++ ps;
             rest = run.rest;
             here =
-                rw (is-behind, kind, ← drop-drop (root_width (prefix_kind q)) end slice, here, behind_root q (several ps run.rest))
+                rw (is_behind, kind, ← drop-drop (root_width (prefix_kind q)) end slice, here, behind_root q (several ps run.rest))
                 (sym (several_append (prefix_parts q) ps run.rest));
             many = omega (arith, length-append (prefix_parts q) ps, prefix_parts_many q, ap prefix_arity kind);
             sums = λ weight. omega (arith, sums weight, tallies_append weight (prefix_parts q) ps, tally_by_parts weight q, ap weight kind);

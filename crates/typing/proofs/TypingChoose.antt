@@ -150,7 +150,7 @@ module _ {types : List ℕ} {place : TypePlace} {nodes : List ℕ} {from : ℕ} 
 
           pub outputs_same : {lies : TypePlace} {lent after : List ℕ} {answer : Typed} → lies ≡ record { start = 0; end = many } → same ≡ true
               → Given gives one lies end lent after answer → TypesNode types place nodes from lent after answer
-          outputs_same {lent = lent} {after = after} {answer = answer} is_place agree given-one = record { each = each }
+          outputs_same {lent = lent} {after = after} {answer = answer} is_place agree given_one = record { each = each }
             where
               each : (due : TypingDue types place nodes from) → Answers (from + node_width due.node) (typing due.type due.node) lent after answer
               each due =
@@ -158,4 +158,4 @@ module _ {types : List ℕ} {place : TypePlace} {nodes : List ℕ} {from : ℕ} 
                   let g = second_given due in
                   let ends : from + node_width due.node ≡ end = omega (arith, f.ends, g.ends, (chosen due).wide) in
                   rw (ends, choose_is due, f.is_accepted, g.is_accepted)
-                  (requires_holds OutputsDiffer (same_is due ∙ agree) (given-one.each f.type (held_in f.holds is_place)))
+                  (requires_holds OutputsDiffer (same_is due ∙ agree) (given_one.each f.type (held_in f.holds is_place)))

@@ -203,7 +203,7 @@ fn type_leaf(types: &[u8], place: TypePlace, nodes: &[u8], from: usize, out: &mu
 
 // The type that a node gives on the type in `place`. The parts of `both` and `then` write theirs behind one kind byte; what the
 // first part of `chain` gives is the input of the second; those of `choose` give the same.
-#[cycle(type_choose_type_node_type_parts)]
+#[cycle(type_each_node)]
 pub fn type_node(types: &[u8], place: TypePlace, nodes: &[u8], from: usize, out: &mut [u8]) -> Typed
     requires { TypingDue types.now place nodes.now from }
     ensures { TypesNode types.now place nodes.now from out.old out.new result }
@@ -245,7 +245,7 @@ pub fn type_node(types: &[u8], place: TypePlace, nodes: &[u8], from: usize, out:
 }
 
 // The type of the kind `kind` that the two nodes at `from` give together, one on the type in `first`, one on that in `second`.
-#[cycle(type_choose_type_node_type_parts)]
+#[cycle(type_each_node)]
 fn type_parts(
     kind: u8,
     types: &[u8],
@@ -276,7 +276,7 @@ fn type_parts(
 // The type that both parts of choose give, each on its part of the type in `place`. They are written on work bytes that have room
 // for every type, since they are compared whole, and `out` may be too short for them. A function of its own, so that the nodes of
 // other kinds need no stack for these bytes; Feed calls it too, as the compiler takes a function with one caller into its caller.
-#[cycle(type_choose_type_node_type_parts)]
+#[cycle(type_each_node)]
 pub fn type_choose(
     types: &[u8],
     place: TypePlace,

@@ -181,17 +181,17 @@ module _ {patch : List ℕ} {place : PatchPlace} {slice left : List ℕ} {arrive
   done {sent = sent} {sent_after = sent_after} {step = step} long answers fed =
       let gave = was_fed (rw fed at answers) in
       let steps = gave.steps in
-      let sent-long : step.sent ≡ length (prefix_bytes (sends input node prefix) [])
+      let sent_long : step.sent ≡ length (prefix_bytes (sends input node prefix) [])
       = omega (arith, steps.sent, prefix_bytes_length (sends input node prefix) []) in
       record {
         output = _;
         typed = gave.gives;
-        sent_small = omega (arith, long, sent-long, leads_inside steps.output);
+        sent_small = omega (arith, long, sent_long, leads_inside steps.output);
         nodes_small = omega (arith, steps.kept, left_width gave.gives due.taken.is_prefix, few);
-        sent_inside = omega (arith, sent-long, leads_inside steps.output, steps.output.long);
+        sent_inside = omega (arith, sent_long, leads_inside steps.output, steps.output.long);
         nodes_inside = omega (arith, steps.kept, leads_inside steps.node_left, steps.node_left.long);
         sent_stands = rw steps.sent (prefix_stands steps.output);
-        sent_taken = leads_taken steps.output sent-long;
+        sent_taken = leads_taken steps.output sent_long;
         nodes_taken = leads_taken steps.node_left steps.kept;
       }
 
@@ -222,20 +222,20 @@ module _ {patch : List ℕ} {place : PatchPlace} {slice left : List ℕ} {arrive
       -- What is sent and the parts of the patch left, on the work bytes.
       abbrev pub both_due : answer ≡ true → BothDue (take step.sent sent) left (take step.kept nodes) totals
       both_due fit =
-          let sent-long : length (take step.sent sent) ≡ step.sent = length-take-le step.sent sent is_done.sent_inside in
-          let nodes-long : length (take step.kept nodes) ≡ step.kept = length-take-le step.kept nodes is_done.nodes_inside in
+          let sent_long : length (take step.sent sent) ≡ step.sent = length-take-le step.sent sent is_done.sent_inside in
+          let nodes_long : length (take step.kept nodes) ≡ step.kept = length-take-le step.kept nodes is_done.nodes_inside in
           record {
             output = sends input node prefix;
             patch = next;
             sent_is = is_done.sent_taken;
-            short = omega (arith, sent-long, is_done.sent_small);
+            short = omega (arith, sent_long, is_done.sent_small);
             bytes =
                 record {
                   input_is = due.left_is;
                   nodes_are = is_done.nodes_taken;
                   totals_are = totals_left.bytes fit;
                   small = small_left;
-                  countable = omega (arith, nodes-long, is_done.nodes_small);
+                  countable = omega (arith, nodes_long, is_done.nodes_small);
                 };
           }
 

@@ -58,7 +58,7 @@ module _ {types : List ℕ} {at : ℕ} {awaited : Bool} {lent lent_after : List 
 
   pub come_left : awaited ≡ false → Appends (0 ∷ []) 0 lent lent_after n → LeafLeft types at awaited lent lent_after (at + 1)
   unfolding size type_bytes
-  come_left has-come appended = record { each = λ t here. rw has-come (refl, (written_on (nothing_written lent) appended).holds) }
+  come_left has_come appended = record { each = λ t here. rw has_come (refl, (written_on (nothing_written lent) appended).holds) }
 
 -- What a leaf of each kind leaves
 module _ (t : Ty) (c : Bool) (budget n place : ℕ) (s r lent now : List ℕ) (long : n ≡ place + 1 + length r) where
@@ -127,16 +127,16 @@ module _ {types : List ℕ} {at : ℕ} {slice : List ℕ} {place : ℕ} {c : Boo
 
   pub leaf_leaving : {t : Ty} → Begins types at t slice place c → prefix_arity (get_or slice place 0) ≡ 0 → (answer : Walk)
       → WalksLeafLeaving types at slice place lent now answer → WalksLeaving types at slice place c lent now answer
-  leaf_leaving {t} begins none answer leaf-walk =
+  leaf_leaving {t} begins none answer leaf_walk =
       let long : length slice ≡ place + 1 + length (drop (place + 1) slice) = omega (arith, begins.more, length-drop (place + 1) slice) in
       record {
-        walks = leaf_walks begins none answer leaf-walk.walks;
-        long = leaf-walk.long;
+        walks = leaf_walks begins none answer leaf_walk.walks;
+        long = leaf_walk.long;
         left =
             all_left begins.stands slice place c lent now
             (λ budget enough.
             leaf_left t c budget (length slice) place (drop place slice) (drop (place + 1) slice) lent now long (get_or slice place 0) none
-            (begun begins) (λ there. leaf-walk.left there t begins.stands));
+            (begun begins) (λ there. leaf_walk.left there t begins.stands));
       }
 
 -- Two types in one, in bytes
@@ -186,9 +186,9 @@ module _ {types : List ℕ} {at : ℕ} {t : Ty} {slice : List ℕ} {place : ℕ}
     first_written : (get_or slice place 0 ≡ 6 → ⊥)
         → WrittenSoFar (get_or types at 0 ∷ type_bytes (derivative (first_part t) first_prefix) []) lent written (1 + first.remains)
     unfolding LeftBy known first_prefix
-    first_written not-crossed =
+    first_written not_crossed =
         let f = first_within half.halfway budget enough in
-        let kept = half.starts.kept not-crossed half.halfway.forks.no_choice in
+        let kept = half.starts.kept not_crossed half.halfway.forks.no_choice in
         let remains : first.remains ≡ size (derivative (first_part t) f.prefix) = ap (λ k. k.remains) f.knows in
         written-part (written_on (nothing_written lent) kept.0) kept.1
         (rw f.reads at (half.first_left.left (first_part t) (first_stands half.halfway.forks) budget enough))
@@ -247,8 +247,8 @@ module _ {types : List ℕ} {at : ℕ} {t : Ty} {slice : List ℕ} {place : ℕ}
   pub untouched : get_or slice place 0 ≡ 6 → written ≡ lent
   untouched six =
       let none = half.starts.crossed six in
-      let y-long : length y ≡ 0 = omega (arith, half.first_left.long, part_length start now, none.1, ap length none.0) in
-      rw (none.0, none.1) (none-back lent y y-long)
+      let y_long : length y ≡ 0 = omega (arith, half.first_left.long, part_length start now, none.1, ap length none.0) in
+      rw (none.0, none.1) (none-back lent y y_long)
 
   pub crossing_leaving : get_or slice place 0 ≡ 6 → (answer : Walk) {z : List ℕ} → WalksLeaving types type_end slice prefix_end c written z answer
       → WalksLeaving types at slice place c lent z (combined crossed_known first answer)

@@ -290,12 +290,12 @@ module _ {types : List ℕ} {at : ℕ} {t : Ty} {slice : List ℕ} {place : ℕ}
 
   pub leaf_walks : prefix_arity (get_or slice place 0) ≡ 0 → (answer : Walk) → WalksLeaf types at slice place answer
       → Walks types at slice place c answer
-  leaf_walks none answer leaf-ends =
+  leaf_walks none answer leaf_ends =
       let long : length slice ≡ place + 1 + length (drop (place + 1) slice) = simp length-drop (omega (arith, begins.more)) in
       let alone : is_unfinished (get_or slice place 0) ≡ false → size t ≡ 1
       = λ f. leaf-alone t (ap type_arity type_kind_is ∙ come-alone (get_or slice place 0) none f) in
       walks begins.stands slice place c answer
-      (λ budget enough. leaf-ends.each t begins.stands
+      (λ budget enough. leaf_ends.each t begins.stands
       ∙ leaf_read t c budget at (length slice) place (drop place slice) (drop (place + 1) slice) long (get_or slice place 0) none alone begun)
 
 -- A kind byte with parts behind it, of which the first is walked through first, that belongs there; d says whether that part has to

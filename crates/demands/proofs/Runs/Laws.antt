@@ -178,11 +178,11 @@ pub stays_on_file : {o : Prefix} {file slice output_lent patch_lent output_after
     → Feeds patch.trees.input patch.trees.node taken.prefix o patch.trees.node → arrivals o ≡ 0
     → length (slice_file_bytes o) ≤ length output_lent → length file ≤ length patch_lent
     → WroteBoth (record { output = slice_file_bytes o; patch = file; arrived = 0; sent = 0 }) output_lent patch_lent answer output_after patch_after
-stays_on_file {o} call patch taken closed rule none-sent i j =
+stays_on_file {o} call patch taken closed rule none_sent i j =
     let a = patch.trees in
     let none_came = closed_arrivals taken.is_prefix closed in
     let came : a.totals.arrived ≡ a.totals.arrived + arrivals taken.prefix = omega (arith, none_came) in
-    let went : a.totals.sent ≡ a.totals.sent + arrivals o = omega (arith, none-sent) in
+    let went : a.totals.sent ≡ a.totals.sent + arrivals o = omega (arith, none_sent) in
     let fed : FeedsPatch patch.trees taken.prefix o patch.trees = record {
       by_node = rule;
       input_left = sym (closed_derivative taken.is_prefix closed);
@@ -190,7 +190,7 @@ stays_on_file {o} call patch taken closed rule none-sent i j =
     } in
     let same = (feeds_patch_only fed taken.is_prefix).1 in
     let within = (within_test a patch.allowed.types taken.is_prefix).0 ((held_test (patch_left a taken.prefix).totals).1 (held_along same patch.held)) in
-    rw (patch.bytes, none_came, none-sent) at (feed_by_rules call patch taken within fed i (rw patch.bytes j))
+    rw (patch.bytes, none_came, none_sent) at (feed_by_rules call patch taken within fed i (rw patch.bytes j))
 
 -- No more is counted than the leaves of a type, of what arrived and of what was sent.
 pub feeds_few : {file slice output_lent patch_lent output_after patch_after : List ℕ} {answer : Fed}
@@ -217,7 +217,7 @@ pub counts_as_admit : {file slice output_lent patch_lent output_after patch_afte
     → AdmitPromise (type_file_bytes patch.trees.input) slice taken
     → AdmitPromise (type_file_bytes patch.output) (take answer.output output_after) sent
     → (answer.arrived ≡ taken.arrived) × (answer.sent ≡ sent.arrived)
-counts_as_admit {slice = slice} call zero patch c takes sends-on =
+counts_as_admit {slice = slice} call zero patch c takes sends_on =
     let fed = feeds_accepted call zero in
     let allowed = patch.allowed in
     let p = fed_piece patch.trees slice fed.files allowed patch.held c (ap (λ f. feed f slice) patch.bytes ∙ fed.due) in
@@ -227,7 +227,7 @@ counts_as_admit {slice = slice} call zero patch c takes sends-on =
       fed.arrived ∙ sym (ap (λ (w : FedFiles). w.arrived) p.files)
           ∙ sym (admits_counts takes (rw p.taken.bytes at (admit_answers allowed.input_small h))),
       fed.sent ∙ sym (ap (λ (w : FedFiles). w.sent) p.files)
-          ∙ sym (admits_counts sends-on (rw output at (admit_answers small (preserved allowed.types h).sent))),
+          ∙ sym (admits_counts sends_on (rw output at (admit_answers small (preserved allowed.types h).sent))),
     )
 
 -- The rules define what is sent and left, of every prefix.
@@ -532,8 +532,8 @@ all_taken : (a : Patch) {t : Ty} {start : List ℕ} {r : RunEnd} (ps : List Pref
 all_taken a [] [] e w c k held d no_call short = (refl, sym e ∙ ap patch_file_bytes (sym (patch_left-none a)))
 all_taken a [] (x ∷ calls) e w c k held d ran short = let z : ◌≡◌ {A = ℕ} 0 1 = cc in absurd (omega arith)
 all_taken a (p ∷ ps) [] e w c k held d ran short = let z : ◌≡◌ {A = ℕ} 0 1 = cc in absurd (omega arith)
-all_taken a (p ∷ ps) (x ∷ calls) e w c (piece h k) held d (refused_call call not-zero ran) short =
-    absurd (⊎_elim not-zero short.0 ((feeds_aside call (feed_refuses _ x.slice)).1 (_, piece_due a x e w c h (held_first a p ps held) (cc))))
+all_taken a (p ∷ ps) (x ∷ calls) e w c (piece h k) held d (refused_call call not_zero ran) short =
+    absurd (⊎_elim not_zero short.0 ((feeds_aside call (feed_refuses _ x.slice)).1 (_, piece_due a x e w c h (held_first a p ps held) (cc))))
 all_taken a (p ∷ ps) (x ∷ calls) e w c (piece h k) held d (accepted_call call zero ran) short =
     let now = held_first a p ps held in
     let due = piece_due a x e w c h now (cc) in

@@ -84,8 +84,8 @@ twenty {A} fits (accepted a) n = ((λ h. there (fits a) refl h), back)
 
 other_number : {A : Type 0} (fits : A → Bool) (r : Result A) (k : ℕ) → (k ≡ 0 → ⊥) → (k ≡ 20 → ⊥) → number_of (with_room fits r) ≡ k ↔ number_of r ≡ k
 unfolding with_room
-other_number fits (refused e) k not-0 not_20 = ((λ h. h), (λ h. h))
-other_number {A} fits (accepted a) k not-0 not_20 = ((λ h. go (fits a) h), (λ h. absurd (not-0 (sym h))))
+other_number fits (refused e) k not_0 not_20 = ((λ h. h), (λ h. h))
+other_number {A} fits (accepted a) k not_0 not_20 = ((λ h. go (fits a) h), (λ h. absurd (not_0 (sym h))))
   where
     go : (b : Bool) → number_of (require b NoRoom (accepted a)) ≡ k → 0 ≡ k
     go true h = h
@@ -222,7 +222,7 @@ module _ {patch slice output_lent patch_lent : List ℕ} {answer : Fed} {output_
 
   -- Room changes no number but 0 and 20.
   pub feeds_number : (k : ℕ) → (k ≡ 0 → ⊥) → (k ≡ 20 → ⊥) → answer.number ≡ k ↔ number_of (feed patch slice) ≡ k
-  feeds_number k not-0 not_20 = rw fed_told (other_number fits (feed patch slice) k not-0 not_20)
+  feeds_number k not_0 not_20 = rw fed_told (other_number fits (feed patch slice) k not_0 not_20)
 
   pub feeds_bounded : FeedsSized (feed patch slice) → (answer.output ≤ slice_file_limit) × (answer.patch ≤ patch_file_limit)
   unfolding fed
@@ -376,17 +376,17 @@ pub feeds_as_check : {patch slice lent lent_after output_lent patch_lent output_
     → CheckPromise patch lent c lent_after → FeedPromise patch slice output_lent patch_lent f output_after patch_after
     → (c.number ≡ 0 → ⊥) → (c.number ≡ 20 → ⊥) → f ≡ record { number = c.number; output = 0; patch = 0; arrived = 0; sent = 0 }
 unfolding with_room fed written
-feeds_as_check {patch} {slice} {lent} {output_lent = output_lent} {patch_lent = patch_lent} {c = c} {f = f} check-call feed-call n m = go (check patch) refl
+feeds_as_check {patch} {slice} {lent} {output_lent = output_lent} {patch_lent = patch_lent} {c = c} {f = f} check_call feed_call n m = go (check patch) refl
   where
     short : (file : List ℕ) (b : Bool) → c.number ≡ number_of (require b NoRoom (accepted file)) → f ≡ record { number = c.number; output = 0; patch = 0; arrived = 0; sent = 0 }
     short file true e = absurd (n e)
     short file false e = absurd (m e)
 
     go : (r : Result (List ℕ)) → check patch ≡ r → f ≡ record { number = c.number; output = 0; patch = 0; arrived = 0; sent = 0 }
-    go (accepted file) e = short file (fits_one (length lent) file) (told check-call ∙ ap (λ r. number_of (with_room (fits_one (length lent)) r)) e)
+    go (accepted file) e = short file (fits_one (length lent) file) (told check_call ∙ ap (λ r. number_of (with_room (fits_one (length lent)) r)) e)
     go (refused e) d =
-        feed-call.answers ∙ ap (λ r. fed (with_room (fits_both (length output_lent) (length patch_lent)) r)) (check_refused_feed patch slice d)
-        ∙ (λ i. record { number = sym (told check-call ∙ ap (λ r. number_of (with_room (fits_one (length lent)) r)) d) i; output = 0; patch = 0; arrived = 0; sent = 0 })
+        feed_call.answers ∙ ap (λ r. fed (with_room (fits_both (length output_lent) (length patch_lent)) r)) (check_refused_feed patch slice d)
+        ∙ (λ i. record { number = sym (told check_call ∙ ap (λ r. number_of (with_room (fits_one (length lent)) r)) d) i; output = 0; patch = 0; arrived = 0; sent = 0 })
 
 -- A call is decided by what its files are read as.
 
@@ -500,9 +500,9 @@ module _ (type first second : List ℕ) {lent lent_after left_lent left_after : 
       → AdmitPromise type first one → AdmitPromise (take left_answer.written left_after) second next
       → AdmitPromise type (take joined.written lent_after) both → Bytes type → Bytes first → Bytes second
       → (both.number ≡ 0) × (both.arrived ≡ one.arrived + next.arrived)
-  join_counts joins-call zero left-call left-zero first-admits second-admits both-admits b c d =
-      let wrote = writes_accepted joins-call zero in
-      let remained = writes_accepted left-call left-zero in
+  join_counts joins_call zero left_call left_zero first_admits second_admits both_admits b c d =
+      let wrote = writes_accepted joins_call zero in
+      let remained = writes_accepted left_call left_zero in
       let files = (join_accepted type first second b c d).0 (wrote.file, wrote.due) in
       let t = files.0 in
       let p = files.1 in
@@ -515,11 +515,11 @@ module _ (type first second : List ℕ) {lent lent_after left_lent left_after : 
       = wrote.in_front ∙ (let e = wrote.due in let f = joins t p q (concats q.prefix p.is_prefix q.is_prefix) in cc) in
       let left_is : take left_answer.written left_after ≡ type_file_bytes rest
       = remained.in_front ∙ (let e = remained.due in let f = rw (t.bytes, p.bytes) at (left_answers t.small p.is_prefix) in cc) in
-      let rest-file : TypeFile (take left_answer.written left_after) = record { type = rest; small = small; bytes = sym left_is } in
-      let whole-file : SliceFile t.type (take joined.written lent_after) = record { prefix = whole; is_prefix = is_prefix; bytes = sym joined_is } in (
-        (admits_zero both-admits).1 (whole, admits_file t whole-file),
-        admits_counts both-admits (admits_file t whole-file) ∙ arrivals-concat q.prefix p.is_prefix q.is_prefix
-            ∙ ap₂ ◌+◌ (sym (admits_counts first-admits (admits_file t p))) (sym (admits_counts second-admits (admits_file rest-file q))),
+      let rest_file : TypeFile (take left_answer.written left_after) = record { type = rest; small = small; bytes = sym left_is } in
+      let whole_file : SliceFile t.type (take joined.written lent_after) = record { prefix = whole; is_prefix = is_prefix; bytes = sym joined_is } in (
+        (admits_zero both_admits).1 (whole, admits_file t whole_file),
+        admits_counts both_admits (admits_file t whole_file) ∙ arrivals-concat q.prefix p.is_prefix q.is_prefix
+            ∙ ap₂ ◌+◌ (sym (admits_counts first_admits (admits_file t p))) (sym (admits_counts second_admits (admits_file rest_file q))),
       )
 
 -- What Longest writes, beside what Admit says of slices of the same type.
@@ -681,9 +681,9 @@ pub feed_decided : {file slice output_lent patch_lent output_after patch_after :
     → (read : Result (Patch × Prefix)) × FeedTakes file slice read × Decided read DueFromFeed answer.number (answer.output ∷ answer.patch ∷ [])
     (output_lent ∷ patch_lent ∷ []) (output_after ∷ patch_after ∷ [])
 unfolding feed
-feed_decided {file} {slice} call file-bytes bytes = (
+feed_decided {file} {slice} call file_bytes bytes = (
   patch_and_slice file slice,
-  feed-takes file slice file-bytes bytes,
+  feed-takes file slice file_bytes bytes,
   fed_decided (patch_and_slice file slice) (slice_fits file slice bytes) (feed file slice)
       (both_read (patch_file file) (λ c. takes_slice c.patch slice) (λ c. c.patch) (λ a p. accepted (fed_files a p)))
       call.answers call.output_buffer call.patch_buffer,

@@ -94,8 +94,8 @@ width_positive n = omega (arith, ap length (root_first n []))
 module _ {bytes : List ℕ} {at : ℕ} {n : Node} (stands : NodeAt bytes at n) where
   pub ends_inside : at + node_width n ≤ length bytes
   ends_inside =
-      let n-long = simp length-drop at (ap length stands.here) in
-      omega (arith, n-long, node_bytes_length n stands.rest, width_positive n)
+      let n_long = simp length-drop at (ap length stands.here) in
+      omega (arith, n_long, node_bytes_length n stands.rest, width_positive n)
 
   pub starts_inside : at < length bytes
   starts_inside = omega (arith, ends_inside, width_positive n)
@@ -201,7 +201,7 @@ pub record Carried (make : Ty → Node) (bytes : List ℕ) (at : ℕ) (n : Node)
 
 pub carried_at : {bytes : List ℕ} {at k : ℕ} {make : Ty → Node} {n : Node} → CarriesType k make → get_or bytes at 0 ≡ k
     → NodeAt bytes at n → Carried make bytes at n
-carried_at {bytes} {at} {k} {make} carries-type e stands = by_byte Standing stands e (carries-type.case Standing go) stands
+carried_at {bytes} {at} {k} {make} carries_type e stands = by_byte Standing stands e (carries_type.case Standing go) stands
   where
     Standing : Node → Type 0
     Standing n = NodeAt bytes at n → Carried make bytes at n
@@ -214,10 +214,10 @@ carried_at {bytes} {at} {k} {make} carries-type e stands = by_byte Standing stan
           type_at =
               record {
                 rest = stands.rest;
-                here = rw (← drop-drop 1 at bytes, stands.here, carries-type.bytes t stands.rest);
-                small = carries-type.carries t stands.carries;
+                here = rw (← drop-drop 1 at bytes, stands.here, carries_type.bytes t stands.rest);
+                small = carries_type.carries t stands.carries;
               };
-          wide = omega (arith, ap length (carries-type.bytes t []), type_width t);
+          wide = omega (arith, ap length (carries_type.bytes t []), type_width t);
         }
 
 -- The kinds with two parts: the kind byte and then both.

@@ -146,7 +146,7 @@ pub record EndsNullable (at end : ℕ) (t : Ty) : Type 0 where
 module _ {bytes : List ℕ} {at : ℕ} {answer : NullableEnd} (told : NullableEnds bytes at answer) {t : Ty} (stands : TypeAt bytes at t) where
   pub ends_nullable : {end : ℕ} → answer ≡ NullableAt end → EndsNullable at end t
   unfolding nullable_end
-  ends_nullable {end} is-end = go (nullable t) refl (sym is-end ∙ told.each t stands)
+  ends_nullable {end} is_end = go (nullable t) refl (sym is_end ∙ told.each t stands)
     where
       go : (b : Bool) → nullable t ≡ b → NullableAt end ≡ cond b (NullableAt (at + size t)) Other → EndsNullable at end t
       go true is e = record { is_nullable = is; ends = cc }
@@ -154,7 +154,7 @@ module _ {bytes : List ℕ} {at : ℕ} {answer : NullableEnd} (told : NullableEn
 
   pub other_than_nullable : answer ≡ Other → nullable t ≡ false
   unfolding nullable_end
-  other_than_nullable is-other = go (nullable t) (sym is-other ∙ told.each t stands)
+  other_than_nullable is_other = go (nullable t) (sym is_other ∙ told.each t stands)
     where
       go : (b : Bool) → Other ≡ cond b (NullableAt (at + size t)) Other → b ≡ false
       go true e = let z : ◌≡◌ {A = ℕ} 0 1 = cc in absurd (omega arith)

@@ -170,8 +170,8 @@ module _ {t : Ty} {first second : List ℕ} {one other : Known}
   pub joined_countable : Small t → prefix_width (concat p.prefix q.prefix) ≤ 65535
   joined_countable small =
       let joined = concat p.prefix q.prefix in
-      let is-joined = concat_is_prefix q.prefix p.is_prefix q.is_prefix in
-      omega (arith, slice_length joined (prefix_short is-joined small), prefix_bytes_length joined [])
+      let is_joined = concat_is_prefix q.prefix p.is_prefix q.is_prefix in
+      omega (arith, slice_length joined (prefix_short is_joined small), prefix_bytes_length joined [])
 
   abbrev pub joined_file_due : Small t → (joined : ℕ) (lent : List ℕ) → joined ≡ prefix_width (concat p.prefix q.prefix)
       → 2 + joined ≤ length lent → JoinedFileDue first second joined lent

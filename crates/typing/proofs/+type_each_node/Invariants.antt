@@ -1,7 +1,7 @@
 -- The bytes of the nodes' list that are left, twice: `type_parts` calls `type_node` at its own place, and `type_node` calls
 -- `type_choose` at its own. Every other call of `type_node` is at a later node.
 use Rattle.std.proofs.Common.{◌+◌, ◌-◌, ◌*◌, length}
-use Rattle.typing.proofs.+type_choose_type_node_type_parts.Given as goal
+use Rattle.typing.proofs.+type_each_node.Given as goal
 
 abbrev pub decreases-type_choose : goal.decreases-type_choose
 decreases-type_choose l = 2 * (length l.nodes.now - l.from) - 1

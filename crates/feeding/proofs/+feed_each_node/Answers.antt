@@ -14,15 +14,15 @@ use Rattle.leaf_feeding.specs.declared.Stepped.TheVariants.{Fed}
 use Rattle.feeding.proofs.Below.{both_count, parts_fewer, positive}
 use Rattle.feeding.proofs.FeedingLeaf.{leaf_rooms, leaf_due, carrying_due, mark_due, leaf_fed, silent_fed, cue_fed, level_fed, mark_fed}
 use Rattle.feeding.proofs.FeedingBoth.{both_due, both_answers}
-use Rattle.feeding.proofs.FeedingParts as feeding-parts
-use Rattle.feeding.proofs.FeedingThen as feeding-then
-use Rattle.feeding.proofs.FeedingComing as feeding-coming
-use Rattle.feeding.proofs.FeedingChain as feeding-chain
-use Rattle.feeding.proofs.FeedingChoose as feeding-choose
-use Rattle.feeding.proofs.FeedingFirstChosen as feeding-first-chosen
-use Rattle.feeding.proofs.FeedingSecondChosen as feeding-second-chosen
-use Rattle.feeding.proofs.+feed_both_feed_chain_feed_choose_feed_coming_feed_first_chosen_feed_node_feed_parts_feed_second_chosen_feed_then.Goals.{feed_chain-After-feed_node-answer, feed_chain-After-feed_node-answer-in-Fed, feed_chain-After-new-sent, feed_chain-In-Fed, feed_chain-In-Fed-answer, feed_coming-After-copy, feed_coming-After-feed_node, feed_coming-After-new-second, feed_coming-After-type_node, feed_coming-In-Fed, feed_coming-In-Gives, feed_first_chosen-After-feed_node, feed_first_chosen-After-type_node, feed_first_chosen-In-Fed, feed_first_chosen-In-Gives, feed_parts-After-feed_node-answer, feed_parts-After-feed_node-answer-in-Fed, feed_parts-After-given_kind, feed_parts-After-kept_before-kept, feed_parts-In-Fed, feed_parts-In-Fed-answer, feed_second_chosen-After-feed_node, feed_second_chosen-After-type_node, feed_second_chosen-In-Fed, feed_second_chosen-In-Gives}
-use Rattle.feeding.proofs.+feed_both_feed_chain_feed_choose_feed_coming_feed_first_chosen_feed_node_feed_parts_feed_second_chosen_feed_then.Goals as goal
+use Rattle.feeding.proofs.FeedingParts as FeedingParts
+use Rattle.feeding.proofs.FeedingThen as FeedingThen
+use Rattle.feeding.proofs.FeedingComing as FeedingComing
+use Rattle.feeding.proofs.FeedingChain as FeedingChain
+use Rattle.feeding.proofs.FeedingChoose as FeedingChoose
+use Rattle.feeding.proofs.FeedingFirstChosen as FeedingFirstChosen
+use Rattle.feeding.proofs.FeedingSecondChosen as FeedingSecondChosen
+use Rattle.feeding.proofs.+feed_each_node.Goals.{feed_chain-After-feed_node-answer, feed_chain-After-feed_node-answer-in-Fed, feed_chain-After-new-sent, feed_chain-In-Fed, feed_chain-In-Fed-answer, feed_coming-After-copy, feed_coming-After-feed_node, feed_coming-After-new-second, feed_coming-After-type_node, feed_coming-In-Fed, feed_coming-In-Gives, feed_first_chosen-After-feed_node, feed_first_chosen-After-type_node, feed_first_chosen-In-Fed, feed_first_chosen-In-Gives, feed_parts-After-feed_node-answer, feed_parts-After-feed_node-answer-in-Fed, feed_parts-After-given_kind, feed_parts-After-kept_before-kept, feed_parts-In-Fed, feed_parts-In-Fed-answer, feed_second_chosen-After-feed_node, feed_second_chosen-After-type_node, feed_second_chosen-In-Fed, feed_second_chosen-In-Gives}
+use Rattle.feeding.proofs.+feed_each_node.Goals as goal
 
 -- feed_node: each arm hands on what its kind is due, and answers as it does.
 
@@ -145,19 +145,19 @@ pub feed_then-bounds-types-at : goal.feed_then-bounds-types-at
 feed_then-bounds-types-at t c = type_starts c.requires.feed_due.stands
 
 pub feed_then-returns-then-types-at-ne3 : goal.feed_then-returns-then-types-at-ne3
-feed_then-returns-then-types-at-ne3 t c = record { each = λ due. feeding-then.no_sequence c.requires.from_value due c.if-types-at-ne3.true }
+feed_then-returns-then-types-at-ne3 t c = record { each = λ due. FeedingThen.no_sequence c.requires.from_value due c.if-types-at-ne3.true }
 
 pub feed_then-bounds-slice-place : goal.feed_then-bounds-slice-place
 feed_then-bounds-slice-place t c = prefix_starts c.requires.feed_due.stands
 
 pub feed_then-halve-halves-requires : goal.feed_then-halve-halves-requires
 feed_then-halve-halves-requires t c =
-    feeding-then.halves_due c.requires.from_value c.requires.feed_due c.if-types-at-ne3.false (omega arith)
+    FeedingThen.halves_due c.requires.from_value c.requires.feed_due c.if-types-at-ne3.false (omega arith)
 
 pub feed_then-feed_parts-requires : goal.feed_then-feed_parts-requires
 feed_then-feed_parts-requires t c = (
-  omega (arith, c.decreases, feeding-then.both_below c.requires.from_value c.requires.feed_due),
-  feeding-then.parts_due c.requires.from_value c.requires.feed_due c.if-types-at-ne3.false (omega arith) c.halve-halves.ensures
+  omega (arith, c.decreases, FeedingThen.both_below c.requires.from_value c.requires.feed_due),
+  FeedingThen.parts_due c.requires.from_value c.requires.feed_due c.if-types-at-ne3.false (omega arith) c.halve-halves.ensures
       c.new-parts.ensures,
 )
 
@@ -165,7 +165,7 @@ pub feed_then-returns : goal.feed_then-returns
 feed_then-returns t c =
     record {
       each = λ due.
-          feeding-then.crossed_answers c.requires.from_value due c.if-types-at-ne3.false (omega arith) c.halve-halves.ensures
+          FeedingThen.crossed_answers c.requires.from_value due c.if-types-at-ne3.false (omega arith) c.halve-halves.ensures
           c.new-parts.ensures c.feed_parts.ensures;
     }
 
@@ -175,7 +175,7 @@ pub feed_choose-bounds-types-at : goal.feed_choose-bounds-types-at
 feed_choose-bounds-types-at t c = type_starts c.requires.feed_due.stands
 
 pub feed_choose-returns-then-types-at-ne5 : goal.feed_choose-returns-then-types-at-ne5
-feed_choose-returns-then-types-at-ne5 t c = record { each = λ due. feeding-choose.no_either c.requires.from_value due c.if-types-at-ne5.true }
+feed_choose-returns-then-types-at-ne5 t c = record { each = λ due. FeedingChoose.no_either c.requires.from_value due c.if-types-at-ne5.true }
 
 pub feed_choose-bounds-slice-place : goal.feed_choose-bounds-slice-place
 feed_choose-bounds-slice-place t c = prefix_starts c.requires.feed_due.stands
@@ -191,7 +191,7 @@ feed_choose-feed_second_chosen-requires t c = (
     is_choose = c.requires.from_value;
     is_either = c.if-types-at-ne5.false;
     is_marked =
-        feeding-choose.second_marked c.requires.from_value c.requires.feed_due c.if-types-at-ne5.false c.if-slice-place-eq8.false
+        FeedingChoose.second_marked c.requires.from_value c.requires.feed_due c.if-types-at-ne5.false c.if-slice-place-eq8.false
         c.if-slice-place-eq9.false;
   },
 )
@@ -199,7 +199,7 @@ feed_choose-feed_second_chosen-requires t c = (
 -- feed_parts: what is known at each stage, as `FeedingParts` has it.
 
 abbrev parts_begun : (t : ℕ) (c : feed_parts-After-given_kind t)
-    → feeding-parts.Begun c.args.parts.pair c.args.given.now
+    → FeedingParts.Begun c.args.parts.pair c.args.given.now
 parts_begun t c =
     record {
       sent_byte = c.sent_kind.result;
@@ -210,7 +210,7 @@ parts_begun t c =
     }
 
 abbrev parts_answered : (t : ℕ) (c : feed_parts-After-feed_node-answer t) {answer : Stepped} → c.feed_node-answer.result ≡ answer
-    → feeding-parts.FirstAnswered c.args.types.now c.args.slice.now c.args.parts c.args.nodes.now c.args.from c.args.out.now c.args.remainder.now c.args.given.now answer
+    → FeedingParts.FirstAnswered c.args.types.now c.args.slice.now c.args.parts c.args.nodes.now c.args.from c.args.out.now c.args.remainder.now c.args.given.now answer
 parts_answered t c told =
     record {
       begun = parts_begun t (goal.at.feed_parts-After-feed_node-answer t c).After-given_kind;
@@ -224,11 +224,11 @@ parts_answered t c told =
     }
 
 abbrev parts_first : (t : ℕ) (c : feed_parts-In-Fed t)
-    → feeding-parts.FirstAnswered c.args.types.now c.args.slice.now c.args.parts c.args.nodes.now c.args.from c.args.out.now c.args.remainder.now c.args.given.now (Fed c.in-Fed.step)
+    → FeedingParts.FirstAnswered c.args.types.now c.args.slice.now c.args.parts c.args.nodes.now c.args.from c.args.out.now c.args.remainder.now c.args.given.now (Fed c.in-Fed.step)
 parts_first t c = parts_answered t (goal.at.feed_parts-In-Fed t c).After-feed_node-answer c.in-Fed.is
 
 abbrev parts_half : (t : ℕ) (c : feed_parts-After-kept_before-kept t)
-    → feeding-parts.Halfway c.args.types.now c.args.slice.now c.args.parts c.args.nodes.now c.args.from c.args.out.now c.args.remainder.now c.args.given.now
+    → FeedingParts.Halfway c.args.types.now c.args.slice.now c.args.parts c.args.nodes.now c.args.from c.args.out.now c.args.remainder.now c.args.given.now
 parts_half t c =
     record {
       step = c.in-Fed.step;
@@ -238,7 +238,7 @@ parts_half t c =
     }
 
 abbrev parts_answered_both : (t : ℕ) (c : feed_parts-After-feed_node-answer-in-Fed t) {answer : Stepped} → c.feed_node-answer-in-Fed.result ≡ answer
-    → feeding-parts.SecondAnswered c.args.types.now c.args.slice.now c.args.parts c.args.nodes.now c.args.from c.args.out.now c.args.remainder.now c.args.given.now answer
+    → FeedingParts.SecondAnswered c.args.types.now c.args.slice.now c.args.parts c.args.nodes.now c.args.from c.args.out.now c.args.remainder.now c.args.given.now answer
 parts_answered_both t c told =
     record {
       half = parts_half t (goal.at.feed_parts-After-feed_node-answer-in-Fed t c).After-kept_before-kept;
@@ -249,40 +249,40 @@ parts_answered_both t c told =
     }
 
 abbrev parts_both : (t : ℕ) (c : feed_parts-In-Fed-answer t)
-    → feeding-parts.SecondAnswered c.args.types.now c.args.slice.now c.args.parts c.args.nodes.now c.args.from c.args.out.now c.args.remainder.now c.args.given.now (Fed c.in-Fed-answer.rest)
+    → FeedingParts.SecondAnswered c.args.types.now c.args.slice.now c.args.parts c.args.nodes.now c.args.from c.args.out.now c.args.remainder.now c.args.given.now (Fed c.in-Fed-answer.rest)
 parts_both t c = parts_answered_both t (goal.at.feed_parts-In-Fed-answer t c).After-feed_node-answer-in-Fed c.in-Fed-answer.is
 
 pub feed_parts-returns-then-given-eq0 : goal.feed_parts-returns-then-given-eq0
-feed_parts-returns-then-given-eq0 t c = record { each = λ due. feeding-parts.no_room due c.if-given-eq0.true }
+feed_parts-returns-then-given-eq0 t c = record { each = λ due. FeedingParts.no_room due c.if-given-eq0.true }
 
 pub feed_parts-feed_node-answer-requires : goal.feed_parts-feed_node-answer-requires
 feed_parts-feed_node-answer-requires t c =
     let begun = parts_begun t (goal.at.feed_parts-feed_node-answer-requires t c).After-given_kind in
-    (omega (arith, c.decreases, feeding-parts.first_falls c.requires), feeding-parts.first_due c.requires begun)
+    (omega (arith, c.decreases, FeedingParts.first_falls c.requires), FeedingParts.first_due c.requires begun)
 
 pub feed_parts-overflow_add-sent : goal.feed_parts-overflow_add-sent
-feed_parts-overflow_add-sent t c = omega (arith, feeding-parts.out_taken c.requires (parts_first t (goal.at.feed_parts-overflow_add-sent t c).In-Fed))
+feed_parts-overflow_add-sent t c = omega (arith, FeedingParts.out_taken c.requires (parts_first t (goal.at.feed_parts-overflow_add-sent t c).In-Fed))
 
 pub feed_parts-overflow_add-size : goal.feed_parts-overflow_add-size
-feed_parts-overflow_add-size t c = omega (arith, feeding-parts.given_taken c.requires (parts_first t (goal.at.feed_parts-overflow_add-size t c).In-Fed))
+feed_parts-overflow_add-size t c = omega (arith, FeedingParts.given_taken c.requires (parts_first t (goal.at.feed_parts-overflow_add-size t c).In-Fed))
 
 pub feed_parts-kept_before-kept-requires : goal.feed_parts-kept_before-kept-requires
-feed_parts-kept_before-kept-requires t c = omega (arith, feeding-parts.remainder_taken c.requires (parts_first t (goal.at.feed_parts-kept_before-kept-requires t c).In-Fed))
+feed_parts-kept_before-kept-requires t c = omega (arith, FeedingParts.remainder_taken c.requires (parts_first t (goal.at.feed_parts-kept_before-kept-requires t c).In-Fed))
 
 pub feed_parts-slice_bounds-feed_node-count-in-Fed : goal.feed_parts-slice_bounds-feed_node-count-in-Fed
-feed_parts-slice_bounds-feed_node-count-in-Fed t c = feeding-parts.out_left c.requires (parts_half t (goal.at.feed_parts-slice_bounds-feed_node-count-in-Fed t c).After-kept_before-kept).first
+feed_parts-slice_bounds-feed_node-count-in-Fed t c = FeedingParts.out_left c.requires (parts_half t (goal.at.feed_parts-slice_bounds-feed_node-count-in-Fed t c).After-kept_before-kept).first
 
 pub feed_parts-slice_bounds-feed_node-start-in-Fed : goal.feed_parts-slice_bounds-feed_node-start-in-Fed
 feed_parts-slice_bounds-feed_node-start-in-Fed t c = feed_parts-slice_bounds-feed_node-count-in-Fed t c
 
 pub feed_parts-slice_bounds-feed_node-count-in-Fed-2 : goal.feed_parts-slice_bounds-feed_node-count-in-Fed-2
-feed_parts-slice_bounds-feed_node-count-in-Fed-2 t c = feeding-parts.remainder_left c.requires (parts_half t (goal.at.feed_parts-slice_bounds-feed_node-count-in-Fed-2 t c).After-kept_before-kept)
+feed_parts-slice_bounds-feed_node-count-in-Fed-2 t c = FeedingParts.remainder_left c.requires (parts_half t (goal.at.feed_parts-slice_bounds-feed_node-count-in-Fed-2 t c).After-kept_before-kept)
 
 pub feed_parts-slice_bounds-feed_node-start-in-Fed-2 : goal.feed_parts-slice_bounds-feed_node-start-in-Fed-2
 feed_parts-slice_bounds-feed_node-start-in-Fed-2 t c = feed_parts-slice_bounds-feed_node-count-in-Fed-2 t c
 
 pub feed_parts-slice_bounds-feed_node-count-in-Fed-3 : goal.feed_parts-slice_bounds-feed_node-count-in-Fed-3
-feed_parts-slice_bounds-feed_node-count-in-Fed-3 t c = feeding-parts.given_left c.requires (parts_half t (goal.at.feed_parts-slice_bounds-feed_node-count-in-Fed-3 t c).After-kept_before-kept).first
+feed_parts-slice_bounds-feed_node-count-in-Fed-3 t c = FeedingParts.given_left c.requires (parts_half t (goal.at.feed_parts-slice_bounds-feed_node-count-in-Fed-3 t c).After-kept_before-kept).first
 
 pub feed_parts-slice_bounds-feed_node-start-in-Fed-3 : goal.feed_parts-slice_bounds-feed_node-start-in-Fed-3
 feed_parts-slice_bounds-feed_node-start-in-Fed-3 t c = feed_parts-slice_bounds-feed_node-count-in-Fed-3 t c
@@ -290,32 +290,32 @@ feed_parts-slice_bounds-feed_node-start-in-Fed-3 t c = feed_parts-slice_bounds-f
 pub feed_parts-feed_node-answer-requires-in-Fed : goal.feed_parts-feed_node-answer-requires-in-Fed
 feed_parts-feed_node-answer-requires-in-Fed t c =
     let half = parts_half t (goal.at.feed_parts-feed_node-answer-requires-in-Fed t c).After-kept_before-kept in
-    (omega (arith, c.decreases, feeding-parts.second_falls c.requires half.first), feeding-parts.second_due c.requires half)
+    (omega (arith, c.decreases, FeedingParts.second_falls c.requires half.first), FeedingParts.second_due c.requires half)
 
 pub feed_parts-overflow_add-sent-in-Fed-answer : goal.feed_parts-overflow_add-sent-in-Fed-answer
-feed_parts-overflow_add-sent-in-Fed-answer t c = omega (arith, feeding-parts.out_full c.requires (parts_both t (goal.at.feed_parts-overflow_add-sent-in-Fed-answer t c).In-Fed-answer))
+feed_parts-overflow_add-sent-in-Fed-answer t c = omega (arith, FeedingParts.out_full c.requires (parts_both t (goal.at.feed_parts-overflow_add-sent-in-Fed-answer t c).In-Fed-answer))
 
 pub feed_parts-overflow_add-kept : goal.feed_parts-overflow_add-kept
-feed_parts-overflow_add-kept t c = omega (arith, feeding-parts.remainder_full c.requires (parts_both t (goal.at.feed_parts-overflow_add-kept t c).In-Fed-answer))
+feed_parts-overflow_add-kept t c = omega (arith, FeedingParts.remainder_full c.requires (parts_both t (goal.at.feed_parts-overflow_add-kept t c).In-Fed-answer))
 
 pub feed_parts-overflow_add-size-in-Fed-answer : goal.feed_parts-overflow_add-size-in-Fed-answer
-feed_parts-overflow_add-size-in-Fed-answer t c = omega (arith, feeding-parts.given_full c.requires (parts_both t (goal.at.feed_parts-overflow_add-size-in-Fed-answer t c).In-Fed-answer))
+feed_parts-overflow_add-size-in-Fed-answer t c = omega (arith, FeedingParts.given_full c.requires (parts_both t (goal.at.feed_parts-overflow_add-size-in-Fed-answer t c).In-Fed-answer))
 
 pub feed_parts-returns-in-Failed : goal.feed_parts-returns-in-Failed
 feed_parts-returns-in-Failed t c =
-    record { each = λ due. feeding-parts.first_fails due (parts_answered t (goal.at.feed_parts-returns-in-Failed t c).After-feed_node-answer c.in-Failed.is) }
+    record { each = λ due. FeedingParts.first_fails due (parts_answered t (goal.at.feed_parts-returns-in-Failed t c).After-feed_node-answer c.in-Failed.is) }
 
 pub feed_parts-returns-in-Failed-answer : goal.feed_parts-returns-in-Failed-answer
 feed_parts-returns-in-Failed-answer t c =
-    record { each = λ due. feeding-parts.second_fails due (parts_answered_both t (goal.at.feed_parts-returns-in-Failed-answer t c).After-feed_node-answer-in-Fed c.in-Failed-answer.is) }
+    record { each = λ due. FeedingParts.second_fails due (parts_answered_both t (goal.at.feed_parts-returns-in-Failed-answer t c).After-feed_node-answer-in-Fed c.in-Failed-answer.is) }
 
 pub feed_parts-returns-in-Fed-answer : goal.feed_parts-returns-in-Fed-answer
-feed_parts-returns-in-Fed-answer t c = record { each = λ due. feeding-parts.both_fed due (parts_both t (goal.at.feed_parts-returns-in-Fed-answer t c).In-Fed-answer) c.new.ensures }
+feed_parts-returns-in-Fed-answer t c = record { each = λ due. FeedingParts.both_fed due (parts_both t (goal.at.feed_parts-returns-in-Fed-answer t c).In-Fed-answer) c.new.ensures }
 
 -- feed_coming: what is known at each stage, as `FeedingComing` has it.
 
 abbrev coming_answered : (t : ℕ) (c : feed_coming-After-feed_node t) {answer : Stepped} → c.feed_node.result ≡ answer
-    → feeding-coming.FirstAnswered c.args.types.now c.args.slice.now c.args.input c.args.nodes.now c.args.from c.args.out.now c.args.remainder.now c.args.given.now answer
+    → FeedingComing.FirstAnswered c.args.types.now c.args.slice.now c.args.input c.args.nodes.now c.args.from c.args.out.now c.args.remainder.now c.args.given.now answer
 coming_answered t c told =
     record {
       room = positive c.if-given-eq0.false;
@@ -330,11 +330,11 @@ coming_answered t c told =
     }
 
 abbrev coming_first : (t : ℕ) (c : feed_coming-In-Fed t)
-    → feeding-coming.FirstAnswered c.args.types.now c.args.slice.now c.args.input c.args.nodes.now c.args.from c.args.out.now c.args.remainder.now c.args.given.now (Fed c.in-Fed.step)
+    → FeedingComing.FirstAnswered c.args.types.now c.args.slice.now c.args.input c.args.nodes.now c.args.from c.args.out.now c.args.remainder.now c.args.given.now (Fed c.in-Fed.step)
 coming_first t c = coming_answered t (goal.at.feed_coming-In-Fed t c).After-feed_node c.in-Fed.is
 
 abbrev coming_half : (t : ℕ) (c : feed_coming-After-new-second t)
-    → feeding-coming.Halfway c.args.types.now c.args.slice.now c.args.input c.args.nodes.now c.args.from c.args.out.now c.args.remainder.now c.args.given.now
+    → FeedingComing.Halfway c.args.types.now c.args.slice.now c.args.input c.args.nodes.now c.args.from c.args.out.now c.args.remainder.now c.args.given.now
 coming_half t c =
     record {
       step = c.in-Fed.step;
@@ -344,7 +344,7 @@ coming_half t c =
     }
 
 abbrev coming_typed : (t : ℕ) (c : feed_coming-After-type_node t) {answer : Typed} → c.type_node.result ≡ answer
-    → feeding-coming.SecondTyped c.args.types.now c.args.slice.now c.args.input c.args.nodes.now c.args.from c.args.out.now c.args.remainder.now c.args.given.now answer
+    → FeedingComing.SecondTyped c.args.types.now c.args.slice.now c.args.input c.args.nodes.now c.args.from c.args.out.now c.args.remainder.now c.args.given.now answer
 coming_typed t c told =
     record {
       half = coming_half t (goal.at.feed_coming-After-type_node t c).After-new-second;
@@ -354,11 +354,11 @@ coming_typed t c told =
     }
 
 abbrev coming_gives : (t : ℕ) (c : feed_coming-In-Gives t)
-    → feeding-coming.SecondTyped c.args.types.now c.args.slice.now c.args.input c.args.nodes.now c.args.from c.args.out.now c.args.remainder.now c.args.given.now (Gives c.in-Gives.end c.in-Gives.other)
+    → FeedingComing.SecondTyped c.args.types.now c.args.slice.now c.args.input c.args.nodes.now c.args.from c.args.out.now c.args.remainder.now c.args.given.now (Gives c.in-Gives.end c.in-Gives.other)
 coming_gives t c = coming_typed t (goal.at.feed_coming-In-Gives t c).After-type_node c.in-Gives.is
 
 abbrev coming_copied : (t : ℕ) (c : feed_coming-After-copy t)
-    → feeding-coming.SecondCopied c.args.types.now c.args.slice.now c.args.input c.args.nodes.now c.args.from c.args.out.now c.args.remainder.now c.args.given.now
+    → FeedingComing.SecondCopied c.args.types.now c.args.slice.now c.args.input c.args.nodes.now c.args.from c.args.out.now c.args.remainder.now c.args.given.now
 coming_copied t c =
     record {
       end = c.in-Gives.end;
@@ -370,99 +370,99 @@ coming_copied t c =
     }
 
 pub feed_coming-returns-then-given-eq0 : goal.feed_coming-returns-then-given-eq0
-feed_coming-returns-then-given-eq0 t c = record { each = λ due. feeding-coming.no_room (feeding-coming.asked_of c.requires due) c.if-given-eq0.true }
+feed_coming-returns-then-given-eq0 t c = record { each = λ due. FeedingComing.no_room (FeedingComing.asked_of c.requires due) c.if-given-eq0.true }
 
 pub feed_coming-coming_part-part-requires : goal.feed_coming-coming_part-part-requires
 feed_coming-coming_part-part-requires t c =
-    feeding-coming.part_due c.requires
+    FeedingComing.part_due c.requires
     (record { type_counted = omega (arith, type_starts c.requires.due.stands); prefix_counted = omega (arith, prefix_starts c.requires.due.stands) })
 
 pub feed_coming-feed_node-requires : goal.feed_coming-feed_node-requires
 feed_coming-feed_node-requires t c = (
-  omega (arith, c.decreases, feeding-coming.first_below c.requires),
-  feeding-coming.first_due c.requires (positive c.if-given-eq0.false) c.coming_part-part.ensures,
+  omega (arith, c.decreases, FeedingComing.first_below c.requires),
+  FeedingComing.first_due c.requires (positive c.if-given-eq0.false) c.coming_part-part.ensures,
 )
 
 pub feed_coming-overflow_add-size : goal.feed_coming-overflow_add-size
-feed_coming-overflow_add-size t c = omega (arith, feeding-coming.size_inside c.requires (coming_first t (goal.at.feed_coming-overflow_add-size t c).In-Fed))
+feed_coming-overflow_add-size t c = omega (arith, FeedingComing.size_inside c.requires (coming_first t (goal.at.feed_coming-overflow_add-size t c).In-Fed))
 
 pub feed_coming-slice_bounds-type_node-count : goal.feed_coming-slice_bounds-type_node-count
-feed_coming-slice_bounds-type_node-count t c = feeding-coming.size_inside_now c.requires (coming_first t (goal.at.feed_coming-slice_bounds-type_node-count t c).In-Fed)
+feed_coming-slice_bounds-type_node-count t c = FeedingComing.size_inside_now c.requires (coming_first t (goal.at.feed_coming-slice_bounds-type_node-count t c).In-Fed)
 
 pub feed_coming-slice_bounds-type_node-start : goal.feed_coming-slice_bounds-type_node-start
 feed_coming-slice_bounds-type_node-start t c = feed_coming-slice_bounds-type_node-count t c
 
 pub feed_coming-type_node-requires : goal.feed_coming-type_node-requires
-feed_coming-type_node-requires t c = feeding-coming.second_due c.requires (coming_half t (goal.at.feed_coming-type_node-requires t c).After-new-second)
+feed_coming-type_node-requires t c = FeedingComing.second_due c.requires (coming_half t (goal.at.feed_coming-type_node-requires t c).After-new-second)
 
 pub feed_coming-overflow_sub-given : goal.feed_coming-overflow_sub-given
-feed_coming-overflow_sub-given t c = feeding-coming.size_inside_on c.requires (coming_gives t (goal.at.feed_coming-overflow_sub-given t c).In-Gives)
+feed_coming-overflow_sub-given t c = FeedingComing.size_inside_on c.requires (coming_gives t (goal.at.feed_coming-overflow_sub-given t c).In-Gives)
 
 pub feed_coming-returns-then-given-size : goal.feed_coming-returns-then-given-size
 feed_coming-returns-then-given-size t c =
     record {
       each = λ due.
-          feeding-coming.second_no_room (feeding-coming.asked_of c.requires due) (coming_gives t (goal.at.feed_coming-returns-then-given-size t c).In-Gives) (omega (arith, c.if-given-size.true));
+          FeedingComing.second_no_room (FeedingComing.asked_of c.requires due) (coming_gives t (goal.at.feed_coming-returns-then-given-size t c).In-Gives) (omega (arith, c.if-given-size.true));
     }
 
 pub feed_coming-overflow_add-kept : goal.feed_coming-overflow_add-kept
-feed_coming-overflow_add-kept t c = omega (arith, feeding-coming.left_inside c.requires (coming_first t (goal.at.feed_coming-overflow_add-kept t c).In-Fed))
+feed_coming-overflow_add-kept t c = omega (arith, FeedingComing.left_inside c.requires (coming_first t (goal.at.feed_coming-overflow_add-kept t c).In-Fed))
 
 pub feed_coming-slice_bounds-copy-count : goal.feed_coming-slice_bounds-copy-count
-feed_coming-slice_bounds-copy-count t c = feeding-coming.later c.requires (coming_gives t (goal.at.feed_coming-slice_bounds-copy-count t c).In-Gives)
+feed_coming-slice_bounds-copy-count t c = FeedingComing.later c.requires (coming_gives t (goal.at.feed_coming-slice_bounds-copy-count t c).In-Gives)
 
 pub feed_coming-slice_bounds-copy-start : goal.feed_coming-slice_bounds-copy-start
 feed_coming-slice_bounds-copy-start t c = feed_coming-slice_bounds-copy-count t c
 
 pub feed_coming-slice_bounds-copy-end : goal.feed_coming-slice_bounds-copy-end
-feed_coming-slice_bounds-copy-end t c = feeding-coming.end_inside c.requires (coming_gives t (goal.at.feed_coming-slice_bounds-copy-end t c).In-Gives)
+feed_coming-slice_bounds-copy-end t c = FeedingComing.end_inside c.requires (coming_gives t (goal.at.feed_coming-slice_bounds-copy-end t c).In-Gives)
 
 pub feed_coming-slice_bounds-copy-count-in-Gives : goal.feed_coming-slice_bounds-copy-count-in-Gives
-feed_coming-slice_bounds-copy-count-in-Gives t c = feeding-coming.left_inside_now c.requires (coming_first t (goal.at.feed_coming-slice_bounds-copy-count-in-Gives t c).In-Fed)
+feed_coming-slice_bounds-copy-count-in-Gives t c = FeedingComing.left_inside_now c.requires (coming_first t (goal.at.feed_coming-slice_bounds-copy-count-in-Gives t c).In-Fed)
 
 pub feed_coming-slice_bounds-copy-start-in-Gives : goal.feed_coming-slice_bounds-copy-start-in-Gives
 feed_coming-slice_bounds-copy-start-in-Gives t c = feed_coming-slice_bounds-copy-count-in-Gives t c
 
 pub feed_coming-copy-requires : goal.feed_coming-copy-requires
-feed_coming-copy-requires t c = feeding-coming.copy_room c.requires (coming_gives t (goal.at.feed_coming-copy-requires t c).In-Gives)
+feed_coming-copy-requires t c = FeedingComing.copy_room c.requires (coming_gives t (goal.at.feed_coming-copy-requires t c).In-Gives)
 
 pub feed_coming-overflow_add-step : goal.feed_coming-overflow_add-step
-feed_coming-overflow_add-step t c = omega (arith, feeding-coming.sent_inside c.requires (coming_first t (goal.at.feed_coming-overflow_add-step t c).In-Fed))
+feed_coming-overflow_add-step t c = omega (arith, FeedingComing.sent_inside c.requires (coming_first t (goal.at.feed_coming-overflow_add-step t c).In-Fed))
 
 pub feed_coming-overflow_sub-end : goal.feed_coming-overflow_sub-end
-feed_coming-overflow_sub-end t c = feeding-coming.later c.requires (coming_gives t (goal.at.feed_coming-overflow_sub-end t c).In-Gives)
+feed_coming-overflow_sub-end t c = FeedingComing.later c.requires (coming_gives t (goal.at.feed_coming-overflow_sub-end t c).In-Gives)
 
 pub feed_coming-overflow_add-kept-in-Gives : goal.feed_coming-overflow_add-kept-in-Gives
-feed_coming-overflow_add-kept-in-Gives t c = omega (arith, feeding-coming.room_for_node c.requires (coming_gives t (goal.at.feed_coming-overflow_add-kept-in-Gives t c).In-Gives))
+feed_coming-overflow_add-kept-in-Gives t c = omega (arith, FeedingComing.room_for_node c.requires (coming_gives t (goal.at.feed_coming-overflow_add-kept-in-Gives t c).In-Gives))
 
 pub feed_coming-overflow_add-size-in-Gives : goal.feed_coming-overflow_add-size-in-Gives
-feed_coming-overflow_add-size-in-Gives t c = omega (arith, feeding-coming.size_both_inside c.requires (coming_copied t (goal.at.feed_coming-overflow_add-size-in-Gives t c).After-copy))
+feed_coming-overflow_add-size-in-Gives t c = omega (arith, FeedingComing.size_both_inside c.requires (coming_copied t (goal.at.feed_coming-overflow_add-size-in-Gives t c).After-copy))
 
 pub feed_coming-returns-in-Failed : goal.feed_coming-returns-in-Failed
 feed_coming-returns-in-Failed t c =
     record {
       each = λ due.
-          feeding-coming.first_fails (feeding-coming.asked_of c.requires due) (coming_answered t (goal.at.feed_coming-returns-in-Failed t c).After-feed_node c.in-Failed.is);
+          FeedingComing.first_fails (FeedingComing.asked_of c.requires due) (coming_answered t (goal.at.feed_coming-returns-in-Failed t c).After-feed_node c.in-Failed.is);
     }
 
 pub feed_coming-returns-in-Failed-type_node : goal.feed_coming-returns-in-Failed-type_node
 feed_coming-returns-in-Failed-type_node t c =
     record {
       each = λ due.
-          feeding-coming.second_untyped (feeding-coming.asked_of c.requires due) (coming_typed t (goal.at.feed_coming-returns-in-Failed-type_node t c).After-type_node c.in-Failed-type_node.is);
+          FeedingComing.second_untyped (FeedingComing.asked_of c.requires due) (coming_typed t (goal.at.feed_coming-returns-in-Failed-type_node t c).After-type_node c.in-Failed-type_node.is);
     }
 
 pub feed_coming-returns-else-given-size : goal.feed_coming-returns-else-given-size
 feed_coming-returns-else-given-size t c =
     record {
       each = λ due.
-          feeding-coming.coming_fed (feeding-coming.asked_of c.requires due) (coming_copied t (goal.at.feed_coming-returns-else-given-size t c).After-copy) c.new.ensures;
+          FeedingComing.coming_fed (FeedingComing.asked_of c.requires due) (coming_copied t (goal.at.feed_coming-returns-else-given-size t c).After-copy) c.new.ensures;
     }
 
 -- feed_chain: what is known at each stage, as `FeedingChain` has it.
 
 abbrev chain_answered : (t : ℕ) (c : feed_chain-After-feed_node-answer t) {answer : Stepped} → c.feed_node-answer.result ≡ answer
-    → feeding-chain.FirstAnswered c.args.types.now c.args.slice.now c.args.input c.args.nodes.now c.args.from c.args.out.now c.args.remainder.now c.args.given.now answer
+    → FeedingChain.FirstAnswered c.args.types.now c.args.slice.now c.args.input c.args.nodes.now c.args.from c.args.out.now c.args.remainder.now c.args.given.now answer
 chain_answered t c told =
     record {
       between = _;
@@ -477,21 +477,21 @@ chain_answered t c told =
     }
 
 abbrev chain_first : (t : ℕ) (c : feed_chain-In-Fed t)
-    → feeding-chain.FirstAnswered c.args.types.now c.args.slice.now c.args.input c.args.nodes.now c.args.from c.args.out.now c.args.remainder.now c.args.given.now (Fed c.in-Fed.step)
+    → FeedingChain.FirstAnswered c.args.types.now c.args.slice.now c.args.input c.args.nodes.now c.args.from c.args.out.now c.args.remainder.now c.args.given.now (Fed c.in-Fed.step)
 chain_first t c = chain_answered t (goal.at.feed_chain-In-Fed t c).After-feed_node-answer c.in-Fed.is
 
 abbrev chain_half : (t : ℕ) (c : feed_chain-After-new-sent t)
-    → feeding-chain.Halfway c.args.types.now c.args.slice.now c.args.input c.args.nodes.now c.args.from c.args.out.now c.args.remainder.now c.args.given.now
+    → FeedingChain.Halfway c.args.types.now c.args.slice.now c.args.input c.args.nodes.now c.args.from c.args.out.now c.args.remainder.now c.args.given.now
 chain_half t c =
     record {
       step = c.in-Fed.step;
       first = chain_first t (goal.at.feed_chain-After-new-sent t c).In-Fed;
       passed = c.new-sent.result;
-      asks = feeding-chain.asked_input c.new.ensures c.new-in-Fed.ensures c.new-sent.ensures;
+      asks = FeedingChain.asked_input c.new.ensures c.new-in-Fed.ensures c.new-sent.ensures;
     }
 
 abbrev chain_answered_both : (t : ℕ) (c : feed_chain-After-feed_node-answer-in-Fed t) {answer : Stepped} → c.feed_node-answer-in-Fed.result ≡ answer
-    → feeding-chain.SecondAnswered c.args.types.now c.args.slice.now c.args.input c.args.nodes.now c.args.from c.args.out.now c.args.remainder.now c.args.given.now answer
+    → FeedingChain.SecondAnswered c.args.types.now c.args.slice.now c.args.input c.args.nodes.now c.args.from c.args.out.now c.args.remainder.now c.args.given.now answer
 chain_answered_both t c told =
     record {
       half = chain_half t (goal.at.feed_chain-After-feed_node-answer-in-Fed t c).After-new-sent;
@@ -502,18 +502,18 @@ chain_answered_both t c told =
     }
 
 abbrev chain_both : (t : ℕ) (c : feed_chain-In-Fed-answer t)
-    → feeding-chain.SecondAnswered c.args.types.now c.args.slice.now c.args.input c.args.nodes.now c.args.from c.args.out.now c.args.remainder.now c.args.given.now (Fed c.in-Fed-answer.rest)
+    → FeedingChain.SecondAnswered c.args.types.now c.args.slice.now c.args.input c.args.nodes.now c.args.from c.args.out.now c.args.remainder.now c.args.given.now (Fed c.in-Fed-answer.rest)
 chain_both t c = chain_answered_both t (goal.at.feed_chain-In-Fed-answer t c).After-feed_node-answer-in-Fed c.in-Fed-answer.is
 
 pub feed_chain-feed_node-answer-requires : goal.feed_chain-feed_node-answer-requires
 feed_chain-feed_node-answer-requires t c =
-    (omega (arith, c.decreases, feeding-chain.first_below c.requires.from_value c.requires.feed_due), feeding-chain.first_due c.requires.from_value c.requires.feed_due refl refl)
+    (omega (arith, c.decreases, FeedingChain.first_below c.requires.from_value c.requires.feed_due), FeedingChain.first_due c.requires.from_value c.requires.feed_due refl refl)
 
 pub feed_chain-overflow_add-kept : goal.feed_chain-overflow_add-kept
-feed_chain-overflow_add-kept t c = omega (arith, feeding-chain.left_inside c.requires.from_value c.requires.feed_due (chain_first t (goal.at.feed_chain-overflow_add-kept t c).In-Fed))
+feed_chain-overflow_add-kept t c = omega (arith, FeedingChain.left_inside c.requires.from_value c.requires.feed_due (chain_first t (goal.at.feed_chain-overflow_add-kept t c).In-Fed))
 
 pub feed_chain-slice_bounds-feed_node-count-in-Fed : goal.feed_chain-slice_bounds-feed_node-count-in-Fed
-feed_chain-slice_bounds-feed_node-count-in-Fed t c = feeding-chain.left_inside_now c.requires.from_value c.requires.feed_due (chain_first t (goal.at.feed_chain-slice_bounds-feed_node-count-in-Fed t c).In-Fed)
+feed_chain-slice_bounds-feed_node-count-in-Fed t c = FeedingChain.left_inside_now c.requires.from_value c.requires.feed_due (chain_first t (goal.at.feed_chain-slice_bounds-feed_node-count-in-Fed t c).In-Fed)
 
 pub feed_chain-slice_bounds-feed_node-start-in-Fed : goal.feed_chain-slice_bounds-feed_node-start-in-Fed
 feed_chain-slice_bounds-feed_node-start-in-Fed t c = feed_chain-slice_bounds-feed_node-count-in-Fed t c
@@ -521,36 +521,36 @@ feed_chain-slice_bounds-feed_node-start-in-Fed t c = feed_chain-slice_bounds-fee
 pub feed_chain-feed_node-answer-requires-in-Fed : goal.feed_chain-feed_node-answer-requires-in-Fed
 feed_chain-feed_node-answer-requires-in-Fed t c =
     let half = chain_half t (goal.at.feed_chain-feed_node-answer-requires-in-Fed t c).After-new-sent in
-    (omega (arith, c.decreases, feeding-chain.second_below c.requires.from_value c.requires.feed_due half.first), feeding-chain.second_due c.requires.from_value c.requires.feed_due half)
+    (omega (arith, c.decreases, FeedingChain.second_below c.requires.from_value c.requires.feed_due half.first), FeedingChain.second_due c.requires.from_value c.requires.feed_due half)
 
 pub feed_chain-overflow_add-kept-in-Fed-answer : goal.feed_chain-overflow_add-kept-in-Fed-answer
-feed_chain-overflow_add-kept-in-Fed-answer t c = omega (arith, feeding-chain.both_inside c.requires.from_value c.requires.feed_due (chain_both t (goal.at.feed_chain-overflow_add-kept-in-Fed-answer t c).In-Fed-answer))
+feed_chain-overflow_add-kept-in-Fed-answer t c = omega (arith, FeedingChain.both_inside c.requires.from_value c.requires.feed_due (chain_both t (goal.at.feed_chain-overflow_add-kept-in-Fed-answer t c).In-Fed-answer))
 
 pub feed_chain-returns-in-Failed : goal.feed_chain-returns-in-Failed
 feed_chain-returns-in-Failed t c =
     record {
       each = λ due.
-          feeding-chain.first_fails c.requires.from_value due (chain_answered t (goal.at.feed_chain-returns-in-Failed t c).After-feed_node-answer c.in-Failed.is);
+          FeedingChain.first_fails c.requires.from_value due (chain_answered t (goal.at.feed_chain-returns-in-Failed t c).After-feed_node-answer c.in-Failed.is);
     }
 
 pub feed_chain-returns-in-Failed-answer : goal.feed_chain-returns-in-Failed-answer
 feed_chain-returns-in-Failed-answer t c =
     record {
       each = λ due.
-          feeding-chain.second_fails c.requires.from_value due
+          FeedingChain.second_fails c.requires.from_value due
           (chain_answered_both t (goal.at.feed_chain-returns-in-Failed-answer t c).After-feed_node-answer-in-Fed c.in-Failed-answer.is);
     }
 
 pub feed_chain-returns-in-Fed-answer : goal.feed_chain-returns-in-Fed-answer
 feed_chain-returns-in-Fed-answer t c =
     record {
-      each = λ due. feeding-chain.chain_fed c.requires.from_value due (chain_both t (goal.at.feed_chain-returns-in-Fed-answer t c).In-Fed-answer) c.new-in-Fed-answer.ensures;
+      each = λ due. FeedingChain.chain_fed c.requires.from_value due (chain_both t (goal.at.feed_chain-returns-in-Fed-answer t c).In-Fed-answer) c.new-in-Fed-answer.ensures;
     }
 
 -- feed_first_chosen: what is known at each stage, as `FeedingFirstChosen` has it.
 
 abbrev first_answered : (t : ℕ) (c : feed_first_chosen-After-feed_node t) {answer : Stepped} → c.feed_node.result ≡ answer
-    → feeding-first-chosen.FirstAnswered c.args.types.now c.args.slice.now c.args.input c.args.nodes.now c.args.from c.args.out.now c.args.remainder.now c.args.given.now answer
+    → FeedingFirstChosen.FirstAnswered c.args.types.now c.args.slice.now c.args.input c.args.nodes.now c.args.from c.args.out.now c.args.remainder.now c.args.given.now answer
 first_answered t c told =
     record {
       choice = c.chosen_part-choice.result;
@@ -562,11 +562,11 @@ first_answered t c told =
     }
 
 abbrev first_fed : (t : ℕ) (c : feed_first_chosen-In-Fed t)
-    → feeding-first-chosen.FirstAnswered c.args.types.now c.args.slice.now c.args.input c.args.nodes.now c.args.from c.args.out.now c.args.remainder.now c.args.given.now (Fed c.in-Fed.step)
+    → FeedingFirstChosen.FirstAnswered c.args.types.now c.args.slice.now c.args.input c.args.nodes.now c.args.from c.args.out.now c.args.remainder.now c.args.given.now (Fed c.in-Fed.step)
 first_fed t c = first_answered t (goal.at.feed_first_chosen-In-Fed t c).After-feed_node c.in-Fed.is
 
 abbrev second_typed : (t : ℕ) (c : feed_first_chosen-After-type_node t) {answer : Typed} → c.type_node.result ≡ answer
-    → feeding-first-chosen.SecondTyped c.args.types.now c.args.slice.now c.args.input c.args.nodes.now c.args.from c.args.out.now c.args.remainder.now c.args.given.now answer
+    → FeedingFirstChosen.SecondTyped c.args.types.now c.args.slice.now c.args.input c.args.nodes.now c.args.from c.args.out.now c.args.remainder.now c.args.given.now answer
 second_typed t c told =
     record {
       step = c.in-Fed.step;
@@ -576,60 +576,60 @@ second_typed t c told =
     }
 
 abbrev second_gives : (t : ℕ) (c : feed_first_chosen-In-Gives t)
-    → feeding-first-chosen.SecondTyped c.args.types.now c.args.slice.now c.args.input c.args.nodes.now c.args.from c.args.out.now c.args.remainder.now c.args.given.now (Gives c.in-Gives.end c.in-Gives.other)
+    → FeedingFirstChosen.SecondTyped c.args.types.now c.args.slice.now c.args.input c.args.nodes.now c.args.from c.args.out.now c.args.remainder.now c.args.given.now (Gives c.in-Gives.end c.in-Gives.other)
 second_gives t c = second_typed t (goal.at.feed_first_chosen-In-Gives t c).After-type_node c.in-Gives.is
 
 pub feed_first_chosen-chosen_part-choice-requires : goal.feed_first_chosen-chosen_part-choice-requires
-feed_first_chosen-chosen_part-choice-requires t c = feeding-choose.part_due c.requires
+feed_first_chosen-chosen_part-choice-requires t c = FeedingChoose.part_due c.requires
 
 pub feed_first_chosen-feed_node-requires : goal.feed_first_chosen-feed_node-requires
 feed_first_chosen-feed_node-requires t c = (
-  omega (arith, c.decreases, feeding-first-chosen.first_below c.requires),
-  feeding-first-chosen.first_due c.requires c.chosen_part-choice.ensures,
+  omega (arith, c.decreases, FeedingFirstChosen.first_below c.requires),
+  FeedingFirstChosen.first_due c.requires c.chosen_part-choice.ensures,
 )
 
 pub feed_first_chosen-slice_bounds-type_node-count : goal.feed_first_chosen-slice_bounds-type_node-count
-feed_first_chosen-slice_bounds-type_node-count t c = feeding-first-chosen.left_inside_now c.requires (first_fed t (goal.at.feed_first_chosen-slice_bounds-type_node-count t c).In-Fed)
+feed_first_chosen-slice_bounds-type_node-count t c = FeedingFirstChosen.left_inside_now c.requires (first_fed t (goal.at.feed_first_chosen-slice_bounds-type_node-count t c).In-Fed)
 
 pub feed_first_chosen-slice_bounds-type_node-start : goal.feed_first_chosen-slice_bounds-type_node-start
 feed_first_chosen-slice_bounds-type_node-start t c = feed_first_chosen-slice_bounds-type_node-count t c
 
 pub feed_first_chosen-type_node-requires : goal.feed_first_chosen-type_node-requires
-feed_first_chosen-type_node-requires t c = feeding-first-chosen.second_due c.requires (first_fed t (goal.at.feed_first_chosen-type_node-requires t c).In-Fed)
+feed_first_chosen-type_node-requires t c = FeedingFirstChosen.second_due c.requires (first_fed t (goal.at.feed_first_chosen-type_node-requires t c).In-Fed)
 
 pub feed_first_chosen-overflow_add-stop : goal.feed_first_chosen-overflow_add-stop
 feed_first_chosen-overflow_add-stop t c =
     let second = second_gives t c in
-    omega (arith, feeding-first-chosen.stop_inside c.requires second, feeding-first-chosen.remainder_kept c.requires second)
+    omega (arith, FeedingFirstChosen.stop_inside c.requires second, FeedingFirstChosen.remainder_kept c.requires second)
 
 pub feed_first_chosen-slice_bounds-same_types-end : goal.feed_first_chosen-slice_bounds-same_types-end
-feed_first_chosen-slice_bounds-same_types-end t c = feeding-first-chosen.type_inside_now c.requires (second_gives t c).first
+feed_first_chosen-slice_bounds-same_types-end t c = FeedingFirstChosen.type_inside_now c.requires (second_gives t c).first
 
 pub feed_first_chosen-slice_bounds-same_types-end-in-Gives : goal.feed_first_chosen-slice_bounds-same_types-end-in-Gives
-feed_first_chosen-slice_bounds-same_types-end-in-Gives t c = feeding-first-chosen.type_long c.requires (second_gives t c).first
+feed_first_chosen-slice_bounds-same_types-end-in-Gives t c = FeedingFirstChosen.type_long c.requires (second_gives t c).first
 
 pub feed_first_chosen-slice_bounds-same_types-end-in-Gives-2 : goal.feed_first_chosen-slice_bounds-same_types-end-in-Gives-2
-feed_first_chosen-slice_bounds-same_types-end-in-Gives-2 t c = feeding-first-chosen.stop_inside c.requires (second_gives t c)
+feed_first_chosen-slice_bounds-same_types-end-in-Gives-2 t c = FeedingFirstChosen.stop_inside c.requires (second_gives t c)
 
 pub feed_first_chosen-returns-then-not-same_types : goal.feed_first_chosen-returns-then-not-same_types
 feed_first_chosen-returns-then-not-same_types t c =
     record {
       each = λ due.
-          feeding-first-chosen.differ (feeding-choose.asked_of c.requires due) (second_gives t (goal.at.feed_first_chosen-returns-then-not-same_types t c).In-Gives) c.same_types.ensures c.if-not-same_types.true;
+          FeedingFirstChosen.differ (FeedingChoose.asked_of c.requires due) (second_gives t (goal.at.feed_first_chosen-returns-then-not-same_types t c).In-Gives) c.same_types.ensures c.if-not-same_types.true;
     }
 
 pub feed_first_chosen-returns-in-Failed : goal.feed_first_chosen-returns-in-Failed
 feed_first_chosen-returns-in-Failed t c =
     record {
       each = λ due.
-          feeding-first-chosen.first_fails (feeding-choose.asked_of c.requires due) (first_answered t (goal.at.feed_first_chosen-returns-in-Failed t c).After-feed_node c.in-Failed.is);
+          FeedingFirstChosen.first_fails (FeedingChoose.asked_of c.requires due) (first_answered t (goal.at.feed_first_chosen-returns-in-Failed t c).After-feed_node c.in-Failed.is);
     }
 
 pub feed_first_chosen-returns-in-Failed-type_node : goal.feed_first_chosen-returns-in-Failed-type_node
 feed_first_chosen-returns-in-Failed-type_node t c =
     record {
       each = λ due.
-          feeding-first-chosen.second_untyped (feeding-choose.asked_of c.requires due)
+          FeedingFirstChosen.second_untyped (FeedingChoose.asked_of c.requires due)
           (second_typed t (goal.at.feed_first_chosen-returns-in-Failed-type_node t c).After-type_node c.in-Failed-type_node.is);
     }
 
@@ -637,13 +637,13 @@ pub feed_first_chosen-returns-else-not-same_types : goal.feed_first_chosen-retur
 feed_first_chosen-returns-else-not-same_types t c =
     record {
       each = λ due.
-          feeding-first-chosen.chosen_fed (feeding-choose.asked_of c.requires due) (second_gives t (goal.at.feed_first_chosen-returns-else-not-same_types t c).In-Gives) c.same_types.ensures c.if-not-same_types.false c.new.ensures;
+          FeedingFirstChosen.chosen_fed (FeedingChoose.asked_of c.requires due) (second_gives t (goal.at.feed_first_chosen-returns-else-not-same_types t c).In-Gives) c.same_types.ensures c.if-not-same_types.false c.new.ensures;
     }
 
 -- feed_second_chosen: what is known at each stage, as `FeedingSecondChosen` has it.
 
 abbrev first_typed : (t : ℕ) (c : feed_second_chosen-After-type_node t) {answer : Typed} → c.type_node.result ≡ answer
-    → feeding-second-chosen.FirstTyped c.args.types.now c.args.slice.now c.args.input c.args.nodes.now c.args.from c.args.remainder.now answer
+    → FeedingSecondChosen.FirstTyped c.args.types.now c.args.slice.now c.args.input c.args.nodes.now c.args.from c.args.remainder.now answer
 first_typed t c told =
     record {
       choice = c.chosen_part-choice.result;
@@ -655,11 +655,11 @@ first_typed t c told =
     }
 
 abbrev first_gives : (t : ℕ) (c : feed_second_chosen-In-Gives t)
-    → feeding-second-chosen.FirstTyped c.args.types.now c.args.slice.now c.args.input c.args.nodes.now c.args.from c.args.remainder.now (Gives c.in-Gives.next c.in-Gives.other)
+    → FeedingSecondChosen.FirstTyped c.args.types.now c.args.slice.now c.args.input c.args.nodes.now c.args.from c.args.remainder.now (Gives c.in-Gives.next c.in-Gives.other)
 first_gives t c = first_typed t (goal.at.feed_second_chosen-In-Gives t c).After-type_node c.in-Gives.is
 
 abbrev second_answered : (t : ℕ) (c : feed_second_chosen-After-feed_node t) {answer : Stepped} → c.feed_node.result ≡ answer
-    → feeding-second-chosen.SecondAnswered c.args.types.now c.args.slice.now c.args.input c.args.nodes.now c.args.from c.args.out.now c.args.remainder.now c.args.given.now answer
+    → FeedingSecondChosen.SecondAnswered c.args.types.now c.args.slice.now c.args.input c.args.nodes.now c.args.from c.args.out.now c.args.remainder.now c.args.given.now answer
 second_answered t c told =
     record {
       next = c.in-Gives.next;
@@ -673,56 +673,56 @@ second_answered t c told =
     }
 
 abbrev second_fed : (t : ℕ) (c : feed_second_chosen-In-Fed t)
-    → feeding-second-chosen.SecondAnswered c.args.types.now c.args.slice.now c.args.input c.args.nodes.now c.args.from c.args.out.now c.args.remainder.now c.args.given.now (Fed c.in-Fed.step)
+    → FeedingSecondChosen.SecondAnswered c.args.types.now c.args.slice.now c.args.input c.args.nodes.now c.args.from c.args.out.now c.args.remainder.now c.args.given.now (Fed c.in-Fed.step)
 second_fed t c = second_answered t (goal.at.feed_second_chosen-In-Fed t c).After-feed_node c.in-Fed.is
 
 pub feed_second_chosen-chosen_part-choice-requires : goal.feed_second_chosen-chosen_part-choice-requires
-feed_second_chosen-chosen_part-choice-requires t c = feeding-choose.part_due c.requires
+feed_second_chosen-chosen_part-choice-requires t c = FeedingChoose.part_due c.requires
 
 pub feed_second_chosen-overflow_sub-spare : goal.feed_second_chosen-overflow_sub-spare
-feed_second_chosen-overflow_sub-spare t c = feeding-second-chosen.room_at_end c.requires
+feed_second_chosen-overflow_sub-spare t c = FeedingSecondChosen.room_at_end c.requires
 
 pub feed_second_chosen-type_node-requires : goal.feed_second_chosen-type_node-requires
-feed_second_chosen-type_node-requires t c = feeding-second-chosen.first_due c.requires c.chosen_part-choice.ensures
+feed_second_chosen-type_node-requires t c = FeedingSecondChosen.first_due c.requires c.chosen_part-choice.ensures
 
 pub feed_second_chosen-feed_node-requires : goal.feed_second_chosen-feed_node-requires
 feed_second_chosen-feed_node-requires t c =
     let first = first_gives t (goal.at.feed_second_chosen-feed_node-requires t c).In-Gives in
-    (omega (arith, c.decreases, feeding-second-chosen.second_below c.requires first), feeding-second-chosen.second_due c.requires first)
+    (omega (arith, c.decreases, FeedingSecondChosen.second_below c.requires first), FeedingSecondChosen.second_due c.requires first)
 
 pub feed_second_chosen-overflow_add-stop : goal.feed_second_chosen-overflow_add-stop
 feed_second_chosen-overflow_add-stop t c =
     let second = second_fed t c in
-    omega (arith, feeding-second-chosen.stop_inside c.requires second, feeding-second-chosen.remainder_kept_on c.requires second)
+    omega (arith, FeedingSecondChosen.stop_inside c.requires second, FeedingSecondChosen.remainder_kept_on c.requires second)
 
 pub feed_second_chosen-slice_bounds-same_types-end : goal.feed_second_chosen-slice_bounds-same_types-end
-feed_second_chosen-slice_bounds-same_types-end t c = feeding-second-chosen.type_inside_now c.requires (second_fed t c)
+feed_second_chosen-slice_bounds-same_types-end t c = FeedingSecondChosen.type_inside_now c.requires (second_fed t c)
 
 pub feed_second_chosen-slice_bounds-same_types-end-in-Fed : goal.feed_second_chosen-slice_bounds-same_types-end-in-Fed
-feed_second_chosen-slice_bounds-same_types-end-in-Fed t c = feeding-second-chosen.type_long c.requires (second_fed t c)
+feed_second_chosen-slice_bounds-same_types-end-in-Fed t c = FeedingSecondChosen.type_long c.requires (second_fed t c)
 
 pub feed_second_chosen-slice_bounds-same_types-end-in-Fed-2 : goal.feed_second_chosen-slice_bounds-same_types-end-in-Fed-2
-feed_second_chosen-slice_bounds-same_types-end-in-Fed-2 t c = feeding-second-chosen.stop_inside c.requires (second_fed t c)
+feed_second_chosen-slice_bounds-same_types-end-in-Fed-2 t c = FeedingSecondChosen.stop_inside c.requires (second_fed t c)
 
 pub feed_second_chosen-returns-then-not-same_types : goal.feed_second_chosen-returns-then-not-same_types
 feed_second_chosen-returns-then-not-same_types t c =
     record {
       each = λ due.
-          feeding-second-chosen.differ (feeding-choose.asked_of c.requires due) (second_fed t (goal.at.feed_second_chosen-returns-then-not-same_types t c).In-Fed) c.same_types.ensures c.if-not-same_types.true;
+          FeedingSecondChosen.differ (FeedingChoose.asked_of c.requires due) (second_fed t (goal.at.feed_second_chosen-returns-then-not-same_types t c).In-Fed) c.same_types.ensures c.if-not-same_types.true;
     }
 
 pub feed_second_chosen-returns-in-Failed : goal.feed_second_chosen-returns-in-Failed
 feed_second_chosen-returns-in-Failed t c =
     record {
       each = λ due.
-          feeding-second-chosen.first_untyped (feeding-choose.asked_of c.requires due) (first_typed t (goal.at.feed_second_chosen-returns-in-Failed t c).After-type_node c.in-Failed.is);
+          FeedingSecondChosen.first_untyped (FeedingChoose.asked_of c.requires due) (first_typed t (goal.at.feed_second_chosen-returns-in-Failed t c).After-type_node c.in-Failed.is);
     }
 
 pub feed_second_chosen-returns-in-Failed-feed_node : goal.feed_second_chosen-returns-in-Failed-feed_node
 feed_second_chosen-returns-in-Failed-feed_node t c =
     record {
       each = λ due.
-          feeding-second-chosen.second_fails (feeding-choose.asked_of c.requires due)
+          FeedingSecondChosen.second_fails (FeedingChoose.asked_of c.requires due)
           (second_answered t (goal.at.feed_second_chosen-returns-in-Failed-feed_node t c).After-feed_node c.in-Failed-feed_node.is);
     }
 
@@ -730,5 +730,5 @@ pub feed_second_chosen-returns-else-not-same_types : goal.feed_second_chosen-ret
 feed_second_chosen-returns-else-not-same_types t c =
     record {
       each = λ due.
-          feeding-second-chosen.chosen_fed (feeding-choose.asked_of c.requires due) (second_fed t (goal.at.feed_second_chosen-returns-else-not-same_types t c).In-Fed) c.same_types.ensures c.if-not-same_types.false;
+          FeedingSecondChosen.chosen_fed (FeedingChoose.asked_of c.requires due) (second_fed t (goal.at.feed_second_chosen-returns-else-not-same_types t c).In-Fed) c.same_types.ensures c.if-not-same_types.false;
     }

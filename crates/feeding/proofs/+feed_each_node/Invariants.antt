@@ -2,7 +2,7 @@
 -- their own node on.
 use Rattle.std.proofs.Common.{◌+◌, ◌*◌, drop}
 use Rattle.feeding.specs.Feeds.{nodes_below}
-use Rattle.feeding.proofs.+feed_both_feed_chain_feed_choose_feed_coming_feed_first_chosen_feed_node_feed_parts_feed_second_chosen_feed_then.Given as goal
+use Rattle.feeding.proofs.+feed_each_node.Given as goal
 
 abbrev pub decreases-feed_both : goal.decreases-feed_both
 decreases-feed_both l = 3 * nodes_below 1 (drop l.from l.nodes.now) + 1

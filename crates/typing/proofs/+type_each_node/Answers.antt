@@ -8,7 +8,7 @@ use Rattle.typing.specs.Typing.Laws.{has_given}
 use Rattle.typing.proofs.TypingParts.{first_answer, first_failed, first_given, second_due, second_failed, second_small, both_given, both_splits, part_first, then_splits, then_refused, parts_due, parts_typed, chain_first, chain_failed, chain_later, chain_second, chain_typed}
 use Rattle.typing.proofs.TypingChoose.{halved, choose_refused, later, some_given, outputs_differ, outputs_same, second_given}
 use Rattle.typing.proofs.TypingChoose.{first_due as choose_first, first_given as choose_first_given, first_failed as choose_first_failed, second_due as choose_second, second_failed as choose_second_failed}
-use Rattle.typing.proofs.+type_choose_type_node_type_parts.Goals as goal
+use Rattle.typing.proofs.+type_each_node.Goals as goal
 
 pub type_choose-bounds-types-at : goal.type_choose-bounds-types-at
 type_choose-bounds-types-at t c = type_inside c.requires.0.type_in.stands
