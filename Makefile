@@ -69,15 +69,18 @@ shows: target/make_show
 example: target/calls
 	target/calls
 
+# For any x86-64, as the header says; the kit's default asks for more.
+PROCESSOR = --cpu=x86-64
+
 # Specifications and proofs change no byte of the archive or the program.
 SOURCES = crates.txt $(shell find crates -name out -prune -o -name '*.rt' -print)
 $(ARCHIVE): $(SOURCES)
-	@$(call proving,wosthile_c,rt lib)
+	@$(call proving,wosthile_c,rt lib $(PROCESSOR))
 	@install -D -m 644 crates/wosthile_c/out/libwosthile_c.a $@
 
 # A program is built when it is run.
 $(RUNNER): $(SOURCES)
-	@$(call proving,runner,rt run </dev/null)
+	@$(call proving,runner,rt run $(PROCESSOR) </dev/null)
 	@install -D crates/runner/out/runner $@
 
 # The prover's log goes to a file, and a line for each crate to the screen; of a failure the end of the log too.

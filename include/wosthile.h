@@ -1,5 +1,5 @@
 /*
- * Wosthile: patch files, type files and slice files, for C11 and C++11 on x86-64-v2.
+ * Wosthile: patch files, type files and slice files, for C11 and C++11 on x86-64.
  *
  * A stream has a type: a tree of cues and 16-bit levels, of parts that follow one another, of parts that run side by
  * side, and of parts of which one is chosen. A slice says what has come of a stream since the slice before. A patch is
@@ -77,11 +77,8 @@
  *     patch buffers, and swap them after each accepted feed.
  *
  * Every function is reentrant: it keeps nothing between calls, so threads may call it at the same time, each with
- * buffers of its own. None allocates memory, and none needs more than WOSTHILE_STACK_MAX bytes of stack.
- *
- * The archive, libwosthile.a, asks for memcpy, memmove and memset at most, and for nothing else. It is compiled for
- * processors of level x86-64-v2, which have SSE4.2 and POPCNT: Intel's since 2008, AMD's since 2011. On an older one a
- * call can end the program by an illegal instruction.
+ * buffers of its own. None allocates memory, and none needs more than WOSTHILE_STACK_MAX bytes of stack. The archive,
+ * libwosthile.a, asks for memcpy, memmove and memset at most, and for nothing else.
  *
  * docs/FORMATS.md has the same with worked examples, and the files that the programs read.
  */
