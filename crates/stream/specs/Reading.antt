@@ -30,6 +30,11 @@ abbrev pub go_on : {A B : Type 0} → Result A → (A → Result B) → Result B
 go_on (accepted a) f = f a
 go_on (refused e) f = refused e
 
+-- What was read, or `other` where nothing was.
+abbrev pub found : {A : Type 0} → A → Reading A → A
+found other (read a r) = a
+found other (fault e) = other
+
 -- What has to hold; `e` is the fault if it does not.
 abbrev pub require : {A : Type 0} → Bool → Fault → Result A → Result A
 require true e r = r

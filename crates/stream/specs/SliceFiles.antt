@@ -6,7 +6,7 @@ use Rattle.stream.specs.declared.Fault.TheVariants.{SliceCutShort, SliceUnlisted
 use Rattle.stream.specs.Types.{Ty, first_part, second_part, has_kind, type_limit}
 use Rattle.stream.specs.Levels.{value_width}
 use Rattle.stream.specs.Prefixes.{Prefix, nothing, cue_awaited, cue_come, level_awaited, level_come, in_first, crossed, beside, none_chosen, first_chosen, second_chosen, IsPrefix}
-use Rattle.stream.specs.Reading.{Reading, fault, Result, read_on, whole, next_byte, number_bytes, read_number, section_bytes, section, Root, tree, leaf, one_part, two_parts}
+use Rattle.stream.specs.Reading.{Reading, fault, found, Result, read_on, whole, next_byte, number_bytes, read_number, section_bytes, section, Root, tree, leaf, one_part, two_parts}
 pub mod Examples
 
 -- The bytes of a prefix in preorder, and then r.
@@ -78,3 +78,7 @@ read_prefix t s = tree slice_over prefix_root type_limit (owed t false) s
 
 unfoldable pub slice_file : Ty → List ℕ → Result Prefix
 slice_file t s = whole SliceLeftOver (section SliceCutShort SliceLeftOver (read_prefix t) s)
+
+-- The prefix of t that some bytes hold; where they hold none, nothing, which no rule uses.
+unfoldable pub prefix_of : Ty → List ℕ → Prefix
+prefix_of t s = found nothing (read_prefix t s)

@@ -2,7 +2,7 @@
 use Rattle.std.specs.Prelude.{List, [], ◌∷◌, ◌≡◌, ℕ, get_or}
 use Rattle.stream.specs.declared.Fault.TheVariants.{CutShort, Unlisted, LeftOver, TypeTooLarge}
 use Rattle.stream.specs.Types.{Ty, empty, cue, level, seq, par, either, type_limit, Small}
-use Rattle.stream.specs.Reading.{Reading, fault, Result, read_on, whole, next_byte, section_bytes, section, Root, tree, leaf, two_parts}
+use Rattle.stream.specs.Reading.{Reading, fault, found, Result, read_on, whole, next_byte, section_bytes, section, Root, tree, leaf, two_parts}
 pub mod Examples
 
 -- The bytes of a type in preorder, and then r.
@@ -40,3 +40,7 @@ type_section s = section CutShort LeftOver read_type s
 
 unfoldable pub type_file : List ℕ → Result Ty
 type_file s = whole LeftOver (type_section s)
+
+-- The type that some bytes hold; where they hold none, the empty type, which no rule uses.
+unfoldable pub type_of : List ℕ → Ty
+type_of s = found empty (read_type s)

@@ -4,43 +4,30 @@
 ghost use Rattle.std.specs.Prelude.{◌≡◌};
 ghost use Rattle.stream.specs.Faults.{number};
 
-// Why an operation refuses. `number` in specs/Faults.antt gives the number that the documents have for each.
-#[derive(Clone, Copy)]
+// Why an operation refuses, with the number that the documents have for it.
+#[derive(Clone, Copy, Debug, PartialEq, Eq)]
 pub enum Fault {
-    CutShort,
-    Unlisted,
-    LeftOver,
-    TypeTooLarge,
-    TooManyNodes,
-    NotNullable,
-    WrongShape,
-    SliceCutShort,
-    SliceUnlisted,
-    SliceLeftOver,
-    SliceMisplaced,
-    NoRoom,
-    OutputsDiffer,
-    TotalTooLarge,
+    CutShort = 1,
+    Unlisted = 2,
+    LeftOver = 3,
+    TypeTooLarge = 4,
+    TooManyNodes = 5,
+    NotNullable = 6,
+    WrongShape = 7,
+    SliceCutShort = 11,
+    SliceUnlisted = 12,
+    SliceLeftOver = 13,
+    SliceMisplaced = 14,
+    NoRoom = 20,
+    OutputsDiffer = 30,
+    TotalTooLarge = 31,
 }
 
 // The number of a refusal, which a caller in another language is told.
-pub fn number_of(fault: Fault) -> u32
-    ensures { result ≡ number fault }
-{
-    match fault {
-        Fault::CutShort => 1,
-        Fault::Unlisted => 2,
-        Fault::LeftOver => 3,
-        Fault::TypeTooLarge => 4,
-        Fault::TooManyNodes => 5,
-        Fault::NotNullable => 6,
-        Fault::WrongShape => 7,
-        Fault::SliceCutShort => 11,
-        Fault::SliceUnlisted => 12,
-        Fault::SliceLeftOver => 13,
-        Fault::SliceMisplaced => 14,
-        Fault::NoRoom => 20,
-        Fault::OutputsDiffer => 30,
-        Fault::TotalTooLarge => 31,
+impl From<Fault> for u32 {
+    ghost from_gives = { λ fault n. n ≡ number fault };
+
+    fn from(fault: Fault) -> u32 {
+        fault as u32
     }
 }

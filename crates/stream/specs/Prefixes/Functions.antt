@@ -1,6 +1,9 @@
 -- What the rules of prefixes say, as functions that compute. They are proved to agree with the rules, both ways (proofs/Prefixes/Laws:
--- complete_sound and complete-complete, opens_test, concat-only and concats), so that nobody has to believe them.
-use Rattle.std.specs.Prelude.{Bool, true, false, ◌&&◌, ◌||◌, not}
+-- complete_sound and complete-complete, opens_test, concat-only and concats; proofs/Prefixes/Fits: fits_sound and fits-complete), so that
+-- nobody has to believe them.
+use Rattle.std.specs.Prelude.{Bool, true, false, ◌&&◌, ◌||◌, not, ltb}
+use Rattle.stream.specs.Types.{Ty, first_part, second_part, has_kind}
+use Rattle.stream.specs.Levels.{level_limit}
 use Rattle.stream.specs.Prefixes.{Prefix, nothing, cue_awaited, cue_come, level_awaited, level_come, in_first, crossed, beside, none_chosen, first_chosen, second_chosen}
 
 -- Complete
@@ -16,6 +19,20 @@ complete (beside p q) = complete p && complete q
 complete none_chosen = false
 complete (first_chosen p) = complete p
 complete (second_chosen p) = complete p
+
+-- Prefix of
+unfoldable pub fits : Ty → Prefix → Bool
+fits t nothing = has_kind 0 t
+fits t cue_awaited = has_kind 1 t
+fits t cue_come = has_kind 1 t
+fits t level_awaited = has_kind 2 t
+fits t (level_come v) = has_kind 2 t && ltb v level_limit
+fits t (in_first p) = has_kind 3 t && fits (first_part t) p
+fits t (crossed b q) = has_kind 3 t && (fits (first_part t) b && (complete b && fits (second_part t) q))
+fits t (beside p q) = has_kind 4 t && (fits (first_part t) p && fits (second_part t) q)
+fits t none_chosen = has_kind 5 t
+fits t (first_chosen p) = has_kind 5 t && fits (first_part t) p
+fits t (second_chosen p) = has_kind 5 t && fits (second_part t) p
 
 -- Whether a prefix is the empty one of its type, by the prefix alone: in it nothing has come, been crossed or been chosen.
 unfoldable pub brings_nothing : Prefix → Bool

@@ -46,6 +46,10 @@ prefix_parts none_chosen = []
 prefix_parts (first_chosen p) = p ∷ []
 prefix_parts (second_chosen p) = p ∷ []
 
+-- A part, from the left.
+abbrev pub piece : ℕ → Prefix → Prefix
+piece i p = get_or (prefix_parts p) i nothing
+
 pub prefix_parts_many : (p : Prefix) → length (prefix_parts p) ≡ prefix_arity (prefix_kind p)
 prefix_parts_many nothing = refl
 prefix_parts_many cue_awaited = refl
