@@ -8,7 +8,7 @@ use Rattle.stream.specs.Bounds.{twice_node_bytes, node_bytes_limit, patch_file_l
 use Rattle.stream.specs.Faults.{type_numbers, patch_numbers, Listed}
 use Rattle.stream.specs.Levels.{level_limit, value_bytes, read_value}
 use Rattle.stream.proofs.Levels.Laws.{value_length, value_is_bytes, value_reads, value_sound, value_faults}
-use Rattle.stream.specs.Reading.{Bytes, Reading, read, fault, accepted, IsAccepted, read_on, section_bytes, Root, leaf, two_parts}
+use Rattle.stream.specs.Reading.{Bytes, Reading, read, fault, accepted, IsAccepted, read_on, section_bytes, Root, tree, leaf, two_parts}
 use Rattle.stream.proofs.Reading.Laws.{Reads, reads_leaf, reads_two, tree_reads, RootIs, leaf_is, FoundContents, carried_is, two_is, tree_sound, section_reads, section_sound, section_length, whole_sound, ◌&◌, past, every, bytes_tail, bytes_nil, bytes_cons, section_is_bytes, read_on_read, go_on_accepted}
 use Rattle.stream.proofs.Reading.Refusals.{Faults, Refusals, read_on_faults, go_on_refusals, section_faults, tree_faults, whole_refusals, faults_too, listed_first}
 use Rattle.stream.specs.TypeFiles.{type_bytes, read_type, type_section}
@@ -123,9 +123,14 @@ reads (choose n m) f = reads_two TooManyNodes node_root choose _ (λ s. refl) (r
 reads (mark_first t) f = reads_leaf TooManyNodes node_root _ (λ s. rw (read_type_reads t s f))
 reads (mark_second t) f = reads_leaf TooManyNodes node_root _ (λ s. rw (read_type_reads t s f))
 
+-- In any reading that allows as many nodes.
+pub node_reads : (budget : ℕ) (n : Node) (r : List ℕ) → Carries n → count n ≤ budget
+    → tree TooManyNodes node_root budget tt (node_bytes n r) ≡ read n r
+node_reads budget n r f h = tree_reads TooManyNodes node_root budget r (reads n f) h
+
 pub read_node_reads : (n : Node) (r : List ℕ) → Carries n → Few n → read_node (node_bytes n r) ≡ read n r
 unfolding read_node
-read_node_reads n r f h = tree_reads TooManyNodes node_root node_limit r (reads n f) h
+read_node_reads n r f h = node_reads node_limit n r f h
 
 node_section_reads : (n : Node) (r : List ℕ) → Carries n → Few n → node_section (section_bytes (node_bytes n []) r) ≡ read n r
 unfolding node_section
@@ -197,6 +202,18 @@ unfolding node_root
 root_sound w [] b = tt
 root_sound w (k ∷ s) b = kinds_sound w s (bytes_tail k s b) k
 
+pub record FoundNode (s : List ℕ) (n : Node) (r : List ℕ) : Type 0 where
+  pub bytes : node_bytes n r ≡ s
+  pub carries : Carries n
+  pub few : Few n
+  pub rest : Bytes r
+
+pub read_node_sound : (s : List ℕ) (n : Node) (r : List ℕ) → Bytes s → read_node s ≡ read n r → FoundNode s n r
+unfolding read_node
+read_node_sound s n r b e =
+    let f = tree_sound TooManyNodes node_root IsNode node_bytes count root_sound node_limit tt s n r b e in
+    record { bytes = f.bytes; carries = f.is; few = f.few; rest = f.rest }
+
 record FoundNodes (s : List ℕ) (n : Node) (r : List ℕ) : Type 0 where
   bytes : section_bytes (node_bytes n []) r ≡ s
   carries : Carries n
@@ -204,11 +221,11 @@ record FoundNodes (s : List ℕ) (n : Node) (r : List ℕ) : Type 0 where
   rest : Bytes r
 
 node_section_sound : (s : List ℕ) (n : Node) (r : List ℕ) → Bytes s → node_section s ≡ read n r → FoundNodes s n r
-unfolding node_section read_node
+unfolding node_section
 node_section_sound s n r b e =
     let f = section_sound CutShort LeftOver read_node s n r b e in
-    let g = tree_sound TooManyNodes node_root IsNode node_bytes count root_sound node_limit tt f.body n [] f.body_bytes f.inside in
-    record { bytes = rw g.bytes f.bytes; carries = g.is; few = g.few; rest = f.rest }
+    let g = read_node_sound f.body n [] f.body_bytes f.inside in
+    record { bytes = rw g.bytes f.bytes; carries = g.carries; few = g.few; rest = f.rest }
 
 pub record FoundPatch (s : List ℕ) (p : Patch) : Type 0 where
   pub bytes : patch_file_bytes p ≡ s

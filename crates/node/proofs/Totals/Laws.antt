@@ -59,7 +59,7 @@ totals_section_reads c r h = section_reads CutShort LeftOver read_totals (totals
 
 -- What was read was written
 
-read_totals_sound : (s : List ℕ) (c : Totals) (r : List ℕ) → Bytes s → read_totals s ≡ read c r → FoundContents totals_bytes Held s c r
+pub read_totals_sound : (s : List ℕ) (c : Totals) (r : List ℕ) → Bytes s → read_totals s ≡ read c r → FoundContents totals_bytes Held s c r
 unfolding read_totals totals_bytes
 read_totals_sound s c r b e =
     let x = read_on_read (read_number CutShort total_width s)
