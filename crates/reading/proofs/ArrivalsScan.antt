@@ -4,12 +4,13 @@ use mathlib.Core.Path.{◌≡◌, refl, sym, ◌∙◌}
 use mathlib.Core.List.{List, []}
 use Prim.Native.Nat.{ℕ, zero, suc, ◌+◌, ◌-◌, ◌≤◌, ◌<◌}
 use native.Mathlib.Omega.{arith}
-use lib.ListN.{get_or}
+use lib.ListN.{length, get_or}
 use Rattle.stream.specs.Prefixes.{Prefix, arrivals}
 use Rattle.stream.specs.Prefixes.Kinds.{prefix_arity, root_width, arrivals_by_kind, root_arrivals, totals, arrivals-tally}
 use Rattle.stream.proofs.Reading.Laws.{◌&◌, past, every}
-use Rattle.reading.specs.declared.prefixes.PrefixPlace.{PrefixPlace}
-use Rattle.reading.specs.SliceReads.{PrefixIn}
+use Rattle.reading.specs.declared.inputs.Input.{Input}
+use Rattle.reading.specs.InputViews.{prefix}
+use Rattle.reading.proofs.InputViews.{prefix_in}
 use Rattle.reading.proofs.PrefixWalk.{Run, starts, within, finished, summed, turned}
 
 -- On the way through the prefix p at `start`: `count` arrivals were in the nodes before `next`, each of which has a byte.
@@ -20,8 +21,8 @@ pub record Counting (slice : List ℕ) (start : ℕ) (p : Prefix) (count next : 
   pub counted : count ≡ totals root_arrivals passed
   pub few : count + start ≤ next
 
-pub none-counted : {slice : List ℕ} {place : PrefixPlace} {p : Prefix} → PrefixIn slice place p → Counting slice place.start p 0 place.start
-none-counted {p = p} here = record { passed = []; owed = 1; run = starts p here.stands; counted = refl; few = omega arith }
+pub none-counted : (i : Input) → Counting i.slice.now 0 (prefix i) 0 0
+none-counted i = record { passed = []; owed = 1; run = starts (prefix i) (prefix_in i).stands; counted = refl; few = omega arith }
 
 -- A cue or a level that has come is one; nothing else is.
 
@@ -47,31 +48,30 @@ none_arrived =
     & (λ h l. refl)
     & past (λ k long h l. refl))
 
-module _ {slice : List ℕ} {place : PrefixPlace} {p : Prefix} {count next : ℕ} (here : PrefixIn slice place p)
-    (counting : Counting slice place.start p count next) where
-  inside : next + counting.owed ≤ place.end
-  inside = omega (arith, here.ends, within counting.run)
+module _ (i : Input) {count next : ℕ} (counting : Counting i.slice.now 0 (prefix i) count next) where
+  inside : next + counting.owed ≤ length i.slice.now
+  inside = omega (arith, (prefix_in i).ends, within counting.run)
 
-  still_owed : next < place.end → 0 < counting.owed
+  still_owed : next < length i.slice.now → 0 < counting.owed
   still_owed more = go counting.owed refl
     where
       go : (n : ℕ) → counting.owed ≡ n → 0 < counting.owed
-      go zero none = absurd (omega (arith, here.ends, finished counting.run none))
+      go zero none = absurd (omega (arith, (prefix_in i).ends, finished counting.run none))
       go (suc n) some = omega arith
 
   -- The kind byte come to is counted, and passed with its value.
-  pub counted_on : {later behind : ℕ} → next < place.end → later ≡ count + root_arrivals (get_or slice next 0) → behind ≡ next + root_width (get_or slice next 0)
-      → later + place.start ≤ behind → Counting slice place.start p later behind
+  pub counted_on : {later behind : ℕ} → next < length i.slice.now → later ≡ count + root_arrivals (get_or i.slice.now next 0)
+      → behind ≡ next + root_width (get_or i.slice.now next 0) → later ≤ behind → Counting i.slice.now 0 (prefix i) later behind
   counted_on more is_later is_behind fits =
       record {
         passed = _;
-        owed = counting.owed + prefix_arity (get_or slice next 0) - 1;
+        owed = counting.owed + prefix_arity (get_or i.slice.now next 0) - 1;
         run = turned counting.run (still_owed more) _ _ (omega (arith, still_owed more)) is_behind;
         counted = omega (arith, counting.counted);
-        few = fits;
+        few = omega arith;
       }
 
-  pub counted_all : place.end ≤ next → count ≡ arrivals p
+  pub counted_all : length i.slice.now ≤ next → count ≡ arrivals (prefix i)
   counted_all at_end =
       let none : counting.owed ≡ 0 = omega (arith, inside) in
-      counting.counted ∙ summed counting.run none root_arrivals ∙ sym (arrivals-tally p)
+      counting.counted ∙ summed counting.run none root_arrivals ∙ sym (arrivals-tally (prefix i))

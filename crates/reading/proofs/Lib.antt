@@ -4,6 +4,12 @@ pub mod PrefixWalk
 pub mod CompleteWidth
 pub mod OpeningScan
 pub mod ArrivalsScan
-pub mod NestedTypes
-pub mod NestedSlices
-pub mod InputParts
+pub mod TypeViews
+pub mod FirstPart
+pub mod TypeFront
+pub mod TypeFronts
+pub mod PlaceViews
+pub mod PrefixCuts
+pub mod InputViews
+pub mod PieceViews
+pub mod ChoiceWalks

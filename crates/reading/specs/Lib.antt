@@ -1,5 +1,12 @@
+pub mod Places
 pub mod Sections
 pub mod TypeReads
 pub mod SliceReads
 pub mod Nesting
 pub mod Inputs
+pub mod Views
+pub mod Fronts
+pub mod InputViews
+pub mod PieceViews
+pub mod Scans
+pub mod Reads

@@ -1,22 +1,16 @@
 -- What the reader of slices tells its callers, and what it asks of them: contracts inside the library, which no demand rests on.
-use Rattle.std.specs.Prelude.{◌≡◌, Bool, true, false, ◌&&◌, not, cond, List, [], ◌∷◌, ℕ, suc, ◌+◌, ◌-◌, ◌≤◌, ◌<◌, eqb, leb, length, get_or, drop}
+use Rattle.std.specs.Prelude.{Option, Some, None, Result, Ok, Err, ◌≡◌, Bool, true, false, ◌&&◌, not, cond, List, [], ◌∷◌, ℕ, suc, ◌+◌, ◌-◌, ◌≤◌, ◌<◌, eqb, leb, length, get_or, drop}
+use Rattle.stream.specs.declared.Fault.{Fault}
 use Rattle.stream.specs.declared.Fault.TheVariants.{SliceCutShort}
-use Rattle.reading.specs.declared.types.TypePlace.{TypePlace}
-use Rattle.reading.specs.declared.prefixes.PrefixPlace.{PrefixPlace}
-use Rattle.reading.specs.declared.prefixes.Width.{Width}
-use Rattle.reading.specs.declared.prefixes.Width.TheVariants.{Fixed}
+use Rattle.reading.specs.Places.{PrefixPlace}
 use Rattle.reading.specs.declared.prefixes.Known.{Known}
-use Rattle.reading.specs.declared.prefixes.Walk.{Walk}
-use Rattle.reading.specs.declared.prefixes.Walk.TheVariants.{Past, Failed}
-use Rattle.reading.specs.declared.prefixes.SliceRead.{SliceRead}
-use Rattle.reading.specs.declared.prefixes.SliceRead.TheVariants.{Whole, Refused}
 use Rattle.stream.specs.Types.{Ty, size, type_limit}
 use Rattle.stream.specs.Levels.{value_width}
 use Rattle.stream.specs.Prefixes.{Prefix, nothing, cue_awaited, cue_come, level_awaited, level_come, in_first, crossed, beside, none_chosen, first_chosen, second_chosen, Complete, IsPrefix, arrivals, derivative}
-use Rattle.stream.specs.Prefixes.Functions.{complete, opens}
+use Rattle.stream.specs.Prefixes.Functions.{complete}
 use Rattle.stream.specs.Prefixes.Kinds.{root_width, root_arrivals}
-use Rattle.stream.specs.Reading.{Reading, read, fault, Result, accepted, refused, tree}
-use Rattle.reading.specs.TypeReads.{TypeAt, TypeIn}
+use Rattle.stream.specs.Reading.{Reading, read, fault, Result as Outcome, accepted, refused, tree}
+use Rattle.reading.specs.TypeReads.{TypeAt}
 use Rattle.stream.specs.SliceFiles.{Owed, owed, prefix_root, prefix_bytes, slice_over, slice_file}
 pub mod Laws
 pub mod Descent
@@ -54,12 +48,12 @@ overlap (second_chosen p) = overlap p
 unfoldable pub known : Ty → Prefix → Known
 known t p = record { complete = complete p; remains = size (derivative t p); arrived = arrivals p; overlap = overlap p }
 
-unfoldable pub slice_read : Ty → Result Prefix → SliceRead
-slice_read t (accepted p) = Whole (known t p)
-slice_read t (refused e) = Refused e
+unfoldable pub slice_read : Ty → Outcome Prefix → Result Known Fault
+slice_read t (accepted p) = Ok (known t p)
+slice_read t (refused e) = Err e
 
 -- The reader's answer, whichever type stands at `at`.
-pub record ReadsSlice (types : List ℕ) (at : ℕ) (file : List ℕ) (answer : SliceRead) : Type 0 where
+pub record ReadsSlice (types : List ℕ) (at : ℕ) (file : List ℕ) (answer : Result Known Fault) : Type 0 where
   pub each : (t : Ty) → TypeAt types at t → answer ≡ slice_read t (slice_file t file)
 
 -- A prefix stands at a place of some bytes; what stands behind it is free.
@@ -76,37 +70,14 @@ pub record PrefixIn (bytes : List ℕ) (place : PrefixPlace) (p : Prefix) : Type
   pub stands : PrefixAt bytes place.start p
   pub ends : place.end ≡ place.start + prefix_width p
 
-pub record SomePrefixIn (bytes : List ℕ) (place : PrefixPlace) : Type 0 where
-  pub prefix : Prefix
-  pub here : PrefixIn bytes place prefix
-
--- Whether the prefix in `place` opens a node that waits, whichever it is.
-pub record OpensIn (bytes : List ℕ) (place : PrefixPlace) (answer : Bool) : Type 0 where
-  pub each : (p : Prefix) → PrefixIn bytes place p → answer ≡ opens p
-
--- How many cues and levels came in the prefix in `place`, whichever it is.
-pub record ArrivalsIn (bytes : List ℕ) (place : PrefixPlace) (answer : ℕ) : Type 0 where
-  pub each : (p : Prefix) → PrefixIn bytes place p → answer ≡ arrivals p
-
 -- `end` is where the prefix at `place` ends, whichever it is.
 pub record PrefixEnds (bytes : List ℕ) (place end : ℕ) : Type 0 where
   pub each : (p : Prefix) → PrefixAt bytes place p → end ≡ place + prefix_width p
 
 -- What a type says of how many bytes its complete prefixes have: all have `wide`, unless a choice decides.
-pub record CompleteWide (types : List ℕ) (place : TypePlace) (answer : Width) : Type 0 where
-  pub each : (wide : ℕ) → answer ≡ Fixed wide → (t : Ty) → TypeIn types place t → (p : Prefix) → IsPrefix t p → Complete p → wide ≡ prefix_width p
-
--- A complete prefix stands at `place`, of the type in `part`; `end` is where it ends.
-pub record CompleteAt (types : List ℕ) (part : TypePlace) (slice : List ℕ) (place : ℕ) : Type 0 where
-  pub type : Ty
-  pub prefix : Prefix
-  pub type_in : TypeIn types part type
-  pub is_prefix : IsPrefix type prefix
-  pub is_complete : Complete prefix
-  pub stands : PrefixAt slice place prefix
-
-pub record CompleteEnds (types : List ℕ) (part : TypePlace) (slice : List ℕ) (place end : ℕ) : Type 0 where
-  pub each : (due : CompleteAt types part slice place) → end ≡ place + prefix_width due.prefix
+abbrev pub CompleteWide : Ty → Option ℕ → Type 0
+CompleteWide t (Some wide) = (p : Prefix) → IsPrefix t p → Complete p → wide ≡ prefix_width p
+CompleteWide t None = Unit {0}
 
 -- The kind of type that each kind of slice belongs to, by its number; the kinds that keep a slice from being complete; those that can
 -- stand in an empty slice.
@@ -142,17 +113,12 @@ first_complete k c = get_or (first_complete_by_kind c) k c
 abbrev pub stood_on : ℕ → Ty → ℕ
 stood_on k t = cond (is_unfinished k) (size t) 1
 
--- A leaf of kind k at `place` of n bytes, walked through; it stands on `nodes` nodes of the type at `at`.
-unfoldable pub leaf_walked : (at nodes n place k : ℕ) → Walk
-leaf_walked at nodes n place k =
-    cond (leb (root_width k) (n - place))
-    (Past (at + nodes) (place + root_width k)
-    (record { complete = not (is_unfinished k); remains = nodes; arrived = root_arrivals k; overlap = 1 }))
-    (Failed SliceCutShort)
-
-pub record WalksLeaf (types : List ℕ) (at : ℕ) (slice : List ℕ) (place : ℕ) (answer : Walk) : Type 0 where
-  pub each : (t : Ty) → TypeAt types at t
-      → answer ≡ leaf_walked at (stood_on (get_or slice place 0) t) (length slice) place (get_or slice place 0)
+-- A leaf of kind k at the front of some bytes, walked through, which stands on so many nodes: what is known of it, and the bytes behind it.
+unfoldable pub leaf_walked : (nodes k : ℕ) → List ℕ → Reading Known
+leaf_walked nodes k s =
+    cond (leb (root_width k) (length s))
+    (read (record { complete = not (is_unfinished k); remains = nodes; arrived = root_arrivals k; overlap = 1 }) (drop (root_width k) s))
+    (fault SliceCutShort)
 
 -- What is known of a prefix by its parts: of a sequence, whose first part is still coming or was crossed, and of two side by side.
 abbrev pub first_known : Known → (second_size : ℕ) → Known
@@ -172,34 +138,27 @@ both_known first second =
       overlap = 1 + first.overlap + second.overlap;
     }
 
--- How the walk through both parts ends, from how it ends through the second.
-abbrev pub combined : (Known → Known → Known) → Known → Walk → Walk
-combined both first (Past type_end prefix_end second) = Past type_end prefix_end (both first second)
-combined both first (Failed e) = Failed e
+-- What is known of both, behind what is known of the first.
+abbrev pub combined : (Known → Known → Known) → Known → Reading Known → Reading Known
+combined both first (read second r) = read (both first second) r
+combined both first (fault e) = fault e
 
--- A choice is known as its part is. The walk through it ends where both parts of the type do, from how it ends through the part.
-abbrev pub behind_both : (type_end : ℕ) → Walk → Walk
-behind_both type_end (Past part_end prefix_end part) = Past type_end prefix_end part
-behind_both type_end (Failed e) = Failed e
-
-abbrev pub SumsFit : Known → Walk → Type 0
-SumsFit first (Past type_end prefix_end second) =
+abbrev pub SumsFit : Known → Known → Type 0
+SumsFit first second =
     (first.remains + second.remains < type_limit) × (first.overlap + second.overlap < type_limit) × (first.arrived + second.arrived < type_limit)
-SumsFit first (Failed e) = Unit
 
 -- A prefix of what is owed, of at most `budget` nodes, at the front of some bytes.
 unfoldable pub read_owed : (budget : ℕ) → Owed → List ℕ → Reading Prefix
 read_owed budget o s = tree slice_over prefix_root budget o s
 
--- The walk's answer, whichever type stands at `at`, under any budget that is enough for that type: where type and prefix end, and
--- what is known of the prefix.
-unfoldable pub walked : Ty → (type_end length_of_slice : ℕ) → Reading Prefix → Walk
-walked t type_end n (read p r) = Past type_end (n - length r) (known t p)
-walked t type_end n (fault e) = Failed e
+-- What is known of a prefix that is read.
+unfoldable pub known_read : Ty → Reading Prefix → Reading Known
+known_read t (read p r) = read (known t p) r
+known_read t (fault e) = fault e
 
-pub record Walks (types : List ℕ) (at : ℕ) (slice : List ℕ) (place : ℕ) (must_complete : Bool) (answer : Walk) : Type 0 where
-  pub each : (t : Ty) → TypeAt types at t → (budget : ℕ) → size t ≤ budget
-      → answer ≡ walked t (at + size t) (length slice) (read_owed budget (owed t must_complete) (drop place slice))
+-- What a walk through a prefix of t at the front of a slice comes to, under any budget that is enough for t.
+pub record Walks (t : Ty) (slice : List ℕ) (must_complete : Bool) (answer : Reading Known) : Type 0 where
+  pub each : (budget : ℕ) → size t ≤ budget → answer ≡ known_read t (read_owed budget (owed t must_complete) slice)
 
 -- A slice file that its reader accepts.
 pub record AcceptedSlice (t : Ty) (file : List ℕ) (about : Known) : Type 0 where

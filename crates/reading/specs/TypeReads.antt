@@ -1,12 +1,9 @@
 -- What the readers of types tell their callers: where a type stands, or the first fault.
-use Rattle.std.specs.Prelude.{◌≡◌, cond, List, [], ◌∷◌, ℕ, ◌+◌, ◌≤◌, get_or, drop}
-use Rattle.reading.specs.declared.types.TypePlace.{TypePlace}
-use Rattle.reading.specs.declared.types.NullableEnd.{NullableEnd}
-use Rattle.reading.specs.declared.types.NullableEnd.TheVariants.{At, Other}
-use Rattle.reading.specs.declared.types.TypeRead.{TypeRead}
-use Rattle.reading.specs.declared.types.TypeRead.TheVariants.{Whole, Refused}
+use Rattle.std.specs.Prelude.{Option, Some, None, Result, Ok, Err, ◌≡◌, cond, List, [], ◌∷◌, ℕ, ◌+◌, ◌≤◌, get_or, drop}
+use Rattle.stream.specs.declared.Fault.{Fault}
+use Rattle.reading.specs.Places.{TypePlace}
 use Rattle.stream.specs.Types.{Ty, nullable, size, type_limit, Small}
-use Rattle.stream.specs.Reading.{Result, accepted, refused}
+use Rattle.stream.specs.Reading.{Result as Outcome, accepted, refused}
 use Rattle.stream.specs.TypeFiles.{type_bytes, type_file}
 pub mod Laws
 
@@ -14,9 +11,9 @@ pub mod Laws
 abbrev pub in_file : Ty → TypePlace
 in_file t = record { start = 2; end = 2 + size t }
 
-unfoldable pub type_read : Result Ty → TypeRead
-type_read (accepted t) = Whole (in_file t)
-type_read (refused e) = Refused e
+unfoldable pub type_read : Outcome Ty → Result TypePlace Fault
+type_read (accepted t) = Ok (in_file t)
+type_read (refused e) = Err e
 
 -- A type of at most 255 nodes stands at a place of some bytes; what stands behind it is free.
 pub record TypeAt (bytes : List ℕ) (at : ℕ) (t : Ty) : Type 0 where
@@ -42,10 +39,10 @@ pub record TypeEnds (bytes : List ℕ) (at end : ℕ) : Type 0 where
   pub each : (t : Ty) → TypeAt bytes at t → end ≡ at + size t
 
 -- What is told of a type at `at`: where it ends if it is nullable.
-unfoldable pub nullable_end : ℕ → Ty → NullableEnd
-nullable_end at t = cond (nullable t) (At (at + size t)) Other
+unfoldable pub nullable_end : ℕ → Ty → Option ℕ
+nullable_end at t = cond (nullable t) (Some (at + size t)) None
 
-pub record NullableEnds (bytes : List ℕ) (at : ℕ) (answer : NullableEnd) : Type 0 where
+pub record NullableEnds (bytes : List ℕ) (at : ℕ) (answer : Option ℕ) : Type 0 where
   pub each : (t : Ty) → TypeAt bytes at t → answer ≡ nullable_end at t
 
 -- A type file that its reader accepts.

@@ -1,104 +1,226 @@
-// A type and a prefix of it, each with where it ends: what a node is fed. Whoever has the whole knows where its last part ends, so that
-// only the ends between parts are looked for.
-ghost use Rattle.std.specs.Prelude.{◌≡◌};
-ghost use Rattle.reading.specs.Inputs.{CutDue, cut_at, HalvesDue, HalvesFound, ComingDue, ComingFound, ChoiceDue, ChoiceFound};
+// Inputs as values: a type and a prefix of it in their bytes, of which every clause speaks as of a tree and a prefix of it.
+ghost use Rattle.std.specs.Prelude.{◌≡◌, true, [], ◌+◌};
+ghost use Rattle.stream.specs.SliceFiles.{prefix_bytes, prefix_of};
+ghost use Rattle.stream.specs.Prefixes.Functions.{fits};
+ghost use Rattle.reading.specs.Views.{tree};
+ghost use Rattle.reading.specs.PieceViews.{SomeBehind, CutBehind};
 
-use crate::prefixes::{PrefixPlace, skip_complete, skip_prefix};
-use crate::types::{TypePlace, skip_type};
+use crate::prefixes::{VALUE_WIDTH, brings_nothing, is_unfinished, skip_prefix};
+use crate::types::{Pieces, TypeView};
 
+// The bytes of a type, and of a prefix of it.
 #[derive(Clone, Copy)]
-pub struct Input {
-    pub ty: TypePlace,
-    pub prefix: PrefixPlace,
+pub struct Input<'a> {
+    pub ty: TypeView<'a>,
+    pub slice: &'a [u8],
+    pub ghost whole: { prefix_bytes (prefix_of (tree ty) slice.now) [] ≡ slice.now },
+    pub ghost is_prefix: { fits (tree ty) (prefix_of (tree ty) slice.now) ≡ true },
 }
 
-impl Input {
-    // Only the place: that a type and a prefix of it stand there is for whoever made it to know.
-    pub fn new(ty: TypePlace, prefix: PrefixPlace) -> Input
-        ensures { result ≡ record { ty = ty; prefix = prefix } }
+// How an input is cut into those of its parts, by the kind of its prefix.
+#[derive(Clone, Copy)]
+pub enum Parts<'a> {
+    Leaf,
+    Coming(Input<'a>, TypeView<'a>),
+    Crossed(Input<'a>, Input<'a>),
+    Beside(Input<'a>, Input<'a>),
+    NoneChosen(TypeView<'a>, TypeView<'a>),
+    FirstChosen(Input<'a>, TypeView<'a>),
+    SecondChosen(Input<'a>, TypeView<'a>),
+}
+
+// The pieces of the slice of a tree with a fork in one of its parts, once s has come whole: `kind` is the kind of t and r as one tree
+// behind s. Of r there is nothing yet if it is 5.
+#[derive(Clone, Copy)]
+pub struct Nested<'a> {
+    pub kind: u8,
+    pub pieces: Pieces<'a>,
+}
+
+// The pieces, of which t and r are what is `behind` s.
+fn pieces_behind<'a>(kind: u8, s: &'a [u8], behind: &'a [u8]) -> Nested<'a>
+    requires { SomeBehind kind behind.now }
+    ensures { CutBehind kind s.now behind.now result }
+{
+    let end = if kind == 5 {
+        behind.len()
+    } else {
+        skip_prefix(behind, 0)
+    };
+    let (t, r) = behind.split_at(end);
+    Nested {
+        kind,
+        pieces: Pieces { s, t, r },
+    }
+}
+
+impl<'a> Input<'a> {
+    ghost use Rattle.stream.specs.Prefixes.{arrivals};
+    ghost use Rattle.stream.specs.Prefixes.Functions.{opens};
+    ghost use Rattle.stream.specs.Prefixes.Kinds.{prefix_kind, prefix_arity, piece};
+    ghost use Rattle.stream.specs.Types.{first_part, second_part};
+    ghost use Rattle.reading.specs.Nesting.{FirstCut, SecondCut};
+    ghost use Rattle.reading.specs.PieceViews.{HowCut, CutInto};
+    ghost use Rattle.reading.specs.InputViews.{type, prefix, MakeUp};
+    ghost use Rattle.reading.specs.SliceReads.{prefix_width};
+
+    // The kind of the prefix.
+    #[tactic(auto, using(crate::proofs::InputViews::not_empty, crate::proofs::InputViews::kind_is))]
+    pub fn kind(self) -> u8
+        ensures { result ≡ prefix_kind (prefix self.entry) }
     {
-        Input { ty, prefix }
+        self.slice[0]
     }
-}
 
-// Two parts of a type, each with a prefix of it.
-#[derive(Clone, Copy)]
-pub struct Halves {
-    pub first: Input,
-    pub second: Input,
-}
-
-// The parts of an input, of which the first end at `end` and at `stop`.
-fn cut(input: Input, end: usize, stop: usize) -> Halves
-    requires { CutDue input }
-    ensures { result ≡ cut_at input end stop }
-{
-    Halves {
-        first: Input::new(
-            TypePlace::new(input.ty.start + 1, end),
-            PrefixPlace::new(input.prefix.start + 1, stop),
-        ),
-        second: Input::new(
-            TypePlace::new(end, input.ty.end),
-            PrefixPlace::new(stop, input.prefix.end),
-        ),
+    // Where the first of two parts of the prefix ends, whose type is `first`. By the type if it was crossed, and so is complete.
+    #[tactic(auto, using(crate::proofs::InputViews::not_empty, crate::proofs::InputViews::kind_is))]
+    fn first_stop(self, first: TypeView<'a>) -> usize
+        requires two { prefix_arity (prefix_kind (prefix self)) ≡ 2 }
+        requires first { tree first ≡ first_part (type self) }
+        ensures { result ≡ 1 + prefix_width (piece 0 (prefix self.entry)) }
+    {
+        if self.slice[0] == 6
+            && let Some(width) = first.complete_width()
+        {
+            return 1 + width;
+        }
+        skip_prefix(self.slice, 1)
     }
-}
 
-// The two parts: of a type of the kind 4, or of a sequence of which the first part was crossed, and so is complete.
-pub fn halve(types: &[u8], slice: &[u8], input: Input) -> Halves
-    requires { HalvesDue types.now slice.now input }
-    ensures { HalvesFound types.now slice.now input result }
-{
-    let first = input.ty.start + 1;
-    let end = skip_type(types, first);
-    let place = input.prefix.start;
-    if slice[place] == 6 {
-        let stop = skip_complete(types, TypePlace::new(first, end), slice, place + 1);
-        return cut(input, end, stop);
+    // Two inputs, of a prefix with two parts.
+    #[inline(always)]
+    #[tactic(auto, using(crate::proofs::InputViews::fork, crate::proofs::InputViews::inside))]
+    pub fn halves(self) -> (Input<'a>, Input<'a>)
+        requires { prefix_arity (prefix_kind (prefix self)) ≡ 2 }
+        ensures first_type { type result.0 ≡ first_part (type self.entry) }
+        ensures first { prefix result.0 ≡ piece 0 (prefix self.entry) }
+        ensures second_type { type result.1 ≡ second_part (type self.entry) }
+        ensures second { prefix result.1 ≡ piece 1 (prefix self.entry) }
+    {
+        let (first, second) = self.ty.parts();
+        let stop = self.first_stop(first);
+        (
+            Input {
+                ty: first,
+                slice: &self.slice[1..stop],
+            },
+            Input {
+                ty: second,
+                slice: &self.slice[stop..],
+            },
+        )
     }
-    cut(input, end, skip_prefix(slice, place + 1))
-}
 
-// The first part of a sequence that is still coming. The second part of the type stands behind it.
-pub fn coming_part(types: &[u8], input: Input) -> Input
-    requires { ComingDue types.now input }
-    ensures { ComingFound types.now input result }
-{
-    let first = input.ty.start + 1;
-    let end = skip_type(types, first);
-    Input::new(
-        TypePlace::new(first, end),
-        PrefixPlace::new(input.prefix.start + 1, input.prefix.end),
-    )
-}
-
-// What was chosen of a type of the kind 5, with the prefix of it, and the part that was not.
-#[derive(Clone, Copy)]
-pub struct Choice {
-    pub part: Input,
-    pub other: TypePlace,
-}
-
-// The chosen part, behind the mark 9 or 10. While none is chosen the answer means nothing.
-pub fn chosen_part(types: &[u8], slice: &[u8], input: Input) -> Choice
-    requires { ChoiceDue types.now slice.now input }
-    ensures { ChoiceFound types.now slice.now input result }
-{
-    let start = input.ty.start + 1;
-    let end = skip_type(types, start);
-    let first = TypePlace::new(start, end);
-    let second = TypePlace::new(end, input.ty.end);
-    let mark = input.prefix.start;
-    let prefix = PrefixPlace::new(mark + 1, input.prefix.end);
-    if slice[mark] == 9 {
-        return Choice {
-            part: Input::new(first, prefix),
-            other: second,
-        };
+    // The input of the one part of the prefix, which is of the type `ty`.
+    #[tactic(auto, using(crate::proofs::InputViews::not_empty))]
+    fn only(self, ty: TypeView<'a>) -> Input<'a>
+        requires one { prefix_arity (prefix_kind (prefix self)) ≡ 1 }
+        requires of_part { fits (tree ty) (piece 0 (prefix self)) ≡ true }
+        ensures of_type { type result ≡ tree ty.entry }
+        ensures of_prefix { prefix result ≡ piece 0 (prefix self.entry) }
+    {
+        Input {
+            ty,
+            slice: &self.slice[1..],
+        }
     }
-    Choice {
-        part: Input::new(second, prefix),
-        other: first,
+
+    // The input by its cases. Whoever asks is after one or two of them: where this is put in its place, the others go, and the parts need
+    // not be handed over.
+    #[inline(always)]
+    pub fn parts(self) -> Parts<'a>
+        ensures { MakeUp result (type self.entry) (prefix self.entry) }
+    {
+        match self.kind() {
+            5 => {
+                let (first, second) = self.ty.parts();
+                Parts::Coming(self.only(first), second)
+            }
+            6 => {
+                let (first, second) = self.halves();
+                Parts::Crossed(first, second)
+            }
+            7 => {
+                let (first, second) = self.halves();
+                Parts::Beside(first, second)
+            }
+            8 => {
+                let (first, second) = self.ty.parts();
+                Parts::NoneChosen(first, second)
+            }
+            9 => {
+                let (first, second) = self.ty.parts();
+                Parts::FirstChosen(self.only(first), second)
+            }
+            10 => {
+                let (first, second) = self.ty.parts();
+                Parts::SecondChosen(self.only(second), first)
+            }
+            _ => Parts::Leaf,
+        }
+    }
+
+    // Whether the prefix opens a node that waits: it brings something, or it is complete. In one that brings nothing each byte is a kind,
+    // and it is complete if none of them keeps it from that.
+    #[tactic(auto, using(crate::proofs::OpeningScan::view_opens, crate::proofs::OpeningScan::scan_step, crate::proofs::OpeningScan::scan_done))]
+    pub fn opens(self) -> bool
+        ensures { result ≡ opens (prefix self.entry) }
+    {
+        let mut unfinished = false;
+        for kind in self.slice {
+            if !brings_nothing(*kind) {
+                return true;
+            }
+            unfinished |= is_unfinished(*kind);
+        }
+        !unfinished
+    }
+
+    // How many cues and levels came in the prefix. Each has a branch of its own: by `arrivals_of` and one branch for a level's value the
+    // compiler makes no branch at all, and every turn then waits for the kind that the turn before has loaded.
+    #[tactic(auto, using(crate::proofs::InputViews::slice_few))]
+    pub fn arrivals(self) -> u32
+        ensures { result ≡ arrivals (prefix self.entry) }
+    {
+        let mut count: u32 = 0;
+        let mut next = 0;
+        let end = self.slice.len();
+        while next < end {
+            let kind = self.slice[next];
+            next += 1;
+            if kind == 2 {
+                count += 1;
+            } else if kind == 4 {
+                count += 1;
+                next += VALUE_WIDTH;
+            }
+        }
+        count
+    }
+
+    // The pieces of a slice of (s, t), r, if s has come: 5 6 s t and 6 6 s t r.
+    #[tactic(auto, using(crate::proofs::InputViews::not_empty))]
+    pub fn crossed_in_first(self) -> Option<Nested<'a>>
+        requires { HowCut FirstCut (prefix self) }
+        ensures { CutInto FirstCut (prefix self.entry) result }
+    {
+        if self.slice[1] == 5 {
+            return None;
+        }
+        let second = skip_prefix(self.slice, 2);
+        Some(pieces_behind(self.slice[0], &self.slice[2..second], &self.slice[second..]))
+    }
+
+    // The pieces of a slice of s and then t and r, if s has come: 6 s 5 t, 6 s 6 t r and 6 s 7 t r.
+    #[tactic(auto, using(crate::proofs::InputViews::not_empty))]
+    pub fn crossed_in_second(self) -> Option<Nested<'a>>
+        requires { HowCut SecondCut (prefix self) }
+        ensures { CutInto SecondCut (prefix self.entry) result }
+    {
+        if self.slice[0] == 5 {
+            return None;
+        }
+        let gap = skip_prefix(self.slice, 1);
+        Some(pieces_behind(self.slice[gap], &self.slice[1..gap], &self.slice[gap + 1..]))
     }
 }

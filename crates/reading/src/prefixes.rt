@@ -1,35 +1,14 @@
 // Slices as bytes: whether a file is a slice of a type, and what the operations have to know of one.
-ghost use Rattle.std.specs.Prelude.{◌≡◌, ◌+◌, ◌≤◌, ◌<◌};
+ghost use Rattle.std.specs.Prelude.{◌≡◌, ◌+◌, ◌<◌};
 ghost use Rattle.stream.specs.Types.{type_limit};
-ghost use Rattle.stream.specs.Bounds.{slice_file_limit};
 ghost use Rattle.stream.specs.Prefixes.Kinds.{prefix_arity, root_width, root_arrivals};
-ghost use Rattle.reading.specs.TypeReads.{SomeTypeIn};
-ghost use Rattle.reading.specs.SliceReads.{type_kind_of, is_unfinished, kind_brings_nothing, belongs_at, first_complete, SomePrefixAt, PrefixEnds, SomePrefixIn, OpensIn, ArrivalsIn, CompleteWide, CompleteAt, CompleteEnds, first_known, crossed_known, both_known, combined, SumsFit};
-
-use crate::types::TypePlace;
-use stream::Fault;
+ghost use Rattle.reading.specs.SliceReads.{type_kind_of, is_unfinished, kind_brings_nothing, belongs_at, first_complete, SomePrefixAt, PrefixEnds, first_known, crossed_known, both_known, SumsFit};
 
 // No slice file is longer: the count, a byte for each of 255 nodes, and two for each of at most 128 levels.
 pub const MAX_SLICE_FILE: usize = 513;
 
 // How many bytes a level's value takes.
 pub const VALUE_WIDTH: usize = 2;
-
-// Where a prefix stands in some bytes: from `start` up to, not including, `end`.
-#[derive(Clone, Copy)]
-pub struct PrefixPlace {
-    pub start: usize,
-    pub end: usize,
-}
-
-impl PrefixPlace {
-    // Only the place: that a prefix stands there is for whoever made it to know.
-    pub fn new(start: usize, end: usize) -> PrefixPlace
-        ensures { result ≡ record { start = start; end = end } }
-    {
-        PrefixPlace { start, end }
-    }
-}
 
 // What is known of a prefix that was read against its type: whether it is complete, how many nodes the type has that it
 // leaves, how many cues and levels came in it, and by how many bytes its join with a later prefix is shorter than the two. The
@@ -41,21 +20,6 @@ pub struct Known {
     pub complete: bool,
     pub arrived: u32,
     pub overlap: usize,
-}
-
-// A type and a prefix of it, walked through: where the type ends, where the prefix ends, and what is known of the prefix; or
-// the first fault.
-#[derive(Clone, Copy)]
-pub enum Walk {
-    Past(usize, usize, Known),
-    Failed(Fault),
-}
-
-// What became of a slice file: what is known of its prefix, or why it is refused.
-#[derive(Clone, Copy)]
-pub enum SliceRead {
-    Whole(Known),
-    Refused(Fault),
 }
 
 // The kind of type that a slice's kind belongs to.
@@ -198,92 +162,6 @@ pub fn skip_prefix(slice: &[u8], place: usize) -> usize
     end
 }
 
-// Whether the prefix in `place` opens a node that waits: it brings something, or it is complete. In one that brings nothing each byte is
-// a kind, and it is complete if none of them keeps it from that.
-pub fn opens(slice: &[u8], place: PrefixPlace) -> bool
-    requires { SomePrefixIn slice.now place }
-    ensures { OpensIn slice.now place result }
-{
-    let mut unfinished = false;
-    let mut next = place.start;
-    let end = place.end;
-    while next < end {
-        let kind = slice[next];
-        if !brings_nothing(kind) {
-            return true;
-        }
-        if is_unfinished(kind) {
-            unfinished = true;
-        }
-        next += 1;
-    }
-    !unfinished
-}
-
-// How many cues and levels came in the prefix in `place`. Each has a branch of its own: by `arrivals_of` and one branch for a level's
-// value the compiler makes no branch at all, and every turn then waits for the kind that the turn before has loaded.
-pub fn count_arrivals(slice: &[u8], place: PrefixPlace) -> u32
-    requires some_prefix_in { SomePrefixIn slice.now place }
-    requires end_le_slice_file_limit { place.end ≤ slice_file_limit }
-    ensures { ArrivalsIn slice.now place result }
-{
-    let mut count: u32 = 0;
-    let mut next = place.start;
-    let end = place.end;
-    while next < end {
-        let kind = slice[next];
-        next += 1;
-        if kind == 2 {
-            count += 1;
-        } else if kind == 4 {
-            count += 1;
-            next += VALUE_WIDTH;
-        }
-    }
-    count
-}
-
-// What a type says of how long its complete prefixes are: all have so many bytes, or a choice decides.
-#[derive(Clone, Copy)]
-pub enum Width {
-    Fixed(usize),
-    ByChoice,
-}
-
-// How many bytes every complete prefix has of the type in `place`: one for each of its nodes, and the value of each level, if no choice
-// stands in it. Both are counted in a byte, of which a processor counts many in one turn.
-fn complete_width(types: &[u8], place: TypePlace) -> Width
-    requires { SomeTypeIn types.now place }
-    ensures { CompleteWide types.now place result }
-{
-    let mut levels: u8 = 0;
-    let mut choices: u8 = 0;
-    let mut next = place.start;
-    let end = place.end;
-    while next < end {
-        levels += (types[next] == 2) as u8;
-        choices += (types[next] == 5) as u8;
-        next += 1;
-    }
-    if 0 < choices {
-        return Width::ByChoice;
-    }
-    let width = end - place.start + VALUE_WIDTH * levels as usize;
-    Width::Fixed(width)
-}
-
-// Where the complete prefix at `place` ends, of the type in `part`. By the type, where it tells: that takes fewer turns than going through
-// the slice.
-pub fn skip_complete(types: &[u8], part: TypePlace, slice: &[u8], place: usize) -> usize
-    requires { CompleteAt types.now part slice.now place }
-    ensures { CompleteEnds types.now part slice.now place result }
-{
-    match complete_width(types, part) {
-        Width::Fixed(width) => place + width,
-        Width::ByChoice => skip_prefix(slice, place),
-    }
-}
-
 // Of a sequence whose first part is still coming, from that part and from the size `second` of the second part's type.
 #[tactic(auto, using(stream::proofs::Types::Laws::limit_is))]
 pub fn in_first(first: Known, second: usize) -> Known
@@ -299,46 +177,32 @@ pub fn in_first(first: Known, second: usize) -> Known
     }
 }
 
-// Of a sequence whose first part was crossed, from that part and from how the walk through the second ended: a join leaves the
-// first part as it is, so what is known of the second is known of both; only what came in the first has come as well.
+// Of a sequence whose first part was crossed, from both parts: a join leaves the first part as it is, so what is known of the second
+// is known of both; only what came in the first has come as well.
 #[tactic(auto, using(stream::proofs::Types::Laws::limit_is))]
-pub fn crossed(first: Known, second: Walk) -> Walk
+pub fn crossed(first: Known, second: Known) -> Known
     requires { SumsFit first second }
-    ensures { result ≡ combined crossed_known first second }
+    ensures { result ≡ crossed_known first second }
 {
-    match second {
-        Walk::Failed(fault) => Walk::Failed(fault),
-        Walk::Past(type_end, prefix_end, prefix) => Walk::Past(
-            type_end,
-            prefix_end,
-            Known {
-                complete: prefix.complete,
-                remains: prefix.remains,
-                arrived: first.arrived + prefix.arrived,
-                overlap: prefix.overlap,
-            },
-        ),
+    Known {
+        complete: second.complete,
+        remains: second.remains,
+        arrived: first.arrived + second.arrived,
+        overlap: second.overlap,
     }
 }
 
-// Of two prefixes side by side, from the first and from how the walk through the second ended.
+// Of two prefixes side by side, from both.
 #[tactic(auto, using(stream::proofs::Types::Laws::limit_is))]
-pub fn beside(first: Known, second: Walk) -> Walk
+pub fn beside(first: Known, second: Known) -> Known
     requires { SumsFit first second }
-    ensures { result ≡ combined both_known first second }
+    ensures { result ≡ both_known first second }
 {
-    match second {
-        Walk::Failed(fault) => Walk::Failed(fault),
-        Walk::Past(type_end, prefix_end, prefix) => Walk::Past(
-            type_end,
-            prefix_end,
-            Known {
-                complete: first.complete && prefix.complete,
-                remains: 1 + first.remains + prefix.remains,
-                arrived: first.arrived + prefix.arrived,
-                overlap: 1 + first.overlap + prefix.overlap,
-            },
-        ),
+    Known {
+        complete: first.complete && second.complete,
+        remains: 1 + first.remains + second.remains,
+        arrived: first.arrived + second.arrived,
+        overlap: 1 + first.overlap + second.overlap,
     }
 }
 

@@ -4,7 +4,7 @@ use Rattle.std.proofs.Common.{arith}
 use Rattle.stream.specs.Types.{Ty, seq, par, either, size, kind}
 use Rattle.stream.specs.Prefixes.{Prefix, in_first, crossed, beside, none_chosen, first_chosen, second_chosen, Complete, IsPrefix, of_empty, of_cue_awaited, of_cue_come, of_level_awaited, of_level_come, of_first, of_crossed, of_beside, of_none_chosen, of_first_chosen, of_second_chosen}
 use Rattle.stream.specs.Prefixes.Kinds.{prefix_kind}
-use Rattle.reading.specs.declared.inputs.Input.{Input}
+use Rattle.reading.specs.Places.{InputPlace}
 use Rattle.reading.specs.TypeReads.Laws.{starts_inside}
 use Rattle.reading.specs.SliceReads.{prefix_width}
 use Rattle.reading.specs.SliceReads.Laws.{width_positive, prefix_inside}
@@ -150,7 +150,7 @@ width_within (of_first_chosen h) = omega (arith, width_within h)
 width_within (of_second_chosen h) = omega (arith, width_within h)
 
 -- Both begin inside their bytes.
-module _ {types slice : List ℕ} {input : Input} {t : Ty} {p : Prefix} (stands : InputAt types slice input t p) where
+module _ {types slice : List ℕ} {input : InputPlace} {t : Ty} {p : Prefix} (stands : InputAt types slice input t p) where
   pub type_starts : input.ty.start < length types
   type_starts = starts_inside stands.type_in.stands
 

@@ -1,5 +1,5 @@
 -- Sections by their counts: where one ends, and what it comes to by where the tree in it ends.
-use Rattle.std.specs.Prelude.{◌≡◌, Bool, true, false, leb, take, drop}
+use Rattle.std.specs.Prelude.{Err, Ok, ◌≡◌, Bool, true, false, leb, take, drop}
 use Rattle.std.proofs.Math.Path.{refl, ap}
 use Rattle.std.proofs.Common.{sym, ◌∙◌, length-take-le, leb-true, leb-false, le-leb}
 use mathlib.Core.List.{List, [], ◌∷◌, ◌++◌}
@@ -9,7 +9,6 @@ use Rattle.std.proofs.Math.ListN.{length, length-drop}
 use Rattle.std.proofs.lemmas.Bool.{lt-leb}
 use Rattle.stream.specs.declared.Fault.{Fault}
 use Rattle.stream.specs.declared.Fault.TheVariants.{CutShort, LeftOver}
-use Rattle.reading.specs.declared.sections.TreeEnd.TheVariants.{At, Failed}
 use Rattle.stream.specs.Reading.{Reading, read, fault, accepted, refused, read_on, whole, section, Root, forest, only, tree}
 use Rattle.stream.specs.Reading.Walking.{count, body}
 use Rattle.stream.proofs.Reading.Walking.{no_count, body_short, body_whole}
@@ -49,10 +48,10 @@ module _ {A : Type 0} (if_short if_left : Fault) (contents : List ℕ → Readin
     section_read h = rw (body_whole if_short if_left contents s two fits, reads, none_left if_left a r h)
 
 -- A reading ends somewhere, or it failed.
-never : {k : ℕ} {e : Fault} → At k ≡ Failed e → ⊥
+never : {k : ℕ} {e : Fault} → Ok k ≡ Err e → ⊥
 never h = let z : ◌≡◌ {A = ℕ} 0 1 = cc in omega arith
 
-pub failed : {A : Type 0} (n : ℕ) (g : Reading A) (e : Fault) → end_of n g ≡ Failed e → g ≡ fault e
+pub failed : {A : Type 0} (n : ℕ) (g : Reading A) (e : Fault) → end_of n g ≡ Err e → g ≡ fault e
 unfolding end_of
 failed n (read a r) e h = absurd (never h)
 failed n (fault x) e h = cc
@@ -77,11 +76,11 @@ abbrev pub inside : ℕ → List ℕ → List ℕ
 inside end s = take (end - 2) (drop 2 s)
 
 module _ {A : Type 0} (contents : List ℕ → Reading A) (s : List ℕ) where
-  pub count_missing : length s < 2 → end_of (length s) (section CutShort LeftOver contents s) ≡ Failed CutShort
+  pub count_missing : length s < 2 → end_of (length s) (section CutShort LeftOver contents s) ≡ Err CutShort
   unfolding end_of
   count_missing h = ap (end_of (length s)) (no_count CutShort LeftOver contents s h)
 
-  pub section_short : length s - 2 < count s → end_of (length s) (section CutShort LeftOver contents s) ≡ Failed CutShort
+  pub section_short : length s - 2 < count s → end_of (length s) (section CutShort LeftOver contents s) ≡ Err CutShort
   unfolding end_of
   section_short h = ap (end_of (length s)) (body_short CutShort LeftOver contents s h)
 
@@ -93,7 +92,7 @@ module _ {A : Type 0} (contents : List ℕ → Reading A) (s : List ℕ) where
     pub fills : contents (inside end s) ≡ read tree []
     pub reads : section CutShort LeftOver contents s ≡ read tree (drop end s)
 
-  pub section_ended : (end : ℕ) → end_of (length s) (section CutShort LeftOver contents s) ≡ At end → SectionEnds end
+  pub section_ended : (end : ℕ) → end_of (length s) (section CutShort LeftOver contents s) ≡ Ok end → SectionEnds end
   unfolding end_of
   section_ended end told = go (tried s)
     where
@@ -114,11 +113,11 @@ module _ {A : Type 0} (contents : List ℕ → Reading A) (s : List ℕ) where
               record { place = place; fits = omega arith; tree = a; fills = rw (n, h); reads = rw (place, f) }
 
 -- A tree fills its section or does not.
-pub unfilled : (end k : ℕ) → k < end - 2 → filled end (At k) ≡ Failed LeftOver
+pub unfilled : (end k : ℕ) → k < end - 2 → filled end (Ok k) ≡ Err LeftOver
 unfolding filled
 unfilled end k h = rw (filled, lt-leb (end - 2) k h)
 
-pub full : (end k : ℕ) → end - 2 ≤ k → filled end (At k) ≡ At end
+pub full : (end k : ℕ) → end - 2 ≤ k → filled end (Ok k) ≡ Ok end
 unfolding filled
 full end k h = rw (filled, le-leb (end - 2) k h)
 
@@ -129,19 +128,19 @@ Within s (fault e) = Unit
 
 -- Where a section ends by its count alone.
 pub section_there : (s : List ℕ) → 2 ≤ length s → count s ≤ length s - 2
-    → end_of (length s) (section CutShort LeftOver any_bytes s) ≡ At (2 + count s)
+    → end_of (length s) (section CutShort LeftOver any_bytes s) ≡ Ok (2 + count s)
 unfolding end_of any_bytes
 section_there s two fits =
     let place : length s - length (drop (2 + count s) s) ≡ 2 + count s = simp length-drop (omega arith) in
-    ap (end_of (length s)) (section_read CutShort LeftOver any_bytes s two fits refl (omega arith)) ∙ ap At place
+    ap (end_of (length s)) (section_read CutShort LeftOver any_bytes s two fits refl (omega arith)) ∙ ap Ok place
 
 -- From where a section ends by its count alone follows what it comes to.
 module _ {A : Type 0} (contents : List ℕ → Reading A) (s : List ℕ) where
-  pub section_failed : (e : Fault) → end_of (length s) (section CutShort LeftOver any_bytes s) ≡ Failed e
-      → end_of (length s) (section CutShort LeftOver contents s) ≡ Failed e
+  pub section_failed : (e : Fault) → end_of (length s) (section CutShort LeftOver any_bytes s) ≡ Err e
+      → end_of (length s) (section CutShort LeftOver contents s) ≡ Err e
   section_failed e told = go (tried s)
     where
-      go : Tried s → end_of (length s) (section CutShort LeftOver contents s) ≡ Failed e
+      go : Tried s → end_of (length s) (section CutShort LeftOver contents s) ≡ Err e
       go (missing h) = count_missing contents s h ∙ sym (count_missing any_bytes s h) ∙ told
       go (short h) = section_short contents s h ∙ sym (section_short any_bytes s h) ∙ told
       go (there two fits) = absurd (never (sym (section_there s two fits) ∙ told))
@@ -169,7 +168,7 @@ module _ {A : Type 0} (contents : List ℕ → Reading A) (s : List ℕ) where
       go (read a []) h w =
           let place : length s - length (drop (2 + count s) s) ≡ end = simp length-drop (omega (arith, counted.place, counted.fits)) in
           ap (end_of (length s)) (section_read CutShort LeftOver contents s two fits h (omega arith))
-          ∙ ap At place
+          ∙ ap Ok place
           ∙ sym (full end _ (omega (arith, body_length s two fits, counted.place)))
 
 -- A tree leaves no more than there was, if its roots do.

@@ -1,10 +1,9 @@
 -- A tree read root by root: what the place come to says of where the tree ends. Types and nodes are read so.
-use Rattle.std.specs.Prelude.{◌≡◌, List, ℕ, ◌+◌, ◌-◌, ◌≤◌, ◌<◌, drop, replicate}
+use Rattle.std.specs.Prelude.{Err, Ok, ◌≡◌, List, ℕ, ◌+◌, ◌-◌, ◌≤◌, ◌<◌, drop, replicate}
 use Rattle.std.proofs.Math.Path.{ap}
 use Rattle.std.proofs.Common.{◌∙◌, arith}
 use Rattle.std.proofs.Math.ListN.{length, length-drop}
 use Rattle.stream.specs.declared.Fault.{Fault}
-use Rattle.reading.specs.declared.sections.TreeEnd.TheVariants.{At, Failed}
 use Rattle.stream.specs.Reading.{Reading, read, fault, Root, forest, tree}
 use Rattle.stream.specs.Reading.Walking.{rest_of, Owes, MakesOne}
 use Rattle.stream.proofs.Reading.Walking.{ahead_same, stopped_same, spent_same, done, tree_rest}
@@ -36,23 +35,23 @@ module _ {A : Type 0} (over : Fault) (root : Unit {0} → List ℕ → Reading (
 
 module _ {A : Type 0} {over : Fault} {root : Unit {0} → List ℕ → Reading (Root (Unit {0}) A)} {top : ℕ} {s : List ℕ} {owed count at : ℕ}
     (walked : Walked over root top s owed count at) where
-  pub ends : owed ≡ 0 → end_of (length s) (tree over root top tt s) ≡ At at
+  pub ends : owed ≡ 0 → end_of (length s) (tree over root top tt s) ≡ Ok at
   unfolding end_of
   ends z =
       let e : length s - length (drop at s) ≡ at = simp length-drop (omega (arith, walked.inside)) in
       end_of_rest (length s) (tree over root top tt s) (read tt (drop at s))
       (walked.same ∙ rw z (done over root top count (drop at s)))
-      ∙ ap At e
+      ∙ ap Ok e
 
   module _ (wanted : 0 < owed) where
-    pub too_many : count ≡ top → end_of (length s) (tree over root top tt s) ≡ Failed over
+    pub too_many : count ≡ top → end_of (length s) (tree over root top tt s) ≡ Err over
     unfolding end_of
     too_many e =
         end_of_rest (length s) (tree over root top tt s) (fault over)
         (walked.same ∙ spent_same over root tt top count owed wanted (drop at s) e)
 
     module _ (more : count < top) where
-      pub stops : (e : Fault) → root tt (drop at s) ≡ fault e → end_of (length s) (tree over root top tt s) ≡ Failed e
+      pub stops : (e : Fault) → root tt (drop at s) ≡ fault e → end_of (length s) (tree over root top tt s) ≡ Err e
       unfolding end_of
       stops e h =
           end_of_rest (length s) (tree over root top tt s) (fault e)

@@ -18,7 +18,7 @@ use Rattle.stream.proofs.Reading.Budgets.{tree_fault, tree_leaf, tree_one, tree_
 use Rattle.stream.specs.Tables.{beyond}
 use Rattle.stream.specs.SliceFiles.{Owed, owed, belongs, prefix_kinds, prefix_root, prefix_bytes, slice_over}
 use Rattle.stream.proofs.SliceFiles.Laws.{nodes, Fills, root_sound, prefix_spends}
-use Rattle.reading.specs.SliceReads.{overlap, known, belongs_at, read_owed, behind_both, walked}
+use Rattle.reading.specs.SliceReads.{overlap, known, belongs_at, read_owed, known_read}
 
 -- The kind byte says whether it belongs, and what it begins where it does.
 abbrev pub kind_roots : Ty → Bool → List (List ℕ → Reading (Root Owed Prefix))
@@ -98,19 +98,17 @@ module _ (t : Ty) (c : Bool) (budget : ℕ) (s : List ℕ) where
   unfolding read_owed
   reads_two f o u r h = tree_two prefix_spends slice_over budget (owed t c) o u s r f h
 
--- The walk through a choice, by the walk through its part: what is known of the part is known of the choice.
-module _ (t : Ty) (type_end part_end n : ℕ) where
-  pub first_chosen_walked : (g : Reading Prefix)
-      → behind_both type_end (walked (first_part t) part_end n g) ≡ walked t type_end n (read_on g (λ p r. read (first_chosen p) r))
-  unfolding walked known complete derivative arrivals overlap
-  first_chosen_walked (read p r) = refl
-  first_chosen_walked (fault e) = refl
+-- What is known of the part of a choice is known of the choice.
+module _ (t : Ty) where
+  pub first_chosen_known : (g : Reading Prefix) → known_read (first_part t) g ≡ known_read t (read_on g (λ p r. read (first_chosen p) r))
+  unfolding known_read known complete derivative arrivals overlap
+  first_chosen_known (read p r) = refl
+  first_chosen_known (fault e) = refl
 
-  pub second_chosen_walked : (g : Reading Prefix)
-      → behind_both type_end (walked (second_part t) part_end n g) ≡ walked t type_end n (read_on g (λ p r. read (second_chosen p) r))
-  unfolding walked known complete derivative arrivals overlap
-  second_chosen_walked (read p r) = refl
-  second_chosen_walked (fault e) = refl
+  pub second_chosen_known : (g : Reading Prefix) → known_read (second_part t) g ≡ known_read t (read_on g (λ p r. read (second_chosen p) r))
+  unfolding known_read known complete derivative arrivals overlap
+  second_chosen_known (read p r) = refl
+  second_chosen_known (fault e) = refl
 
 -- What is read is a prefix of the type, of the bytes that were there.
 pub read_owed_sound : (budget : ℕ) (o : Owed) (s : List ℕ) (p : Prefix) (r : List ℕ) → Bytes s → read_owed budget o s ≡ read p r

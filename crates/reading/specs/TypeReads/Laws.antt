@@ -1,10 +1,9 @@
 -- A type that stands at a place of some bytes: its kind byte, its parts, and where it ends.
-use Rattle.std.specs.Prelude.{Bool, List, [], ◌∷◌, ◌++◌, ℕ, ◌+◌, ◌*◌, ◌/◌, ◌-◌, ◌≤◌, ◌<◌, length, get_or, take, drop}
+use Rattle.std.specs.Prelude.{None, Ok, Option, Some, Bool, List, [], ◌∷◌, ◌++◌, ℕ, ◌+◌, ◌*◌, ◌/◌, ◌-◌, ◌≤◌, ◌<◌, length, get_or, take, drop}
 use Rattle.std.proofs.Math.Bool.{true, false, cond}
 use Rattle.std.proofs.Math.Path.{◌≡◌, refl}
 use Rattle.std.proofs.Common.{sym, ap, ◌∙◌, arith, add-zero, length-drop, get_or-drop, drop-drop, take_at, length-take-le}
 use Rattle.stream.specs.declared.Fault.TheVariants.{Unlisted, TypeTooLarge}
-use Rattle.reading.specs.declared.sections.TreeEnd.TheVariants.{At}
 use Rattle.stream.specs.Types.{Ty, empty, cue, level, seq, par, either, nullable, size, kind, first_part, second_part, type_limit}
 use Rattle.stream.proofs.Types.Laws.{size_positive}
 use Rattle.stream.specs.Reading.{Bytes, read, fault}
@@ -14,9 +13,7 @@ use Rattle.stream.proofs.TypeFiles.Laws.{type_length, read_type_reads, read_type
 use Rattle.stream.specs.Types.Kinds.{type_arity, Fork, fork-size}
 use Rattle.reading.specs.Sections.{end_of}
 use Rattle.reading.specs.Sections.Laws.{inside, section_ended, Within, tree_within}
-use Rattle.reading.specs.declared.types.TypePlace.{TypePlace}
-use Rattle.reading.specs.declared.types.NullableEnd.{NullableEnd}
-use Rattle.reading.specs.declared.types.NullableEnd.TheVariants.{At as NullableAt, Other}
+use Rattle.reading.specs.Places.{TypePlace}
 use Rattle.reading.specs.TypeReads.{TypeAt, TypeIn, TypeEnds, nullable_end, NullableEnds}
 
 -- No kind has more than two parts, and parts come in pairs.
@@ -130,7 +127,7 @@ module _ {bytes : List ℕ} {place : TypePlace} {t : Ty} (here : TypeIn bytes pl
         ends = omega (arith, here.ends, first_in.ends, fork-size t fork);
       }
 
--- At most one type stands at a place.
+-- Ok most one type stands at a place.
 pub same_type : {bytes : List ℕ} {at : ℕ} {s t : Ty} → TypeAt bytes at s → TypeAt bytes at t → s ≡ t
 same_type {s = s} {t = t} h k =
     let e : read s h.rest ≡ read t k.rest
@@ -143,20 +140,20 @@ pub record EndsNullable (at end : ℕ) (t : Ty) : Type 0 where
   pub is_nullable : nullable t ≡ true
   pub ends : end ≡ at + size t
 
-module _ {bytes : List ℕ} {at : ℕ} {answer : NullableEnd} (told : NullableEnds bytes at answer) {t : Ty} (stands : TypeAt bytes at t) where
-  pub ends_nullable : {end : ℕ} → answer ≡ NullableAt end → EndsNullable at end t
+module _ {bytes : List ℕ} {at : ℕ} {answer : Option ℕ} (told : NullableEnds bytes at answer) {t : Ty} (stands : TypeAt bytes at t) where
+  pub ends_nullable : {end : ℕ} → answer ≡ Some end → EndsNullable at end t
   unfolding nullable_end
   ends_nullable {end} is_end = go (nullable t) refl (sym is_end ∙ told.each t stands)
     where
-      go : (b : Bool) → nullable t ≡ b → NullableAt end ≡ cond b (NullableAt (at + size t)) Other → EndsNullable at end t
+      go : (b : Bool) → nullable t ≡ b → Some end ≡ cond b (Some (at + size t)) None → EndsNullable at end t
       go true is e = record { is_nullable = is; ends = cc }
       go false is e = let z : ◌≡◌ {A = ℕ} 0 1 = cc in absurd (omega arith)
 
-  pub other_than_nullable : answer ≡ Other → nullable t ≡ false
+  pub other_than_nullable : answer ≡ None → nullable t ≡ false
   unfolding nullable_end
   other_than_nullable is_other = go (nullable t) (sym is_other ∙ told.each t stands)
     where
-      go : (b : Bool) → Other ≡ cond b (NullableAt (at + size t)) Other → b ≡ false
+      go : (b : Bool) → None ≡ cond b (Some (at + size t)) None → b ≡ false
       go true e = let z : ◌≡◌ {A = ℕ} 0 1 = cc in absurd (omega arith)
       go false e = refl
 
@@ -179,7 +176,7 @@ pub record TypeSectionEnds (s : List ℕ) (end : ℕ) : Type 0 where
   pub fits : end ≤ length s
   pub reads : type_section s ≡ read type (drop end s)
 
-pub type_section_ended : (s : List ℕ) (end : ℕ) → Bytes s → end_of (length s) (type_section s) ≡ At end → TypeSectionEnds s end
+pub type_section_ended : (s : List ℕ) (end : ℕ) → Bytes s → end_of (length s) (type_section s) ≡ Ok end → TypeSectionEnds s end
 unfolding type_section
 type_section_ended s end bytes told =
     let e = section_ended read_type s end told in
