@@ -8,14 +8,18 @@ use lib.ListN.{length, get_or, set, drop, length-append, length-set}
 use lib.Seq.{drop-drop, get_or-set_same, get_or-set_other}
 use Rattle.stream.specs.Types.{Ty, empty, cue, level, seq, par, either, size, type_limit, kind}
 use Rattle.stream.proofs.Types.Laws.{size_positive, limit_is}
+use Rattle.stream.specs.Buffers.{at_front}
 use Rattle.stream.specs.Prefixes.{empty_prefix}
 use Rattle.stream.specs.Prefixes.Kinds.{prefix_arity}
 use Rattle.stream.specs.TypeFiles.{type_bytes}
 use Rattle.stream.specs.SliceFiles.{prefix_bytes}
 use Rattle.reading.specs.TypeReads.{TypeAt, SomeTypeAt, TypeEnds}
-use Rattle.reading.specs.TypeReads.Laws.{type_drop, kind_at, starts_inside, same_type}
+use Rattle.reading.specs.TypeReads.Laws.{type_drop, kind_at, starts_inside}
+use Rattle.reading.specs.SliceReads.{prefix_width}
 use Rattle.reading.specs.SliceReads.Laws.{prefix_bytes_length, width_positive}
-use Rattle.writing.specs.Writing.{empty_kind, EmptyDue, EmptyWritten}
+use Rattle.reading.specs.declared.types.TypeView.{TypeView}
+use Rattle.reading.specs.Views.{tree}
+use Rattle.writing.specs.Writing.{empty_kind}
 use Rattle.writing.specs.Tasks.{Task, passed, written, type_of, several, sizes, sizes_many}
 use Rattle.writing.specs.Appending.Laws.{WrittenSoFar, nothing_written, written_on}
 use Rattle.writing.proofs.RoomBehind.{appended_byte}
@@ -100,19 +104,18 @@ forked (seq s t) h = record { first = s; second = passed t; marks = refl; bytes 
 forked (par s t) h = record { first = s; second = written t; marks = refl; bytes = λ r. refl; owes = λ xs. refl; total = refl }
 forked (either s t) h = absurd (omega arith)
 
-module _ (types : List ℕ) (at : ℕ) (lent now stack : List ℕ) (depth next count : ℕ) where
+module _ (v : TypeView) (lent now stack : List ℕ) (depth next count : ℕ) where
   -- Where the loop is: the types still to be gone through stand at `next`, their marks lie on the stack, and the empty prefix of
-  -- the type at `at` is what has been written and what they still owe.
+  -- the view's type is what has been written and what they still owe.
   record Stage (tasks : List Task) : Type 0 where
-    due : EmptyDue types at lent
-    rest : List ℕ
-    here : drop next types ≡ several tasks rest
+    room : prefix_width (empty_prefix (tree v)) ≤ length lent
+    here : drop next v.bytes.now ≡ several tasks []
     small : sizes tasks ≤ type_limit
     deep : depth ≡ length tasks
     marked : Marked stack tasks
     bytes : List ℕ
     so_far : WrittenSoFar bytes lent now count
-    whole : prefix_bytes (empty_prefix due.type) [] ≡ bytes ++ owing tasks
+    whole : prefix_bytes (empty_prefix (tree v)) [] ≡ bytes ++ owing tasks
 
   -- The same, whichever types are still to be gone through; `tall` is how many marks the stack holds.
   pub record Emptying : Type 0 where
@@ -128,18 +131,17 @@ module _ (types : List ℕ) (at : ℕ) (lent now stack : List ℕ) (depth next c
     top : depth - 1 ≡ length others
     on_top : get_or stack (depth - 1) 0 ≡ mark task
 
--- At first there is the type at `at`, to be written.
-pub starts : {types lent stack : List ℕ} {at : ℕ} → EmptyDue types at lent → get_or stack 0 0 ≡ 1 → length stack ≡ 255
-    → Emptying types at lent lent stack 1 at 0
-starts {lent = lent} due top tall =
+-- At first there is the whole type, to be written.
+pub starts : (v : TypeView) {lent stack : List ℕ} → prefix_width (empty_prefix (tree v)) ≤ length lent → get_or stack 0 0 ≡ 1 → length stack ≡ 255
+    → Emptying v lent lent stack 1 0 0
+starts v {lent} room top tall =
     record {
-      tasks = written due.type ∷ [];
+      tasks = written (tree v) ∷ [];
       stage =
           record {
-            due = due;
-            rest = due.stands.rest;
-            here = due.stands.here;
-            small = omega (arith, due.stands.small);
+            room = room;
+            here = sym v.whole;
+            small = omega (arith, v.small);
             deep = refl;
             marked = (top, tt);
             bytes = [];
@@ -149,94 +151,91 @@ starts {lent = lent} due top tall =
       tall = tall;
     }
 
-module _ {types lent now stack : List ℕ} {at depth next count : ℕ} where
+module _ {v : TypeView} {lent now stack : List ℕ} {depth next count : ℕ} where
   -- What is owed has room behind what has been written.
-  room : (xs : List Task) → Stage types at lent now stack depth next count xs → count + length (owing xs) ≤ length lent
+  room : (xs : List Task) → Stage v lent now stack depth next count xs → count + length (owing xs) ≤ length lent
   room xs stage =
       omega (
         arith,
         ap length stage.whole,
         length-append stage.bytes (owing xs),
-        prefix_bytes_length (empty_prefix stage.due.type) [],
-        stage.due.room,
+        prefix_bytes_length (empty_prefix (tree v)) [],
+        stage.room,
         stage.so_far.long,
       )
 
   -- The first of the types stands at `next`.
-  first_at : (x : Task) (xs : List Task) → Stage types at lent now stack depth next count (x ∷ xs) → TypeAt types next (type_of x)
-  first_at x xs stage = record { rest = several xs stage.rest; here = stage.here; small = omega (arith, stage.small) }
+  first_at : (x : Task) (xs : List Task) → Stage v lent now stack depth next count (x ∷ xs) → TypeAt v.bytes.now next (type_of x)
+  first_at x xs stage = record { rest = several xs []; here = stage.here; small = omega (arith, stage.small) }
 
   -- Behind it stand the others.
-  behind_first : (x : Task) (xs : List Task) (stage : Stage types at lent now stack depth next count (x ∷ xs)) {end : ℕ} → TypeEnds types next end
-      → drop end types ≡ several xs stage.rest
+  behind_first : (x : Task) (xs : List Task) (stage : Stage v lent now stack depth next count (x ∷ xs)) {end : ℕ} → TypeEnds v.bytes.now next end
+      → drop end v.bytes.now ≡ several xs []
   behind_first x xs stage found =
-      rw (found.each (type_of x) (first_at x xs stage), ← drop-drop (size (type_of x)) next types, stage.here)
-      (type_drop (type_of x) (several xs stage.rest))
+      rw (found.each (type_of x) (first_at x xs stage), ← drop-drop (size (type_of x)) next v.bytes.now, stage.here)
+      (type_drop (type_of x) (several xs []))
 
   -- The lent list is as long as it was.
-  pub kept : Emptying types at lent now stack depth next count → length now ≡ length lent
+  pub kept : Emptying v lent now stack depth next count → length now ≡ length lent
   kept emptying = emptying.stage.so_far.holds.long
 
   -- The marks have room on the stack.
-  pub not_deep : Emptying types at lent now stack depth next count → depth ≤ 255
+  pub not_deep : Emptying v lent now stack depth next count → depth ≤ 255
   not_deep emptying = omega (arith, sizes_many emptying.tasks, emptying.stage.deep, emptying.stage.small, limit_is)
 
   -- All have been gone through.
-  pub ends : Emptying types at lent now stack depth next count → depth ≡ 0 → EmptyWritten types at lent now count
+  pub ends : Emptying v lent now stack depth next count → depth ≡ 0
+      → (count ≡ prefix_width (empty_prefix (tree v))) × (now ≡ at_front (prefix_bytes (empty_prefix (tree v)) []) lent)
   ends emptying none = go emptying.tasks emptying.stage
     where
-      go : (xs : List Task) → Stage types at lent now stack depth next count xs → EmptyWritten types at lent now count
+      go : (xs : List Task) → Stage v lent now stack depth next count xs
+          → (count ≡ prefix_width (empty_prefix (tree v))) × (now ≡ at_front (prefix_bytes (empty_prefix (tree v)) []) lent)
       go [] stage =
-          record {
-            each = λ due.
-                let all : prefix_bytes (empty_prefix due.type) [] ≡ stage.bytes
-                = ap (λ t. prefix_bytes (empty_prefix t) []) (same_type due.stands stage.due.stands) ∙ stage.whole ∙ append-nil stage.bytes in (
-                  omega (arith, stage.so_far.long, ap length all, prefix_bytes_length (empty_prefix due.type) []),
-                  rw all (stage.so_far.holds.in_front (omega (arith, stage.so_far.long, room [] stage))),
-                );
-          }
+          let all : prefix_bytes (empty_prefix (tree v)) [] ≡ stage.bytes = stage.whole ∙ append-nil stage.bytes in (
+            omega (arith, stage.so_far.long, ap length all, prefix_bytes_length (empty_prefix (tree v)) []),
+            rw all (stage.so_far.holds.in_front (omega (arith, stage.so_far.long, room [] stage))),
+          )
       go (x ∷ xs) stage = absurd (omega (arith, stage.deep))
 
   -- While one is left, it is the first or one of the others.
-  first : Emptying types at lent now stack depth next count → 0 < depth → First types at lent now stack depth next count
+  first : Emptying v lent now stack depth next count → 0 < depth → First v lent now stack depth next count
   first emptying wanted = go emptying.tasks emptying.stage
     where
-      go : (xs : List Task) → Stage types at lent now stack depth next count xs → First types at lent now stack depth next count
+      go : (xs : List Task) → Stage v lent now stack depth next count xs → First v lent now stack depth next count
       go [] stage = absurd (omega (arith, stage.deep))
       go (x ∷ xs) stage =
           let e : depth - 1 ≡ length xs = omega (arith, stage.deep) in
           record { task = x; others = xs; stage = stage; top = e; on_top = ap (λ n. get_or stack n 0) e ∙ stage.marked.0 }
 
-  module _ (emptying : Emptying types at lent now stack depth next count) (wanted : 0 < depth) where
+  module _ (emptying : Emptying v lent now stack depth next count) (wanted : 0 < depth) where
     -- A type stands at `next`, so a byte does, and its end lies further on.
-    pub stands : SomeTypeAt types next
+    pub stands : SomeTypeAt v.bytes.now next
     stands =
         let f = first emptying wanted in
         record { type = type_of f.task; stands = first_at f.task f.others f.stage }
 
-    pub inside : next < length types
+    pub inside : next < length v.bytes.now
     inside = starts_inside stands.stands
 
-    pub further : {end : ℕ} → TypeEnds types next end → next < end
+    pub further : {end : ℕ} → TypeEnds v.bytes.now next end → next < end
     further found = omega (arith, found.each stands.type stands.stands, size_positive stands.type)
 
     -- A type that is passed over.
-    pub passed_over : {end : ℕ} → get_or stack (depth - 1) 0 ≡ 0 → TypeEnds types next end → Emptying types at lent now stack (depth - 1) end count
+    pub passed_over : {end : ℕ} → get_or stack (depth - 1) 0 ≡ 0 → TypeEnds v.bytes.now next end → Emptying v lent now stack (depth - 1) end count
     passed_over {end} none found = go f.task f.stage f.on_top
       where
-        f : First types at lent now stack depth next count
+        f : First v lent now stack depth next count
         f = first emptying wanted
 
-        go : (x : Task) → Stage types at lent now stack depth next count (x ∷ f.others) → get_or stack (depth - 1) 0 ≡ mark x
-            → Emptying types at lent now stack (depth - 1) end count
+        go : (x : Task) → Stage v lent now stack depth next count (x ∷ f.others) → get_or stack (depth - 1) 0 ≡ mark x
+            → Emptying v lent now stack (depth - 1) end count
         go (written t) stage one = absurd (omega arith)
         go (passed t) stage e =
             record {
               tasks = f.others;
               stage =
                   record {
-                    due = stage.due;
-                    rest = stage.rest;
+                    room = stage.room;
                     here = behind_first (passed t) f.others stage found;
                     small = omega (arith, stage.small);
                     deep = f.top;
@@ -254,21 +253,21 @@ module _ {types lent now stack : List ℕ} {at depth next count : ℕ} where
       record Due : Type 0 where
         type : Ty
         others : List Task
-        stage : Stage types at lent now stack depth next count (written type ∷ others)
+        stage : Stage v lent now stack depth next count (written type ∷ others)
         top : depth - 1 ≡ length others
 
       is_due : Due
       is_due = go f.task f.stage f.on_top
         where
-          f : First types at lent now stack depth next count
+          f : First v lent now stack depth next count
           f = first emptying wanted
 
-          go : (x : Task) → Stage types at lent now stack depth next count (x ∷ f.others) → get_or stack (depth - 1) 0 ≡ mark x → Due
+          go : (x : Task) → Stage v lent now stack depth next count (x ∷ f.others) → get_or stack (depth - 1) 0 ≡ mark x → Due
           go (passed t) stage none = absurd (other none)
           go (written t) stage one = record { type = t; others = f.others; stage = stage; top = f.top }
 
       -- Its kind byte stands at `next`, and there is room for the byte that is written for it.
-      kind_is : get_or types next 0 ≡ kind is_due.type
+      kind_is : get_or v.bytes.now next 0 ≡ kind is_due.type
       kind_is = kind_at (first_at (written is_due.type) is_due.others is_due.stage)
 
       pub has_room : count < length now
@@ -283,19 +282,18 @@ module _ {types lent now stack : List ℕ} {at depth next count : ℕ} where
           )
 
       -- That byte is written, and `tasks` are to be gone through then.
-      node : (tasks : List Task) {stack_after : List ℕ} {depth_after end : ℕ} → length stack_after ≡ 255 → drop end types ≡ several tasks is_due.stage.rest
+      node : (tasks : List Task) {stack_after : List ℕ} {depth_after end : ℕ} → length stack_after ≡ 255 → drop end v.bytes.now ≡ several tasks []
           → sizes tasks ≤ type_limit → depth_after ≡ length tasks → Marked stack_after tasks
           → owing (written is_due.type ∷ is_due.others) ≡ empty_kind (kind is_due.type) ∷ owing tasks
-          → Emptying types at lent (set now count (empty_kind (get_or types next 0))) stack_after depth_after end (count + 1)
+          → Emptying v lent (set now count (empty_kind (get_or v.bytes.now next 0))) stack_after depth_after end (count + 1)
       node tasks tall here small deep marked owes =
-          let k = empty_kind (get_or types next 0) in
+          let k = empty_kind (get_or v.bytes.now next 0) in
           let stage = is_due.stage in
           record {
             tasks = tasks;
             stage =
                 record {
-                  due = stage.due;
-                  rest = stage.rest;
+                  room = stage.room;
                   here = here;
                   small = small;
                   deep = deep;
@@ -311,8 +309,8 @@ module _ {types lent now stack : List ℕ} {at depth next count : ℕ} where
           }
 
       -- Where the empty prefix is a leaf the others are left, behind the whole type.
-      pub leaf : empty_parts (get_or types next 0) ≡ 0 → {end : ℕ} → TypeEnds types next end
-          → Emptying types at lent (set now count (empty_kind (get_or types next 0))) stack (depth - 1) end (count + 1)
+      pub leaf : empty_parts (get_or v.bytes.now next 0) ≡ 0 → {end : ℕ} → TypeEnds v.bytes.now next end
+          → Emptying v lent (set now count (empty_kind (get_or v.bytes.now next 0))) stack (depth - 1) end (count + 1)
       leaf none found =
           let t = is_due.type in
           let xs = is_due.others in
@@ -320,7 +318,7 @@ module _ {types lent now stack : List ℕ} {at depth next count : ℕ} where
           is_due.stage.marked.1 (leaf_owes t (rw kind_is at none) (owing xs))
 
       -- Where it has parts the marks of the type's parts take the place of its own.
-      module _ (fork : 0 < empty_parts (get_or types next 0)) where
+      module _ (fork : 0 < empty_parts (get_or v.bytes.now next 0)) where
         is_forked : Forked is_due.type
         is_forked = forked is_due.type (rw kind_is at fork)
 
@@ -337,8 +335,8 @@ module _ {types lent now stack : List ℕ} {at depth next count : ℕ} where
               limit_is,
             )
 
-        pub two_parts : {many : ℕ} → many ≡ empty_parts (get_or types next 0)
-            → Emptying types at lent (set now count (empty_kind (get_or types next 0))) (set (set stack (depth - 1) (many - 1)) (depth - 1 + 1) 1)
+        pub two_parts : {many : ℕ} → many ≡ empty_parts (get_or v.bytes.now next 0)
+            → Emptying v lent (set now count (empty_kind (get_or v.bytes.now next 0))) (set (set stack (depth - 1) (many - 1)) (depth - 1 + 1) 1)
             (depth - 1 + 2) (next + 1) (count + 1)
         two_parts {many = many} counted =
             let f = is_forked in
@@ -346,7 +344,7 @@ module _ {types lent now stack : List ℕ} {at depth next count : ℕ} where
             let stage = is_due.stage in
             let mark_is : many - 1 ≡ mark f.second = rw (counted, kind_is) f.marks in
             node (written f.first ∷ f.second ∷ xs) (simp length-set emptying.tall)
-            (rw (← drop-drop 1 next types, stage.here, f.bytes (several xs stage.rest)))
+            (rw (← drop-drop 1 next v.bytes.now, stage.here, f.bytes (several xs [])))
             (omega (arith, f.total, stage.small)) (omega (arith, is_due.top))
             (subst (λ (k : ℕ). Marked (set (set stack (depth - 1) k) (depth - 1 + 1) 1) (written f.first ∷ f.second ∷ xs)) (sym mark_is)
             (marked_two stack f.first f.second xs (depth - 1) is_due.top (omega (arith, stack_room, emptying.tall)) stage.marked.1))

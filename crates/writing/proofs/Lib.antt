@@ -12,3 +12,4 @@ pub mod SliceFile
 pub mod EmptyWalk
 pub mod SpentWalk
 pub mod Silence
+pub mod Digits

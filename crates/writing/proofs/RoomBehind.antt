@@ -4,8 +4,8 @@ use mathlib.Core.List.{List, [], ◌∷◌, append-nil}
 use Prim.Native.Nat.{ℕ, ◌+◌, ◌-◌, ◌≤◌, ◌<◌}
 use native.Mathlib.Omega.{arith}
 use native.Mathlib.Numerals.{add-one}
-use lib.ListN.{length, get_or, take, drop, set, length-append, length-drop, drop_of_length-le}
-use lib.Seq.{drop-cons, drop-drop, set_split}
+use lib.ListN.{length, drop, set, length-append, length-drop, drop_of_length-le}
+use lib.Seq.{drop-drop, set_split}
 use Rattle.stream.specs.Buffers.{at_front}
 use Rattle.writing.specs.Writing.Laws.{part, back, part_is, front_length}
 use Rattle.writing.specs.Appending.{Appends}
@@ -41,8 +41,3 @@ set_back x i k h =
 
 pub appended_byte : (now : List ℕ) (written k : ℕ) → written < length now → Appends (k ∷ []) written now (set now written k) (written + 1)
 appended_byte now written k room = rw (set_back now written k room) (appended written (omega arith) refl)
-
--- A part of one byte is that byte.
-pub appended_one : (source : List ℕ) (from to : ℕ) {now after : List ℕ} {written end : ℕ} → from < length source → to - from ≡ 1
-    → Appends (get_or source from 0 ∷ []) written now after end → Appends (take (to - from) (drop from source)) written now after end
-appended_one source from to inside one written_kind = rw (one, drop-cons source from 0 inside) written_kind

@@ -1,6 +1,7 @@
 -- What the comparison of two types tells: a contract inside the library, which no demand rests on.
 use Rattle.std.specs.Prelude.{◌≡◌, refl, Bool, true, false, List, [], ℕ}
-use Rattle.std.proofs.Common.{sym, ap, ◌∙◌}
+use Rattle.std.proofs.Common.{nat_eq, sym, ap, ◌∙◌}
+use Rattle.std.specs.Cmp.Lexicographic.{pointwise, same_text, other_text}
 use Rattle.stream.specs.Types.{Ty, Small, same_type}
 use Rattle.stream.proofs.Types.Laws.{same_type_sound, same_type-complete}
 use Rattle.stream.specs.Reading.{read}
@@ -32,3 +33,8 @@ module _ {first second : List ℕ} where
       go : (t r : Ty) → first ≡ type_bytes t [] → second ≡ type_bytes r [] → (b : Bool) → same_type t r ≡ b → b ≡ false
       go t r is_first is_second true e = absurd (differ (is_first ∙ ap (λ x. type_bytes x []) (same_type_sound t r e) ∙ sym is_second))
       go t r is_first is_second false e = refl
+
+  -- What tells the lists apart tells the types apart.
+  pub compared : (answer : Bool) → answer ≡ pointwise nat_eq first second → Compares first second answer
+  compared true same = alike (same_text first second same)
+  compared false differ = apart (other_text first second differ)

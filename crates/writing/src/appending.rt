@@ -1,8 +1,8 @@
 // Writers that may have no room: each says how many bytes there are with its own, and writes these only if they fit.
-ghost use Rattle.std.specs.Prelude.{◌∷◌, [], ◌+◌, ◌-◌, length, take, drop};
+ghost use Rattle.std.specs.Prelude.{◌∷◌, [], ◌+◌, length};
 ghost use Rattle.std.proofs.Common.{Fits};
 ghost use Rattle.std.specs.Int.{w64};
-ghost use Rattle.writing.specs.Appending.{Appends, PartDue, Within};
+ghost use Rattle.writing.specs.Appending.{Appends, Within};
 
 use crate::copy;
 
@@ -16,14 +16,6 @@ pub fn append(source: &[u8], written: usize, out: &mut [u8]) -> usize
         copy(source, &mut out[written..]);
     }
     end
-}
-
-// The same for the bytes of `source` from `from` up to `to`.
-pub fn append_part(source: &[u8], from: usize, to: usize, written: usize, out: &mut [u8]) -> usize
-    requires { PartDue source.now from to written }
-    ensures { Appends (take (to - from) (drop from source.now)) written out.old out.new result }
-{
-    append(&source[from..to], written, out)
 }
 
 // The same for one kind byte.

@@ -2,20 +2,30 @@
 // write, with room that was measured before, and hands the later parts on.
 #![tactic(auto)]
 
-ghost use Rattle.std.specs.Prelude.{◌≡◌, ◌∷◌, [], ◌+◌, ◌-◌, ◌/◌, ◌%◌, ◌≤◌, length};
+ghost use Rattle.std.specs.Prelude.{◌≡◌, true, ◌∷◌, [], ◌+◌, ◌-◌, ◌/◌, ◌%◌, ◌≤◌, length};
 ghost use Rattle.std.proofs.Common.{Fits};
 ghost use Rattle.std.specs.Int.{w64};
 ghost use Rattle.stream.specs.Reading.{section_bytes};
 ghost use Rattle.stream.specs.Buffers.{at_front};
 ghost use Rattle.stream.specs.Prefixes.Kinds.{prefix_arity};
-ghost use Rattle.writing.specs.Writing.{PrefixDue, PrefixWritten, LeafConcatDue, ConcatDue, ConcatWritten, JoinedFileDue, JoinedFileWritten, empty_kind, EmptyDue, EmptyWritten, SilenceDue, SilenceWritten, SpentDue, SpentWritten};
+ghost use Rattle.stream.specs.Types.{size, nullable};
+ghost use Rattle.stream.specs.TypeFiles.{type_bytes};
+ghost use Rattle.stream.specs.Prefixes.{empty_prefix, derivative};
+ghost use Rattle.stream.specs.Prefixes.Functions.{complete};
+ghost use Rattle.stream.specs.SliceFiles.{prefix_bytes};
+ghost use Rattle.reading.specs.Views.{tree};
+ghost use Rattle.reading.specs.InputViews.{type, prefix};
+ghost use Rattle.reading.specs.SliceReads.{prefix_width};
+ghost use Rattle.writing.specs.Writing.{PrefixDue, PrefixWritten, LeafConcatDue, ConcatDue, ConcatWritten, JoinedFileDue, JoinedFileWritten, empty_kind};
 
+use crate::numbers::put_number;
+use reading::inputs::Input;
 use reading::prefixes::{is_unfinished, root_width, skip_prefix};
-use reading::types::skip_type;
+use reading::types::{TypeView, skip_type};
 
 pub mod appending;
-pub mod comparing;
-pub mod reordering;
+pub mod numbers;
+pub mod rearranging;
 pub mod slices;
 
 // How far a writer has come: where the two trees that it goes through end, and how many bytes it has written.
@@ -26,33 +36,24 @@ pub struct Moved {
     pub written: usize,
 }
 
-impl Moved {
-    fn new(first: usize, second: usize, written: usize) -> Moved
-        ensures { result ≡ record { first = first; second = second; written = written } }
-    {
-        Moved {
-            first,
-            second,
-            written,
-        }
-    }
-}
-
 // As far as `moved`, after bytes that were written before.
 fn onward(moved: Moved, before: usize) -> Moved
     requires { Fits w64 (before + moved.written) }
     ensures { result ≡ record { first = moved.first; second = moved.second; written = before + moved.written } }
 {
-    Moved::new(moved.first, moved.second, before + moved.written)
+    Moved {
+        written: before + moved.written,
+        ..moved
+    }
 }
 
 // Writes a section's count.
+#[tactic(auto, unfolding(stream::specs::Reading::number_bytes))]
 pub fn put_count(count: usize, out: &mut [u8])
     requires { (count ≤ 65535) × (2 ≤ length out.old) }
     ensures { out.new ≡ at_front (count / 256 ∷ count % 256 ∷ []) out.old }
 {
-    out[0] = (count / 256) as u8;
-    out[1] = (count % 256) as u8;
+    put_number::<2>(count as u32, out);
 }
 
 // Copies all of `source`.
@@ -60,11 +61,7 @@ pub fn copy(source: &[u8], out: &mut [u8])
     requires { length source.now ≤ length out.old }
     ensures { out.new ≡ at_front source.now out.old }
 {
-    let mut at = 0;
-    while at < source.len() {
-        out[at] = source[at];
-        at += 1;
-    }
+    out[..source.len()].copy_from_slice(source);
 }
 
 // Copies the prefix at `place`, and says how many bytes it has.
@@ -90,10 +87,18 @@ fn write_leaf_concat(
 {
     if is_unfinished(first[first_place]) {
         let written = copy_prefix(second, second_place, out);
-        Moved::new(first_place + 1, second_place + written, written)
+        Moved {
+            first: first_place + 1,
+            second: second_place + written,
+            written,
+        }
     } else {
         let written = copy_prefix(first, first_place, out);
-        Moved::new(first_place + written, second_place + 1, written)
+        Moved {
+            first: first_place + written,
+            second: second_place + 1,
+            written,
+        }
     }
 }
 
@@ -126,7 +131,11 @@ pub fn write_concat(
             // The second prefix brings the crossing: what it has of the second part follows as it is.
             let written = 1 + part.written;
             let copied = copy_prefix(second, part.second, &mut out[written..]);
-            Moved::new(part.first, part.second + copied, written + copied)
+            Moved {
+                first: part.first,
+                second: part.second + copied,
+                written: written + copied,
+            }
         }
         6 => {
             out[0] = 6;
@@ -160,7 +169,11 @@ pub fn write_concat(
             let part = write_concat(first, first_place + 1, second, second_place, &mut out[1..]);
             onward(part, 1)
         }
-        11..=255 => Moved::new(first_place, second_place, 0),
+        11..=255 => Moved {
+            first: first_place,
+            second: second_place,
+            written: 0,
+        },
     }
 }
 
@@ -211,16 +224,18 @@ fn empty_parts(kind: u8) -> u8
     }
 }
 
-// Writes the empty prefix of the type at `at`, and says how many bytes it has. `owed` has a mark for each type that is still to be
-// gone through, the last first: 1 if it is written, 0 if it is passed over. A stack of bytes, since calls as deep as a type can be
-// would need more stack than a patch has left at its deepest.
-pub fn write_empty(types: &[u8], at: usize, out: &mut [u8]) -> usize
-    requires { EmptyDue types.now at out.old }
-    ensures { EmptyWritten types.now at out.old out.new result }
+// Writes the empty prefix of a type, and says how many bytes it has. `owed` has a mark for each type that is still to be gone through,
+// the last first: 1 if it is written, 0 if it is passed over. A stack of bytes, since calls as deep as a type can be would need more
+// stack than a patch has left at its deepest.
+pub fn write_empty(ty: TypeView<'_>, out: &mut [u8]) -> usize
+    requires { prefix_width (empty_prefix (tree ty)) ≤ length out.old }
+    ensures width { result ≡ prefix_width (empty_prefix (tree ty.entry)) }
+    ensures buffer { out.new ≡ at_front (prefix_bytes (empty_prefix (tree ty.entry)) []) out.old }
 {
+    let types = ty.bytes;
     let mut owed = [1u8; 255];
     let mut depth: usize = 1;
-    let mut next = at;
+    let mut next: usize = 0;
     let mut written: usize = 0;
     while 0 < depth {
         depth -= 1;
@@ -248,28 +263,30 @@ pub fn write_empty(types: &[u8], at: usize, out: &mut [u8]) -> usize
     written
 }
 
-// Writes the empty prefix of the nullable type whose bytes are all of `source`. Only 0 and 4 stand in it, which give way to 0 and 7:
-// no branch, so that a processor does many bytes in one turn.
-pub fn write_silence(source: &[u8], out: &mut [u8])
-    requires { SilenceDue source.now out.old }
-    ensures { SilenceWritten source.now out.old out.new }
+// Writes the empty prefix of a nullable type. Only 0 and 4 stand in the type, which give way to 0 and 7: no branch, so that a processor
+// does many bytes in one turn.
+pub fn write_silence(ty: TypeView<'_>, out: &mut [u8])
+    requires is_nullable { nullable (tree ty) ≡ true }
+    requires room { size (tree ty) ≤ length out.old }
+    ensures { out.new ≡ at_front (prefix_bytes (empty_prefix (tree ty.entry)) []) out.old }
 {
-    let mut at = 0;
-    while at < source.len() {
-        out[at] = source[at] / 4 * 7;
-        at += 1;
+    for at in 0..ty.bytes.len() {
+        out[at] = ty.bytes[at] / 4 * 7;
     }
 }
 
-// Writes the type that the complete prefix at `place` leaves, and says how many nodes it has. What a complete prefix leaves is
-// fixed by the prefix alone: the type is not asked for. A first part that is still coming does not stand in it, nor
-// a choice that is still to be made, nor a kind above 10.
-pub fn write_spent(slice: &[u8], place: usize, out: &mut [u8]) -> usize
-    requires { SpentDue slice.now place out.old }
-    ensures { SpentWritten slice.now place out.old out.new result }
+// Writes the type that a complete prefix leaves, and says how many nodes it has. What a complete prefix leaves is fixed by the prefix
+// alone: the type's bytes are not read. A first part that is still coming does not stand in it, nor a choice that is still to be made,
+// nor a kind above 10.
+pub fn write_spent(input: Input<'_>, out: &mut [u8]) -> usize
+    requires is_complete { complete (prefix input) ≡ true }
+    requires room { size (derivative (type input) (prefix input)) ≤ length out.old }
+    ensures size { result ≡ size (derivative (type input.entry) (prefix input.entry)) }
+    ensures buffer { out.new ≡ at_front (type_bytes (derivative (type input.entry) (prefix input.entry)) []) out.old }
 {
+    let slice = input.slice;
     let mut owed: usize = 1;
-    let mut next = place;
+    let mut next: usize = 0;
     let mut written: usize = 0;
     while 0 < owed {
         let kind = slice[next];

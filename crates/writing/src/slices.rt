@@ -1,70 +1,84 @@
 // Slices as bytes: whether a file is a slice of a type, what is known of it, and what it leaves of the type, in one pass.
 //
 // What is left is written on work bytes, if they have room for it: `left`. A caller that does not ask for it lends none.
-ghost use Rattle.std.specs.Prelude.{◌+◌, ◌-◌, ◌≤◌, ◌<◌, length, take, drop};
-ghost use Rattle.reading.specs.TypeReads.{SomeTypeAt};
-ghost use Rattle.writing.specs.Appending.{Appends, PartDue};
-ghost use Rattle.writing.specs.Leaving.{LeafLeft, WalksLeafLeaving, FirstStarts, PartStarts, WalksLeaving, ReadsSliceLeaving};
+ghost use Rattle.std.specs.Prelude.{◌+◌, ◌≤◌, ◌<◌, [], length};
+ghost use Rattle.stream.specs.Types.{size};
+ghost use Rattle.stream.specs.Types.Kinds.{Fork};
+ghost use Rattle.stream.specs.TypeFiles.{type_bytes};
+ghost use Rattle.reading.specs.Views.{tree};
+ghost use Rattle.reading.specs.Fronts.{front_tree};
+ghost use Rattle.writing.specs.Appending.{Appends};
+ghost use Rattle.writing.specs.Leaving.{LeafLeft, WalksLeafLeaving, FirstStarts, PartUnder, PartsDue, WalksLeaving, SliceReadLeaving};
 
-use crate::appending::{append_kind, append_part, within};
+use crate::appending::{append, append_kind, within};
+use reading::fronts::TypeFront;
 use reading::prefixes::{
-    Known, SliceRead, Walk, arrivals_of, belongs, beside, crossed, first_complete, in_first,
-    is_unfinished, prefix_arity, root_width,
+    Known, arrivals_of, belongs, beside, crossed, first_complete, in_first, is_unfinished,
+    prefix_arity, root_width,
 };
 use reading::sections::count_of;
-use reading::types::skip_type;
+use reading::types::TypeView;
 use stream::Fault;
 
-// Writes the type from `from` up to `to` behind the first `written` bytes, if there is room. Most have one node, for which no loop
-// is begun.
-fn append_type(types: &[u8], from: usize, to: usize, written: usize, left: &mut [u8]) -> usize
-    requires { PartDue types.now from to written }
-    ensures { Appends (take (to - from) (drop from types.now)) written left.old left.new result }
+// Writes the type behind the first `written` bytes, if there is room. Most have one node, for which no copy is begun.
+fn append_type(ty: TypeView<'_>, written: usize, left: &mut [u8]) -> usize
+    requires { written + size (tree ty) ≤ 65535 }
+    ensures { Appends (type_bytes (tree ty.entry) []) written left.old left.new result }
 {
-    if to - from == 1 {
-        return append_kind(types[from], written, left);
+    if ty.size() == 1 {
+        return append_kind(ty.kind(), written, left);
     }
-    append_part(types, from, to, written, left)
+    append(ty.bytes, written, left)
 }
 
-// Writes what a leaf leaves, and says where the nodes end that it stands on. One still awaited stands on a whole type and leaves it
-// as it is; one that has come stands on one node and leaves the empty type.
-fn write_leaf_left(types: &[u8], at: usize, awaited: bool, left: &mut [u8]) -> usize
-    requires { SomeTypeAt types.now at }
-    ensures { LeafLeft types.now at awaited left.old left.new result }
+// A type and a prefix of it, walked through: what is behind either, and what is known of the prefix.
+#[derive(Clone, Copy)]
+pub struct Walked<'t, 's> {
+    pub behind: &'t [u8],
+    pub rest: &'s [u8],
+    pub known: Known,
+}
+
+// Writes what a leaf leaves, and says how many nodes it stands on. One still awaited stands on a whole type and leaves it as it is; one
+// that has come stands on one node and leaves the empty type.
+fn write_leaf_left(ty: TypeFront<'_>, awaited: bool, left: &mut [u8]) -> usize
+    ensures { LeafLeft (front_tree ty.entry) awaited left.old left.new result }
 {
     if awaited {
-        let end = skip_type(types, at);
-        append_type(types, at, end, 0, left);
-        return end;
+        let (ty, _) = ty.split();
+        append_type(ty, 0, left);
+        return ty.size();
     }
     append_kind(0, 0, left);
-    at + 1
+    1
 }
 
 // A leaf, whose kind belongs there.
-fn walk_leaf(types: &[u8], at: usize, slice: &[u8], place: usize, left: &mut [u8]) -> Walk
-    requires some_type_at { SomeTypeAt types.now at }
-    requires place_in_bounds { place < length slice.now }
-    ensures { WalksLeafLeaving types.now at slice.now place left.old left.new result }
+fn walk_leaf<'t, 's>(
+    ty: TypeFront<'t>,
+    slice: &'s [u8],
+    left: &mut [u8],
+) -> Result<Walked<'t, 's>, Fault>
+    requires { 0 < length slice.now }
+    ensures { WalksLeafLeaving (front_tree ty.entry) ty.entry.bytes.now slice.now left.old left.new result }
 {
-    let kind = slice[place];
+    let kind = slice[0];
     let width = root_width(kind);
-    if slice.len() - place < width {
-        return Walk::Failed(Fault::SliceCutShort);
+    if slice.len() < width {
+        return Err(Fault::SliceCutShort);
     }
     let awaited = is_unfinished(kind);
-    let end = write_leaf_left(types, at, awaited, left);
-    Walk::Past(
-        end,
-        place + width,
-        Known {
+    let nodes = write_leaf_left(ty, awaited, left);
+    Ok(Walked {
+        behind: &ty.bytes[nodes..],
+        rest: &slice[width..],
+        known: Known {
             complete: !awaited,
-            remains: end - at,
+            remains: nodes,
             arrived: arrivals_of(kind),
             overlap: 1,
         },
-    )
+    })
 }
 
 // Where the part that is walked through first under a slice's kind writes what it leaves: behind the kind byte of its type, which is
@@ -85,104 +99,125 @@ fn first_start(kind: u8, ty: u8, left: &mut [u8]) -> usize
     1
 }
 
-// Where the part stands that is walked through first under a slice's kind: behind the kind byte of the type, or behind the first
-// part if the second was chosen.
-fn part_start(types: &[u8], at: usize, kind: u8) -> usize
-    requires { SomeTypeAt types.now (at + 1) }
-    ensures { PartStarts types.now at kind result }
+// The part that is walked through first under a slice's kind: the first of the type, or the second if that was chosen.
+fn part_under(ty: TypeFront<'_>, kind: u8) -> TypeFront<'_>
+    requires { Fork (front_tree ty) }
+    ensures { PartUnder (front_tree ty.entry) ty.entry.bytes.now kind (front_tree result) result.bytes.now }
 {
     if kind == 10 {
-        return skip_type(types, at + 1);
+        return ty.second(ty.first_end());
     }
-    at + 1
+    ty.first()
 }
 
-// Walks through the type at `at` and the prefix of it at `place`, to the end of both or to the first fault.
+// Walks through the type and the prefix of it at the front of both, to the end of both or to the first fault.
 // `complete` says whether the prefix has to be.
-fn walk_prefix(
-    types: &[u8],
-    at: usize,
-    slice: &[u8],
-    place: usize,
+#[cycle(walk_each_part)]
+fn walk_prefix<'t, 's>(
+    ty: TypeFront<'t>,
+    slice: &'s [u8],
     complete: bool,
     left: &mut [u8],
-) -> Walk
-    requires some_type_at { SomeTypeAt types.now at }
-    requires place_in_bounds { place ≤ length slice.now }
-    ensures { WalksLeaving types.now at slice.now place complete left.old left.new result }
+) -> Result<Walked<'t, 's>, Fault>
+    ensures { WalksLeaving (front_tree ty.entry) ty.entry.bytes.now slice.now complete left.old left.new result }
 {
-    if place == slice.len() {
-        return Walk::Failed(Fault::SliceCutShort);
+    if slice.is_empty() {
+        return Err(Fault::SliceCutShort);
     }
-    let kind = slice[place];
+    let kind = slice[0];
     if 10 < kind {
-        return Walk::Failed(Fault::SliceUnlisted);
+        return Err(Fault::SliceUnlisted);
     }
-    let ty = types[at];
-    if !belongs(ty, kind, complete) {
-        return Walk::Failed(Fault::SliceMisplaced);
+    if !belongs(ty.kind(), kind, complete) {
+        return Err(Fault::SliceMisplaced);
     }
-    if prefix_arity(kind) == 0 {
-        return walk_leaf(types, at, slice, place, left);
+    let parts = prefix_arity(kind);
+    if parts == 0 {
+        return walk_leaf(ty, slice, left);
     }
-    let first = first_complete(kind, complete);
-    let start = first_start(kind, ty, left);
-    let part = part_start(types, at, kind);
-    match walk_prefix(types, part, slice, place + 1, first, &mut left[start..]) {
-        Walk::Failed(fault) => Walk::Failed(fault),
-        Walk::Past(type_end, prefix_end, prefix) => match kind {
-            5 => {
-                let end = skip_type(types, type_end);
-                append_type(types, type_end, end, 1 + prefix.remains, left);
-                Walk::Past(end, prefix_end, in_first(prefix, end - type_end))
-            }
-            6 => {
-                let second = walk_prefix(types, type_end, slice, prefix_end, complete, left);
-                crossed(prefix, second)
-            }
-            7 => {
-                let rest = within(1 + prefix.remains, left.len());
-                let other = &mut left[rest..];
-                let second = walk_prefix(types, type_end, slice, prefix_end, complete, other);
-                beside(prefix, second)
-            }
-            9 => {
-                let end = skip_type(types, type_end);
-                Walk::Past(end, prefix_end, prefix)
-            }
-            10 => Walk::Past(type_end, prefix_end, prefix),
-            // These have no parts, or are no slice's kinds: both were told above.
-            0..=4 => Walk::Failed(Fault::SliceMisplaced),
-            8 => Walk::Failed(Fault::SliceMisplaced),
-            11..=255 => Walk::Failed(Fault::SliceUnlisted),
-        },
+    if parts == 1 {
+        return walk_one(ty, slice, complete, left);
     }
+    walk_two(ty, slice, complete, left)
 }
 
-// Whether the bytes are the file of a prefix of the type at `at`; otherwise the first fault. Any bytes may be handed in.
-pub fn read_slice_file(types: &[u8], at: usize, file: &[u8], left: &mut [u8]) -> SliceRead
-    requires { SomeTypeAt types.now at }
-    ensures { ReadsSliceLeaving types.now at file.now left.old left.new result }
+// The same where the first byte is a kind with one part, which belongs there: that of a first part that is still coming, or a mark.
+#[cycle(walk_each_part)]
+fn walk_one<'t, 's>(
+    ty: TypeFront<'t>,
+    slice: &'s [u8],
+    complete: bool,
+    left: &mut [u8],
+) -> Result<Walked<'t, 's>, Fault>
+    requires { PartsDue 1 (front_tree ty) slice.now complete }
+    ensures { WalksLeaving (front_tree ty.entry) ty.entry.bytes.now slice.now complete left.old left.new result }
+{
+    let kind = slice[0];
+    let first = first_complete(kind, complete);
+    let start = first_start(kind, ty.kind(), left);
+    let part = part_under(ty, kind);
+    let prefix = walk_prefix(part, &slice[1..], first, &mut left[start..])?;
+    if kind == 10 {
+        return Ok(prefix);
+    }
+    let (second, behind) = ty.second_from(prefix.behind).split();
+    if kind == 9 {
+        return Ok(Walked { behind, ..prefix });
+    }
+    append_type(second, 1 + prefix.known.remains, left);
+    Ok(Walked {
+        behind,
+        rest: prefix.rest,
+        known: in_first(prefix.known, second.size()),
+    })
+}
+
+// The same where the first byte is a kind with two parts, which belongs there: that of a crossing, or of two sides.
+#[cycle(walk_each_part)]
+fn walk_two<'t, 's>(
+    ty: TypeFront<'t>,
+    slice: &'s [u8],
+    complete: bool,
+    left: &mut [u8],
+) -> Result<Walked<'t, 's>, Fault>
+    requires { PartsDue 2 (front_tree ty) slice.now complete }
+    ensures { WalksLeaving (front_tree ty.entry) ty.entry.bytes.now slice.now complete left.old left.new result }
+{
+    let kind = slice[0];
+    let first = first_complete(kind, complete);
+    let start = first_start(kind, ty.kind(), left);
+    let prefix = walk_prefix(ty.first(), &slice[1..], first, &mut left[start..])?;
+    let other = ty.second_from(prefix.behind);
+    if kind == 6 {
+        let mut second = walk_prefix(other, prefix.rest, complete, left)?;
+        second.known = crossed(prefix.known, second.known);
+        return Ok(second);
+    }
+    let from = within(1 + prefix.known.remains, left.len());
+    let mut second = walk_prefix(other, prefix.rest, complete, &mut left[from..])?;
+    second.known = beside(prefix.known, second.known);
+    Ok(second)
+}
+
+// Whether the bytes are the file of a prefix of the type; otherwise the first fault. Any bytes may be handed in.
+pub fn read_slice_file(ty: TypeView<'_>, file: &[u8], left: &mut [u8]) -> Result<Known, Fault>
+    ensures { SliceReadLeaving (tree ty.entry) file.now left.old left.new result }
 {
     let length = file.len();
     if length < 2 {
-        return SliceRead::Refused(Fault::SliceCutShort);
+        return Err(Fault::SliceCutShort);
     }
     let count = count_of(file[0], file[1]);
     if length - 2 < count {
-        return SliceRead::Refused(Fault::SliceCutShort);
+        return Err(Fault::SliceCutShort);
     }
     let end = 2 + count;
-    match walk_prefix(types, at, &file[2..end], 0, false, left) {
-        Walk::Failed(fault) => SliceRead::Refused(fault),
-        Walk::Past(_, prefix_end, prefix) => {
-            if prefix_end < count {
-                SliceRead::Refused(Fault::SliceLeftOver)
-            } else if end < length {
-                SliceRead::Refused(Fault::SliceLeftOver)
-            } else {
-                SliceRead::Whole(prefix)
-            }
-        }
+    let prefix = walk_prefix(TypeFront::of(ty), &file[2..end], false, left)?;
+    if !prefix.rest.is_empty() {
+        return Err(Fault::SliceLeftOver);
     }
+    if end < length {
+        return Err(Fault::SliceLeftOver);
+    }
+    Ok(prefix.known)
 }

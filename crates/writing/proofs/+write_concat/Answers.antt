@@ -67,16 +67,16 @@ slice_bounds-copy_prefix-start t c = slice_bounds-copy_prefix-count t c
 pub copy_prefix-copied-requires : goal.copy_prefix-copied-requires
 copy_prefix-copied-requires t c = crossing_due _ _ _ _ _ _ c.write_concat-part.ensures refl c.in-5.is c.if-kind-eq5.false c.requires
 
-pub overflow_add-part : goal.overflow_add-part
-overflow_add-part t c =
+pub overflow_add-result : goal.overflow_add-result
+overflow_add-result t c =
     omega (
       arith,
       settled _ _ _ _ _ c.requires
           (crossing_written _ _ _ _ _ _ c.write_concat-part.ensures refl c.in-5.is c.if-kind-eq5.false c.copy_prefix-copied.ensures),
     )
 
-pub overflow_add-written-in-5 : goal.overflow_add-written-in-5
-overflow_add-written-in-5 t c =
+pub overflow_add-result-in-5 : goal.overflow_add-result-in-5
+overflow_add-result-in-5 t c =
     omega (
       arith,
       settled _ _ _ _ _ c.requires
@@ -85,8 +85,7 @@ overflow_add-written-in-5 t c =
 
 pub returns-else-kind-eq5 : goal.returns-else-kind-eq5
 returns-else-kind-eq5 t c =
-    rw c.new.ensures
-    (crossing_written _ _ _ _ _ _ c.write_concat-part.ensures refl c.in-5.is c.if-kind-eq5.false c.copy_prefix-copied.ensures)
+    crossing_written _ _ _ _ _ _ c.write_concat-part.ensures refl c.in-5.is c.if-kind-eq5.false c.copy_prefix-copied.ensures
 
 -- A first prefix that has crossed.
 

@@ -5,7 +5,7 @@ use Rattle.writing.proofs.EmptyWalk.{starts, kept, ends, stands, inside, not_dee
 use Rattle.writing.proofs.write_empty.Goals as goal
 
 pub loop-depth-init : goal.loop-depth-init
-loop-depth-init c = starts c.requires refl refl
+loop-depth-init c = starts c.args.ty c.requires refl refl
 
 pub bounds-owed-depth : goal.bounds-owed-depth
 bounds-owed-depth c = omega (arith, not_deep c.loop-depth.invariant)
@@ -77,4 +77,4 @@ loop-depth-preserved c =
     (omega (arith, c.empty_parts-parts.ensures, c.if-parts-gt0.false)) c.skip_type-next-else-parts-gt0.ensures)
 
 pub returns : goal.returns
-returns c = ends c.loop-depth.invariant (omega arith)
+returns c = let all = ends c.loop-depth.invariant (omega arith) in record { width = all.0; buffer = all.1 }

@@ -5,7 +5,7 @@ use Rattle.writing.proofs.EmptyWalk.{Emptying}
 use Rattle.writing.proofs.write_empty.Given as goal
 
 abbrev pub invariant-loop-depth : goal.invariant-loop-depth
-invariant-loop-depth l = Emptying l.types l.at l.initial.out l.out l.owed l.depth l.next l.written
+invariant-loop-depth l = Emptying l.ty l.initial.out l.out l.owed l.depth l.next l.written
 
 abbrev pub decreases-loop-depth : goal.decreases-loop-depth
 decreases-loop-depth l = length l.types - l.next

@@ -11,8 +11,8 @@ bounds-first-first_place c = (inside _ _ _ _ _ c.requires.due).first_there
 pub copy_prefix-written-requires : goal.copy_prefix-written-requires
 copy_prefix-written-requires c = awaited_due c.requires.leaf (sym c.if-is_unfinished.ensures) c.requires.due
 
-pub overflow_add-second_place : goal.overflow_add-second_place
-overflow_add-second_place c =
+pub overflow_add-result-then-is_unfinished : goal.overflow_add-result-then-is_unfinished
+overflow_add-result-then-is_unfinished c =
     omega (
       arith,
       settled _ _ _ _ _ c.requires.due (awaited_written c.requires.leaf (sym c.if-is_unfinished.ensures) c.copy_prefix-written.ensures),
@@ -21,22 +21,21 @@ overflow_add-second_place c =
 pub copy_prefix-written-requires-else-is_unfinished : goal.copy_prefix-written-requires-else-is_unfinished
 copy_prefix-written-requires-else-is_unfinished c = come_due c.requires.leaf (sym c.if-is_unfinished.ensures) c.requires.due
 
-pub overflow_add-first_place-else-is_unfinished : goal.overflow_add-first_place-else-is_unfinished
-overflow_add-first_place-else-is_unfinished c =
+pub overflow_add-result-else-is_unfinished : goal.overflow_add-result-else-is_unfinished
+overflow_add-result-else-is_unfinished c =
     omega (
       arith,
       settled _ _ _ _ _ c.requires.due
           (come_written c.requires.leaf (sym c.if-is_unfinished.ensures) c.copy_prefix-written-else-is_unfinished.ensures),
     )
 
-pub overflow_add-second_place-else-is_unfinished : goal.overflow_add-second_place-else-is_unfinished
-overflow_add-second_place-else-is_unfinished c = omega (arith, inside _ _ _ _ _ c.requires.due)
+pub overflow_add-result-else-is_unfinished-2 : goal.overflow_add-result-else-is_unfinished-2
+overflow_add-result-else-is_unfinished-2 c = omega (arith, inside _ _ _ _ _ c.requires.due)
 
 pub returns-then-is_unfinished : goal.returns-then-is_unfinished
 returns-then-is_unfinished c =
-    rw c.new.ensures (awaited_written c.requires.leaf (sym c.if-is_unfinished.ensures) c.copy_prefix-written.ensures)
+    awaited_written c.requires.leaf (sym c.if-is_unfinished.ensures) c.copy_prefix-written.ensures
 
 pub returns-else-is_unfinished : goal.returns-else-is_unfinished
 returns-else-is_unfinished c =
-    rw c.new-else-is_unfinished.ensures
-    (come_written c.requires.leaf (sym c.if-is_unfinished.ensures) c.copy_prefix-written-else-is_unfinished.ensures)
+    come_written c.requires.leaf (sym c.if-is_unfinished.ensures) c.copy_prefix-written-else-is_unfinished.ensures

@@ -1,12 +1,8 @@
 -- `write_silence` meets its contract: after `at` turns the first `at` bytes are those of the empty prefix, one for each byte of the type.
-use Rattle.std.proofs.Common.{◌≡◌, ◌-◌, ◌≤◌, length, take, map}
+use Rattle.std.proofs.Common.{take, map}
 use Rattle.writing.specs.Writing.{Begun}
 use Rattle.writing.proofs.Silence.{silence}
 use Rattle.writing.proofs.write_silence.Given as goal
 
 abbrev pub invariant-loop-at : goal.invariant-loop-at
-invariant-loop-at l =
-    (l.at ≤ length l.source) × Begun (map silence (take l.at l.source)) l.initial.out l.out l.at × (length l.out ≡ length l.initial.out)
-
-abbrev pub decreases-loop-at : goal.decreases-loop-at
-decreases-loop-at l = length l.source - l.at
+invariant-loop-at l = Begun (map silence (take l.at l.ty.bytes.now)) l.initial.out l.out l.at

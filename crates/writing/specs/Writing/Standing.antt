@@ -2,31 +2,28 @@
 -- hands on to the writers.
 use Rattle.std.proofs.Math.Path.{◌≡◌, refl, ap}
 use Rattle.std.proofs.Common.{sym, ◌∙◌, append-nil, arith, le_trans, length-take-le}
-use Rattle.std.specs.Prelude.{List, [], ℕ, ◌+◌, ◌-◌, ◌≤◌, length, take, drop}
+use Rattle.std.specs.Prelude.{Err, Ok, Result, List, [], ℕ, ◌+◌, ◌-◌, ◌≤◌, length, take, drop}
 use Rattle.stream.specs.declared.Fault.{Fault}
-use Rattle.reading.specs.declared.types.TypePlace.{TypePlace}
-use Rattle.reading.specs.declared.types.TypeRead.{TypeRead}
-use Rattle.reading.specs.declared.types.TypeRead.TheVariants.{Whole as WholeType, Refused as RefusedType}
+use Rattle.reading.specs.Places.{TypePlace}
 use Rattle.reading.specs.declared.prefixes.Known.{Known}
-use Rattle.reading.specs.declared.prefixes.SliceRead.{SliceRead}
-use Rattle.reading.specs.declared.prefixes.SliceRead.TheVariants.{Whole, Refused}
 use Rattle.stream.specs.Types.{Ty, size, Small}
 use Rattle.stream.proofs.Types.Laws.{limit_is}
 use Rattle.stream.specs.Prefixes.{Prefix, derivative}
 use Rattle.stream.specs.Prefixes.Functions.{concat}
 use Rattle.stream.proofs.Prefixes.Laws.{derivative-size, concat_is_prefix}
-use Rattle.stream.specs.Reading.{Bytes, Result, accepted, refused, section_bytes}
+use Rattle.stream.specs.Reading.{Bytes, Result as Outcome, accepted, refused, section_bytes}
 use Rattle.stream.specs.TypeFiles.{type_bytes, type_file_bytes, type_file}
 use Rattle.stream.proofs.TypeFiles.Laws.{type_length, type_file_sound}
 use Rattle.stream.specs.SliceFiles.{prefix_bytes, slice_file_bytes, slice_file}
 use Rattle.stream.proofs.SliceFiles.Laws.{prefix_short, slice_length, slice_file_sound}
 use Rattle.reading.specs.TypeReads.{type_read, TypeAt, AcceptedType}
-use Rattle.reading.specs.TypeReads.Laws.{type_before, type_width, bytes_at}
+use Rattle.stream.proofs.TypeFiles.Held.{Holds as OnlyType}
+use Rattle.reading.specs.TypeReads.Laws.{type_before, type_width, bytes_at, same_type}
 use Rattle.reading.specs.SliceReads.{prefix_width, known, slice_read, ReadsSlice, AcceptedSlice}
 use Rattle.reading.specs.SliceReads.Laws.{prefix_bytes_length, overlap_within, concat_width}
 use Rattle.stream.specs.Buffers.{at_front}
 use Rattle.writing.specs.Appending.{Holds}
-use Rattle.writing.specs.Leaving.{ReadsSliceLeaving}
+use Rattle.writing.specs.Leaving.{SliceReadLeaving, ReadsSliceLeaving}
 use Rattle.writing.specs.Writing.{JoinedFileDue}
 use Rattle.stream.specs.Bounds.{slice_file_limit}
 
@@ -42,22 +39,22 @@ type_stands file t b e =
     let f = type_file_sound file t b e in
     record { rest = []; here = rw (← f.0) (behind_count (type_bytes t [])); small = f.1 }
 
-module _ (file : List ℕ) {answer : TypeRead} (told : answer ≡ type_read (type_file file)) where
-  pub type_accepted : Bytes file → (place : TypePlace) → answer ≡ WholeType place → AcceptedType file place.start
+module _ (file : List ℕ) {answer : Result TypePlace Fault} (told : answer ≡ type_read (type_file file)) where
+  pub type_accepted : Bytes file → (place : TypePlace) → answer ≡ Ok place → AcceptedType file place.start
   unfolding type_read
   type_accepted bytes place e = go (type_file file) refl (sym told ∙ e)
     where
-      go : (g : Result Ty) → type_file file ≡ g → type_read g ≡ WholeType place → AcceptedType file place.start
+      go : (g : Outcome Ty) → type_file file ≡ g → type_read g ≡ Ok place → AcceptedType file place.start
       go (accepted t) h w =
           let start : place.start ≡ 2 = cc in
           record { type = t; is_accepted = h; stands = rw start (type_stands file t bytes h) }
       go (refused x) h w = let z : ◌≡◌ {A = ℕ} 0 1 = cc in absurd (omega arith)
 
-  pub type_refused : (e : Fault) → answer ≡ RefusedType e → type_file file ≡ refused e
+  pub type_refused : (e : Fault) → answer ≡ Err e → type_file file ≡ refused e
   unfolding type_read
   type_refused e h = go (type_file file) (sym told ∙ h)
     where
-      go : (g : Result Ty) → type_read g ≡ RefusedType e → g ≡ refused e
+      go : (g : Outcome Ty) → type_read g ≡ Err e → g ≡ refused e
       go (accepted t) w = let z : ◌≡◌ {A = ℕ} 0 1 = cc in absurd (omega arith)
       go (refused x) w = let z : x ≡ e = cc in ap refused z
 
@@ -88,23 +85,32 @@ slice_stands t file about p bytes e k =
       fills = ap length (sym f.0) ∙ slice_file-size p;
     }
 
-module _ {types : List ℕ} {at : ℕ} {file : List ℕ} {answer : SliceRead} (told : ReadsSlice types at file answer)
-    {t : Ty} (stands : TypeAt types at t) where
-  pub slice_accepted : Bytes file → (about : Known) → answer ≡ Whole about → AcceptedSlice t file about
+-- What the reader of slice files says of one.
+module _ (t : Ty) (file : List ℕ) {answer : Result Known Fault} (told : answer ≡ slice_read t (slice_file t file)) where
+  pub accepted_slice : Bytes file → (about : Known) → answer ≡ Ok about → AcceptedSlice t file about
   unfolding slice_read
-  slice_accepted bytes about e = go (slice_file t file) refl (sym (told.each t stands) ∙ e)
+  accepted_slice bytes about e = go (slice_file t file) refl (sym told ∙ e)
     where
-      go : (g : Result Prefix) → slice_file t file ≡ g → slice_read t g ≡ Whole about → AcceptedSlice t file about
+      go : (g : Outcome Prefix) → slice_file t file ≡ g → slice_read t g ≡ Ok about → AcceptedSlice t file about
       go (accepted p) h w = let k : known t p ≡ about = cc in slice_stands t file about p bytes h (sym k)
       go (refused x) h w = let z : ◌≡◌ {A = ℕ} 0 1 = cc in absurd (omega arith)
 
-  pub slice_refused : (e : Fault) → answer ≡ Refused e → slice_file t file ≡ refused e
+  pub refused_slice : (e : Fault) → answer ≡ Err e → slice_file t file ≡ refused e
   unfolding slice_read
-  slice_refused e h = go (slice_file t file) (sym (told.each t stands) ∙ h)
+  refused_slice e h = go (slice_file t file) (sym told ∙ h)
     where
-      go : (g : Result Prefix) → slice_read t g ≡ Refused e → g ≡ refused e
+      go : (g : Outcome Prefix) → slice_read t g ≡ Err e → g ≡ refused e
       go (accepted p) w = let z : ◌≡◌ {A = ℕ} 0 1 = cc in absurd (omega arith)
       go (refused x) w = let z : x ≡ e = cc in ap refused z
+
+-- The same where its type stands at a place.
+module _ {types : List ℕ} {at : ℕ} {file : List ℕ} {answer : Result Known Fault} (told : ReadsSlice types at file answer)
+    {t : Ty} (stands : TypeAt types at t) where
+  pub slice_accepted : Bytes file → (about : Known) → answer ≡ Ok about → AcceptedSlice t file about
+  slice_accepted = accepted_slice t file (told.each t stands)
+
+  pub slice_refused : (e : Fault) → answer ≡ Err e → slice_file t file ≡ refused e
+  slice_refused = refused_slice t file (told.each t stands)
 
 -- A type written at the front of some bytes stands there.
 pub written_stands : (t : Ty) (lent : List ℕ) {bytes : List ℕ} → bytes ≡ at_front (type_bytes t []) lent → Small t → TypeAt bytes 0 t
@@ -143,8 +149,28 @@ module _ {t : Ty} {held : List ℕ} {many : ℕ} (type : TypeHeld t held many) w
   unfolding type_file_bytes
   section_written out e = e ∙ ap (λ body. at_front (section_bytes body []) out) type.bytes
 
+-- They hold it, and nothing else.
+pub only_type : {t : Ty} {held : List ℕ} {many : ℕ} → TypeHeld t held many → OnlyType (take many held) t
+only_type type = record { bytes = type.bytes; small = type.stands.small }
+
 -- What an accepted slice file leaves, on work bytes that its reader was lent.
-pub left-held : {types : List ℕ} {at : ℕ} {file lent held : List ℕ} {answer : SliceRead} → ReadsSliceLeaving types at file lent held answer
+pub left_held : {t : Ty} {file lent held : List ℕ} {answer : Result Known Fault} → SliceReadLeaving t file lent held answer → Small t
+    → {about : Known} (p : AcceptedSlice t file about) → 255 ≤ length lent → TypeHeld (derivative t p.prefix) held about.remains
+left_held {t} read small {about} p room =
+    type_held (derivative t p.prefix) (le_trans (derivative-size p.is_prefix) small) room (read.left p.prefix p.is_accepted) about.remains p.remains
+
+-- The same where its type stands at a place.
+
+pub read_at : {types : List ℕ} {at : ℕ} {t : Ty} → TypeAt types at t → {file lent held : List ℕ} {answer : Result Known Fault}
+    → SliceReadLeaving t file lent held answer → ReadsSliceLeaving types at file lent held answer
+read_at {types} {at} {t} stands {file} {lent} {held} {answer} read =
+    record {
+      reads = record { each = λ u here. rw (same_type stands here) at read.reads };
+      long = read.long;
+      left = λ u here. (rw (same_type stands here) at read).left;
+    }
+
+pub left-held : {types : List ℕ} {at : ℕ} {file lent held : List ℕ} {answer : Result Known Fault} → ReadsSliceLeaving types at file lent held answer
     → {t : Ty} → TypeAt types at t → {about : Known} (p : AcceptedSlice t file about) → 255 ≤ length lent
     → TypeHeld (derivative t p.prefix) held about.remains
 left-held read {t} stands {about} p room =
