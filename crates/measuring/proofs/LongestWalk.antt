@@ -16,12 +16,14 @@ use Rattle.stream.specs.Buffers.{at_front}
 use Rattle.stream.specs.TypeFiles.{type_bytes}
 use Rattle.stream.specs.SliceFiles.{prefix_bytes}
 use Rattle.stream.specs.Longest.{byte_count, chosen, largest_level, longest_prefix}
+use Rattle.reading.specs.declared.types.TypeView.{TypeView}
+use Rattle.reading.specs.Views.{tree}
 use Rattle.reading.specs.TypeReads.{TypeAt, SomeTypeAt, TypeEnds}
 use Rattle.reading.specs.TypeReads.Laws.{type_drop, starts_inside}
 use Rattle.writing.specs.Tasks.{Task, passed, written, type_of, several, sizes, several_append, sizes_append}
 use Rattle.writing.specs.Writing.{Begun}
 use Rattle.writing.specs.Writing.Laws.{part, back, byte_on, goes_on, length_kept}
-use Rattle.measuring.specs.Planning.{largest_value, passed_over, plan_choice, plan, LongestDue, LongestWritten}
+use Rattle.measuring.specs.Planning.{largest_value, passed_over, plan_choice, plan, IsPlan}
 use Rattle.measuring.specs.Planning.Laws.{plan_length, plan_drop, passed_over_length, passed_over_drop}
 
 -- The plans of several types, and then r.
@@ -141,24 +143,25 @@ module _ (types planned lent whole now : List ℕ) (at count : ℕ) where
     stage : Stage (task ∷ others)
 
 -- All that is to be written.
-abbrev pub to_write : {types planned lent : List ℕ} {width : ℕ} → LongestDue types planned width lent → List ℕ
-to_write due = prefix_bytes (longest_prefix due.known.type) []
+abbrev pub to_write : TypeView → List ℕ
+to_write v = prefix_bytes (longest_prefix (tree v)) []
 
-pub starts : {types planned lent : List ℕ} {width : ℕ} (due : LongestDue types planned width lent) → Writing types planned lent (to_write due) lent 0 0
-starts {lent = lent} due =
+pub starts : (v : TypeView) {planned lent : List ℕ} → IsPlan (tree v) planned → byte_count (longest_prefix (tree v)) ≤ length lent
+    → Writing v.bytes.now planned lent (to_write v) lent 0 0
+starts v {planned} is_planned room =
     record {
-      tasks = written due.known.type ∷ [];
+      tasks = written (tree v) ∷ [];
       stage =
           record {
-            rest = due.known.stands.rest;
-            behind = due.known.behind;
-            here = due.known.stands.here;
-            plan_here = due.known.is_planned;
-            small = omega (arith, due.known.stands.small);
+            rest = [];
+            behind = drop (size (tree v)) planned;
+            here = sym v.whole;
+            plan_here = is_planned;
+            small = omega (arith, v.small);
             bytes = [];
             so_far = record { long = refl; buffer = refl };
             all = refl;
-            fits = omega (arith, due.room, due.known.measured);
+            fits = room;
           };
     }
 
@@ -347,9 +350,3 @@ module _ {types planned lent whole now : List ℕ} {at count : ℕ} where
           pub with_value : {end : ℕ} {y : List ℕ} → end ≡ count + 1 + length largest_value → y ≡ at_front largest_value (part (count + 1) (set now count planned_byte))
               → Writing types planned lent whole (back (count + 1) (set now count planned_byte) y) (at + 1) end
           with_value long copied = rw long (node (rw value_is (goes_on byte_written largest_value copied refl)))
-
--- So after the loop the contract is met.
-pub all-written : {types planned lent now : List ℕ} {width at count : ℕ}
-    → ((due : LongestDue types planned width lent) → Writing types planned lent (to_write due) now at count) → width ≤ count
-    → LongestWritten types planned width lent now
-all-written writing full = record { each = λ due. finished (writing due) (omega (arith, due.known.measured)) }

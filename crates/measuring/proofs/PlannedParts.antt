@@ -3,13 +3,13 @@
 use mathlib.Core.Path.{◌≡◌, refl, sym, ap, ◌∙◌}
 use mathlib.Core.Bool.{Bool, true, false}
 use mathlib.Core.List.{List, [], ◌∷◌, ◌++◌, append_assoc}
-use Prim.Native.Nat.{ℕ, suc, ◌+◌, ◌-◌, ◌≤◌, ◌<◌}
+use Prim.Native.Nat.{ℕ, suc, ◌+◌, ◌≤◌, ◌<◌}
 use native.Mathlib.Omega.{arith}
 use lib.Dec.{leb}
-use lib.ListN.{length, get_or, drop, set, length-append}
+use lib.ListN.{length, drop, set, length-append}
 use lib.Seq.{set_at}
 use borrow.Author.Tests.{le-leb, lt-leb, leb-true, leb-false}
-use Rattle.stream.specs.Types.{Ty, empty, cue, level, seq, par, either, size, kind, first_part, second_part}
+use Rattle.stream.specs.Types.{Ty, empty, cue, level, seq, par, either, size, kind, first_part, second_part, Small}
 use Rattle.stream.specs.Types.Kinds.{type_arity, Fork, fork-size}
 use Rattle.stream.proofs.Types.Laws.{size_positive}
 use Rattle.stream.specs.Buffers.{at_front}
@@ -18,15 +18,14 @@ use Rattle.stream.specs.Prefixes.Kinds.{root_width}
 use Rattle.stream.specs.SliceFiles.{prefix_bytes}
 use Rattle.stream.specs.Longest.{byte_count, largest_level, longest_prefix}
 use Rattle.stream.proofs.Longest.Laws.{byte_count_before}
-use Rattle.reading.specs.TypeReads.Laws.{kind_at, starts_inside, first_at, second_at}
 use Rattle.writing.specs.Writing.{Begun}
 use Rattle.writing.specs.Writing.Laws.{part, back, begins, goes_on, room_left, length_kept, front_length}
 use Rattle.measuring.specs.declared.Planned.{Planned}
-use Rattle.measuring.specs.Planning.{longest_kind, passed_over, plan, PlanDue, IsPlanned, Plans, ChoiceDue, Chooses}
+use Rattle.measuring.specs.Planning.{longest_kind, passed_over, plan, PlansLongest, PlansFront, ChoiceDue, Chooses}
 use Rattle.measuring.specs.Planning.Laws.{plan_length, plan_before, longest_short}
 
 -- A type that has parts has two.
-forked : (t : Ty) → (type_arity (kind t) ≡ 0 → ⊥) → Fork t
+pub forked : (t : Ty) → (type_arity (kind t) ≡ 0 → ⊥) → Fork t
 forked empty some = absurd (some refl)
 forked cue some = absurd (some refl)
 forked level some = absurd (some refl)
@@ -108,189 +107,162 @@ over_first : (k : ℕ) (a x : List ℕ) → 0 < length a → set (set (at_front 
 over_first k [] x h = absurd (omega arith)
 over_first k (j ∷ a) x h = refl
 
-module _ {types : List ℕ} {at : ℕ} {lent : List ℕ} (due : PlanDue types at lent) where
-  -- The type has a byte at its place, and there is room for one.
-  pub there : at < length types
-  there = starts_inside due.stands
-
-  pub some : 0 < length lent
-  some = omega (arith, due.room, size_positive due.type)
-
-  pub kind_is : get_or types at 0 ≡ kind due.type
-  kind_is = kind_at due.stands
+-- There is room for a byte.
+pub some : (t : Ty) (lent : List ℕ) → size t ≤ length lent → 0 < length lent
+some t lent room = omega (arith, size_positive t)
 
 -- A type without parts is planned by one byte.
-pub leaf_planned : {types : List ℕ} {at : ℕ} {lent : List ℕ} {written width : ℕ} → type_arity (get_or types at 0) ≡ 0 → written ≡ longest_kind (get_or types at 0)
-    → width ≡ root_width written → Plans types at lent (set lent 0 written) (record { end = at + 1; width = width })
-leaf_planned {types} {at} {lent} {written} {width} none is wide = record { each = each }
-  where
-    each : (due : PlanDue types at lent) → IsPlanned due.type at lent (set lent 0 written) (record { end = at + 1; width = width })
-    each due =
-        let t = due.type in
-        let leaf = leaf-plan t (rw (kind_is due) at none) in
-        let begun = begins {lent = lent} written (some due) in
-        let byte : written ≡ longest_kind (kind t) = is ∙ ap longest_kind (kind_is due) in
-        record {
-          ends = omega (arith, leaf.2);
-          wide = wide ∙ ap root_width byte ∙ leaf.1;
-          buffer = begun.buffer ∙ ap (λ l. at_front l lent) (ap (λ k. k ∷ []) byte ∙ sym leaf.0);
-        }
-
--- A type with two parts: they are planned one after the other, behind its root.
-module _ {types : List ℕ} {at : ℕ} {lent : List ℕ} (written : ℕ) where
-  module _ (parts : type_arity (get_or types at 0) ≡ 0 → ⊥) (due : PlanDue types at lent) where
-    pub fork : Fork due.type
-    fork = forked due.type (rw (kind_is due) at parts)
-
-    pub total : size due.type ≡ suc (size (first_part due.type) + size (second_part due.type))
-    total = fork-size due.type fork
-
-    abbrev pub first_due : PlanDue types (at + 1) (part 1 (set lent 0 written))
-    first_due =
-        record {
-          type = first_part due.type;
-          stands = first_at due.stands fork;
-          room = omega (arith, total, due.room, room_left (begins {lent = lent} written (some due)));
-        }
-
-    module _ {once : List ℕ} {first : Planned} (first_done : Plans types (at + 1) (part 1 (set lent 0 written)) once first) where
-      first_planned : IsPlanned (first_part due.type) (at + 1) (part 1 (set lent 0 written)) once first
-      first_planned = first_done.each first_due
-
-      -- Where the first part ends, and where its plan does.
-      pub middle : first.end ≡ at + 1 + size (first_part due.type)
-      middle = first_planned.ends
-
-      pub forward : at < first.end
-      forward = omega (arith, middle)
-
-      pub first_begun : Begun (written ∷ plan (first_part due.type) []) lent (back 1 (set lent 0 written) once) (first.end - at)
-      first_begun =
-          let width : first.end - at ≡ 1 + size (first_part due.type) = omega (arith, middle) in
-          rw width
-          (goes_on (begins {lent = lent} written (some due)) (plan (first_part due.type) []) first_planned.buffer
-          (omega (arith, plan_length (first_part due.type) [])))
-
-      pub behind_within : first.end - at ≤ length (back 1 (set lent 0 written) once)
-      behind_within = omega (arith, length_kept first_begun (omega (arith, middle, total, due.room)), middle, total, due.room)
-
-      abbrev pub second_due : PlanDue types first.end (part (first.end - at) (back 1 (set lent 0 written) once))
-      second_due =
+pub leaf_planned : (t : Ty) (lent : List ℕ) {written width : ℕ} → size t ≤ length lent → type_arity (kind t) ≡ 0 → written ≡ longest_kind (kind t)
+    → width ≡ root_width written → PlansFront t lent (set lent 0 written) (record { end = 1; width = width })
+leaf_planned t lent {written} {width} room none is wide =
+    let leaf = leaf-plan t none in
+    let begun = begins {lent = lent} written (some t lent room) in
+    record {
+      ends = omega (arith, leaf.2);
+      plans =
           record {
-            type = second_part due.type;
-            stands = rw middle (second_at due.stands fork);
-            room = omega (arith, total, due.room, middle, room_left first_begun);
-          }
+            wide = wide ∙ ap root_width is ∙ leaf.1;
+            buffer = begun.buffer ∙ ap (λ l. at_front l lent) (ap (λ k. k ∷ []) is ∙ sym leaf.0);
+          };
+    }
 
-      module _ {twice : List ℕ} {second : Planned}
-          (second_done : Plans types first.end (part (first.end - at) (back 1 (set lent 0 written) once)) twice second) where
-        second_planned : IsPlanned (second_part due.type) first.end (part (first.end - at) (back 1 (set lent 0 written) once)) twice second
-        second_planned = second_done.each second_due
+-- A type with two parts, for which there is room.
+pub record Forks (t : Ty) (lent : List ℕ) : Type 0 where
+  pub fork : Fork t
+  pub room : size t ≤ length lent
 
-        abbrev now : List ℕ
-        now = back (first.end - at) (back 1 (set lent 0 written) once) twice
+-- They are planned one after the other, behind its root.
+module _ {t : Ty} {lent : List ℕ} (written : ℕ) (forks : Forks t lent) where
+  fork : Fork t
+  fork = forks.fork
 
-        pub both_begun : now ≡ at_front (written ∷ plan (first_part due.type) [] ++ plan (second_part due.type) []) lent
-        both_begun = (goes_on first_begun (plan (second_part due.type) []) second_planned.buffer refl).buffer
+  room : size t ≤ length lent
+  room = forks.room
 
-        pub both_kept : length now ≡ length lent
-        both_kept =
-            ap length both_begun
-            ∙ front_length (written ∷ plan (first_part due.type) [] ++ plan (second_part due.type) []) lent
-            (omega (
-              arith,
-              length-append (plan (first_part due.type) []) (plan (second_part due.type) []),
-              plan_length (first_part due.type) [],
-              plan_length (second_part due.type) [],
-              total,
-              due.room,
-            ))
+  pub total : size t ≡ suc (size (first_part t) + size (second_part t))
+  total = fork-size t fork
 
-        pub ends_both : second.end ≡ at + size due.type
-        ends_both = omega (arith, second_planned.ends, middle, total)
+  begun : Begun (written ∷ []) lent (set lent 0 written) 1
+  begun = begins {lent = lent} written (some t lent room)
 
-        -- The widths can be added.
+  pub first_room : size (first_part t) ≤ length (part 1 (set lent 0 written))
+  first_room = omega (arith, total, room, room_left begun)
+
+  module _ {once : List ℕ} {first : Planned} (first_done : PlansFront (first_part t) (part 1 (set lent 0 written)) once first) where
+    -- Where the first part ends, and where its plan does.
+    pub middle : 1 + first.end ≡ 1 + size (first_part t)
+    middle = omega (arith, first_done.ends)
+
+    first_begun : Begun (written ∷ plan (first_part t) []) lent (back 1 (set lent 0 written) once) (1 + first.end)
+    first_begun = goes_on begun (plan (first_part t) []) first_done.plans.buffer (omega (arith, first_done.ends, plan_length (first_part t) []))
+
+    pub behind_within : 1 + first.end ≤ length (back 1 (set lent 0 written) once)
+    behind_within = omega (arith, length_kept first_begun (omega (arith, middle, total, room)), middle, total, room)
+
+    pub second_room : size (second_part t) ≤ length (part (1 + first.end) (back 1 (set lent 0 written) once))
+    second_room = omega (arith, total, room, middle, room_left first_begun)
+
+    module _ {twice : List ℕ} {second : Planned}
+        (second_done : PlansFront (second_part t) (part (1 + first.end) (back 1 (set lent 0 written) once)) twice second) where
+      abbrev now : List ℕ
+      now = back (1 + first.end) (back 1 (set lent 0 written) once) twice
+
+      both_begun : now ≡ at_front (written ∷ plan (first_part t) [] ++ plan (second_part t) []) lent
+      both_begun = (goes_on first_begun (plan (second_part t) []) second_done.plans.buffer refl).buffer
+
+      both_kept : length now ≡ length lent
+      both_kept =
+          ap length both_begun
+          ∙ front_length (written ∷ plan (first_part t) [] ++ plan (second_part t) []) lent
+          (omega (
+            arith,
+            length-append (plan (first_part t) []) (plan (second_part t) []),
+            plan_length (first_part t) [],
+            plan_length (second_part t) [],
+            total,
+            room,
+          ))
+
+      pub ends_both : 1 + first.end + second.end ≡ size t
+      ends_both = omega (arith, second_done.ends, middle, total)
+
+      -- The widths can be added.
+      module _ (small : Small t) where
         pub first_few : first.width ≤ 511
-        first_few = omega (arith, first_planned.wide, longest_short (first_part due.type) first_due.stands.small)
+        first_few = omega (arith, first_done.plans.wide, longest_short (first_part t) (omega (arith, small, total)))
 
         pub second_few : second.width ≤ 511
-        second_few = omega (arith, second_planned.wide, longest_short (second_part due.type) second_due.stands.small)
+        second_few = omega (arith, second_done.plans.wide, longest_short (second_part t) (omega (arith, small, total)))
 
         -- Both parts of an either are there for the choice.
-        pub choice_due : ChoiceDue first.width second.width (first.end - at) now
+        pub choice_due : ChoiceDue first.width second.width (1 + first.end) now
         choice_due =
             record {
               first_few = omega (arith, first_few);
               second_few = omega (arith, second_few);
-              first_there = omega (arith, both_kept, total, due.room, size_positive (first_part due.type));
-              second_there = omega (arith, both_kept, total, due.room, middle, size_positive (second_part due.type));
+              first_there = omega (arith, both_kept, total, room, size_positive (first_part t));
+              second_there = omega (arith, both_kept, total, room, middle, size_positive (second_part t));
             }
 
-        -- A sequence or two sides: all of both is written.
-        pub both_planned : written ≡ longest_kind (get_or types at 0) → (get_or types at 0 ≡ 5 → ⊥)
-            → IsPlanned due.type at lent now (record { end = second.end; width = 1 + first.width + second.width })
-        both_planned is other =
-            let t = due.type in
-            let both = both_plan t fork (λ five. other (kind_is due ∙ five)) in
-            record {
-              ends = ends_both;
-              wide = omega (arith, both.1, first_planned.wide, second_planned.wide);
-              buffer =
-                  both_begun
-                  ∙ ap (λ l. at_front l lent)
-                  (ap (λ k. k ∷ plan (first_part t) [] ++ plan (second_part t) []) (is ∙ ap longest_kind (kind_is due)) ∙ both.0);
-            }
-
-        -- An either: one of its parts is passed over.
-        pub choice_planned : written ≡ longest_kind (get_or types at 0) → get_or types at 0 ≡ 5 → {after : List ℕ} {width : ℕ}
-            → Chooses first.width second.width (first.end - at) now after width
-            → IsPlanned due.type at lent after (record { end = second.end; width = width })
-        choice_planned is five {after} {width} chosen = go (leb second.width first.width) refl
-          where
-            t : Ty
-            t = due.type
-
-            a : List ℕ
-            a = plan (first_part t) []
-
-            b : List ℕ
-            b = plan (second_part t) []
-
-            is_either : kind t ≡ 5
-            is_either = sym (kind_is due) ∙ five
-
-            nine : written ≡ 9
-            nine = is ∙ ap longest_kind five
-
-            place : first.end - at ≡ 1 + length a
-            place = omega (arith, middle, plan_length (first_part t) [])
-
-            go : (c : Bool) → leb second.width first.width ≡ c → IsPlanned due.type at lent after (record { end = second.end; width = width })
-            go true e =
-                let h = leb-true second.width first.width e in
-                let p = first_plan t is_either (omega (arith, first_planned.wide, second_planned.wide)) in
-                let made = chosen.takes_first h in
+      -- A sequence or two sides: all of both is written.
+      pub both_planned : written ≡ longest_kind (kind t) → (kind t ≡ 5 → ⊥)
+          → PlansFront t lent now (record { end = 1 + first.end + second.end; width = 1 + first.width + second.width })
+      both_planned is other =
+          let both = both_plan t fork other in
+          record {
+            ends = ends_both;
+            plans =
                 record {
-                  ends = ends_both;
-                  wide = omega (arith, made.0, p.1, first_planned.wide);
+                  wide = omega (arith, both.1, first_done.plans.wide, second_done.plans.wide);
                   buffer =
-                      made.1
-                      ∙ ap (λ l. set l (first.end - at) 255) both_begun
-                      ∙ ap (λ n. set (at_front (written ∷ a ++ b) lent) n 255) place
-                      ∙ over_second written a b lent (omega (arith, plan_length (second_part t) [], size_positive (second_part t)))
-                      ∙ ap (λ l. at_front l lent) (ap (λ k. k ∷ a ++ passed_over b) nine ∙ p.0);
-                }
-            go false e =
-                let h = leb-false second.width first.width e in
-                let p = second_plan t is_either (omega (arith, first_planned.wide, second_planned.wide)) in
-                let made = chosen.takes_second h in
-                record {
-                  ends = ends_both;
-                  wide = omega (arith, made.0, p.1, second_planned.wide);
-                  buffer =
-                      made.1
-                      ∙ ap (λ l. set (set l 0 10) 1 255) both_begun
-                      ∙ over_first written (a ++ b) lent
-                      (omega (arith, length-append a b, plan_length (first_part t) [], size_positive (first_part t)))
-                      ∙ ap (λ l. at_front l lent) p.0;
-                }
+                      both_begun
+                      ∙ ap (λ l. at_front l lent) (ap (λ k. k ∷ plan (first_part t) [] ++ plan (second_part t) []) is ∙ both.0);
+                };
+          }
+
+      -- An either: one of its parts is passed over.
+      pub choice_planned : written ≡ longest_kind (kind t) → kind t ≡ 5 → {after : List ℕ} {width : ℕ}
+          → Chooses first.width second.width (1 + first.end) now after width
+          → PlansFront t lent after (record { end = 1 + first.end + second.end; width = width })
+      choice_planned is five {after} {width} chosen =
+          record { ends = ends_both; plans = go (leb second.width first.width) refl }
+        where
+          a : List ℕ
+          a = plan (first_part t) []
+
+          b : List ℕ
+          b = plan (second_part t) []
+
+          nine : written ≡ 9
+          nine = is ∙ ap longest_kind five
+
+          place : 1 + first.end ≡ 1 + length a
+          place = omega (arith, middle, plan_length (first_part t) [])
+
+          go : (c : Bool) → leb second.width first.width ≡ c → PlansLongest t lent after width
+          go true e =
+              let h = leb-true second.width first.width e in
+              let p = first_plan t five (omega (arith, first_done.plans.wide, second_done.plans.wide)) in
+              let made = chosen.takes_first h in
+              record {
+                wide = omega (arith, made.0, p.1, first_done.plans.wide);
+                buffer =
+                    made.1
+                    ∙ ap (λ l. set l (1 + first.end) 255) both_begun
+                    ∙ ap (λ n. set (at_front (written ∷ a ++ b) lent) n 255) place
+                    ∙ over_second written a b lent (omega (arith, plan_length (second_part t) [], size_positive (second_part t)))
+                    ∙ ap (λ l. at_front l lent) (ap (λ k. k ∷ a ++ passed_over b) nine ∙ p.0);
+              }
+          go false e =
+              let h = leb-false second.width first.width e in
+              let p = second_plan t five (omega (arith, first_done.plans.wide, second_done.plans.wide)) in
+              let made = chosen.takes_second h in
+              record {
+                wide = omega (arith, made.0, p.1, second_done.plans.wide);
+                buffer =
+                    made.1
+                    ∙ ap (λ l. set (set l 0 10) 1 255) both_begun
+                    ∙ over_first written (a ++ b) lent
+                    (omega (arith, length-append a b, plan_length (first_part t) [], size_positive (first_part t)))
+                    ∙ ap (λ l. at_front l lent) p.0;
+              }

@@ -1,11 +1,10 @@
 -- What the functions promise and ask that plan the longest prefix of a type and write it: contracts inside the library, which no
 -- demand rests on.
-use Rattle.std.specs.Prelude.{◌≡◌, Bool, true, false, List, [], ◌∷◌, ℕ, ◌+◌, ◌≤◌, ◌<◌, leb, length, get_or, set}
+use Rattle.std.specs.Prelude.{◌≡◌, Bool, true, false, List, [], ◌∷◌, ℕ, ◌+◌, ◌≤◌, ◌<◌, leb, length, get_or, set, drop}
 use Rattle.measuring.specs.declared.Planned.{Planned}
 use Rattle.stream.specs.Types.{Ty, empty, cue, level, seq, par, either, size}
 use Rattle.stream.specs.Levels.{value_bytes}
 use Rattle.stream.specs.Buffers.{at_front}
-use Rattle.stream.specs.SliceFiles.{prefix_bytes, slice_file_bytes}
 use Rattle.stream.specs.Longest.{byte_count, largest_level, longest_prefix}
 use Rattle.reading.specs.TypeReads.{TypeAt}
 pub mod Laws
@@ -41,6 +40,20 @@ plan (seq s t) r = 6 ∷ plan s (plan t r)
 plan (par s t) r = 7 ∷ plan s (plan t r)
 plan (either s t) r = plan_choice (leb (byte_count (longest_prefix t)) (byte_count (longest_prefix s))) (plan s) (plan t) r
 
+-- These bytes begin with the plan of t; what is behind it is free.
+abbrev pub IsPlan : Ty → List ℕ → Type 0
+IsPlan t s = s ≡ plan t (drop (size t) s)
+
+-- The longest prefix of t was planned at the front of `lent`, and has `width` bytes; and with where the type ends.
+
+pub record PlansLongest (t : Ty) (lent lent_after : List ℕ) (width : ℕ) : Type 0 where
+  pub wide : width ≡ byte_count (longest_prefix t)
+  pub buffer : lent_after ≡ at_front (plan t []) lent
+
+pub record PlansFront (t : Ty) (lent lent_after : List ℕ) (planned : Planned) : Type 0 where
+  pub ends : planned.end ≡ size t
+  pub plans : PlansLongest t lent lent_after planned.width
+
 -- The type at `at` is to be planned on `lent`, which has a byte for each of its nodes.
 pub record PlanDue (types : List ℕ) (at : ℕ) (lent : List ℕ) : Type 0 where
   pub type : Ty
@@ -75,18 +88,3 @@ pub record AsPlanned (types planned : List ℕ) (width : ℕ) : Type 0 where
   pub behind : List ℕ
   pub is_planned : planned ≡ plan type behind
   pub measured : width ≡ byte_count (longest_prefix type)
-
--- It is to be written on `lent`, which has room for it; and its file.
-pub record LongestDue (types planned : List ℕ) (width : ℕ) (lent : List ℕ) : Type 0 where
-  pub known : AsPlanned types planned width
-  pub room : width ≤ length lent
-
-pub record LongestWritten (types planned : List ℕ) (width : ℕ) (lent lent_after : List ℕ) : Type 0 where
-  pub each : (due : LongestDue types planned width lent) → lent_after ≡ at_front (prefix_bytes (longest_prefix due.known.type) []) lent
-
-pub record LongestFileDue (types planned : List ℕ) (width : ℕ) (lent : List ℕ) : Type 0 where
-  pub known : AsPlanned types planned width
-  pub room : 2 + width ≤ length lent
-
-pub record LongestFileWritten (types planned : List ℕ) (width : ℕ) (lent lent_after : List ℕ) : Type 0 where
-  pub each : (due : LongestFileDue types planned width lent) → lent_after ≡ at_front (slice_file_bytes (longest_prefix due.known.type)) lent

@@ -2,12 +2,18 @@
 // Measuring the sides of each either as it is written would go through a type once for every either above it.
 #![tactic(auto)]
 
-ghost use Rattle.std.specs.Prelude.{◌≡◌, ◌≤◌, length};
+ghost use Rattle.std.specs.Prelude.{◌≡◌, ◌+◌, ◌≤◌, [], length};
 ghost use Rattle.stream.specs.Buffers.{at_front};
-ghost use Rattle.measuring.specs.Planning.{longest_kind, largest_value, PlanDue, Plans, ChoiceDue, Chooses, LongestDue, LongestWritten, LongestFileDue, LongestFileWritten};
+ghost use Rattle.stream.specs.Types.{size};
+ghost use Rattle.stream.specs.SliceFiles.{prefix_bytes, slice_file_bytes};
+ghost use Rattle.stream.specs.Longest.{byte_count, longest_prefix};
+ghost use Rattle.reading.specs.Views.{tree};
+ghost use Rattle.reading.specs.Fronts.{front_tree};
+ghost use Rattle.measuring.specs.Planning.{longest_kind, largest_value, IsPlan, PlansFront, PlansLongest, ChoiceDue, Chooses};
 
+use reading::fronts::TypeFront;
 use reading::prefixes::{VALUE_WIDTH, root_width};
-use reading::types::{skip_type, type_arity};
+use reading::types::{TypeView, skip_type, type_arity};
 use writing::{copy, put_count};
 
 // In a plan, at the root of a part that is not chosen: no slice has such a kind.
@@ -51,35 +57,40 @@ fn choose_longer(first_width: usize, second_width: usize, second: usize, plan: &
     1 + first_width
 }
 
-// Plans the longest prefix of the type at `at`: a byte for each node of the type, the kind that is written for it, or PASSED at the
+// Plans the longest prefix of the type at the front: a byte for each node of the type, the kind that is written for it, or PASSED at the
 // root of a part that is not chosen.
-pub fn plan_longest(types: &[u8], at: usize, plan: &mut [u8]) -> Planned
-    requires { PlanDue types.now at plan.old }
-    ensures { Plans types.now at plan.old plan.new result }
+fn plan_front(ty: TypeFront<'_>, plan: &mut [u8]) -> Planned
+    requires { size (front_tree ty) ≤ length plan.old }
+    ensures { PlansFront (front_tree ty.entry) plan.old plan.new result }
 {
-    let kind = types[at];
+    let kind = ty.kind();
     let written = longest_kind(kind);
     plan[0] = written;
     if type_arity(kind) == 0 {
         let width = root_width(written);
-        return Planned { end: at + 1, width };
+        return Planned { end: 1, width };
     }
-    let first = plan_longest(types, at + 1, &mut plan[1..]);
-    let middle = first.end;
-    let behind = middle - at;
-    let second = plan_longest(types, middle, &mut plan[behind..]);
+    let first = plan_front(ty.first(), &mut plan[1..]);
+    let behind = 1 + first.end;
+    let second = plan_front(ty.second(behind), &mut plan[behind..]);
+    let end = behind + second.end;
     // Of an either one part is written, of the other kinds both.
     if kind == 5 {
         let width = choose_longer(first.width, second.width, behind, plan);
-        return Planned {
-            end: second.end,
-            width,
-        };
+        return Planned { end, width };
     }
     Planned {
-        end: second.end,
+        end,
         width: 1 + first.width + second.width,
     }
+}
+
+// Plans the longest prefix of a type, and says how many bytes it has.
+pub fn plan_longest(ty: TypeView<'_>, plan: &mut [u8]) -> usize
+    requires { size (tree ty) ≤ length plan.old }
+    ensures { PlansLongest (tree ty.entry) plan.old plan.new result }
+{
+    plan_front(TypeFront::of(ty), plan).width
 }
 
 // Writes the largest value of a level.
@@ -92,12 +103,14 @@ fn put_largest(out: &mut [u8])
     copy(&largest, out);
 }
 
-// Writes the longest prefix of the type at the front of `types`, as it was planned; it has `width` bytes. A level has its value behind
-// the kind.
-fn write_longest(types: &[u8], plan: &[u8], width: usize, out: &mut [u8])
-    requires { LongestDue types.now plan.now width out.old }
-    ensures { LongestWritten types.now plan.now width out.old out.new }
+// Writes the longest prefix of a type, as it was planned; it has `width` bytes. A level has its value behind the kind.
+fn write_longest(ty: TypeView<'_>, plan: &[u8], width: usize, out: &mut [u8])
+    requires planned { IsPlan (tree ty) plan.now }
+    requires measured { width ≡ byte_count (longest_prefix (tree ty)) }
+    requires room { width ≤ length out.old }
+    ensures { out.new ≡ at_front (prefix_bytes (longest_prefix (tree ty.entry)) []) out.old }
 {
+    let types = ty.bytes;
     let mut at: usize = 0;
     let mut written: usize = 0;
     while written < width {
@@ -117,11 +130,13 @@ fn write_longest(types: &[u8], plan: &[u8], width: usize, out: &mut [u8])
     }
 }
 
-// Writes the file of the longest prefix of the type at the front of `types`, as it was planned; the prefix has `width` bytes.
-pub fn write_longest_file(types: &[u8], plan: &[u8], width: usize, out: &mut [u8])
-    requires { LongestFileDue types.now plan.now width out.old }
-    ensures { LongestFileWritten types.now plan.now width out.old out.new }
+// Writes the file of the longest prefix of a type, as it was planned; the prefix has `width` bytes.
+pub fn write_longest_file(ty: TypeView<'_>, plan: &[u8], width: usize, out: &mut [u8])
+    requires planned { IsPlan (tree ty) plan.now }
+    requires measured { width ≡ byte_count (longest_prefix (tree ty)) }
+    requires room { 2 + width ≤ length out.old }
+    ensures { out.new ≡ at_front (slice_file_bytes (longest_prefix (tree ty.entry))) out.old }
 {
     put_count(width, out);
-    write_longest(types, plan, width, &mut out[2..]);
+    write_longest(ty, plan, width, &mut out[2..]);
 }

@@ -8,7 +8,8 @@ use Rattle.stream.proofs.Longest.Laws.{longest_prefix_is_prefix}
 use Rattle.stream.proofs.SliceFiles.Laws.{prefix_short, slice_length}
 use Rattle.writing.specs.Writing.Laws.{part, part_is}
 use Rattle.measuring.specs.declared.Planned.{Planned}
-use Rattle.measuring.specs.Planning.{passed_over, plan_choice, plan, PlanDue, Plans, AsPlanned}
+use Rattle.measuring.specs.Planning.{passed_over, plan_choice, plan, IsPlan, PlanDue, Plans, AsPlanned}
+use Rattle.stream.specs.Buffers.{at_front}
 
 pub passed_over_length : (l : List ℕ) → length (passed_over l) ≡ length l
 passed_over_length [] = refl
@@ -75,7 +76,14 @@ passed_over_drop (suc n) (k ∷ l) h = refl
 pub longest_short : (t : Ty) → Small t → byte_count (longest_prefix t) ≤ 511
 longest_short t small = slice_length (longest_prefix t) (prefix_short (longest_prefix_is_prefix t) small)
 
--- What the planner answers is what the writer asks, of the types from `at` on.
+-- What was planned is the plan that the writer asks for.
+pub is_plan : (t : Ty) (lent : List ℕ) {after : List ℕ} → after ≡ at_front (plan t []) lent → IsPlan t after
+is_plan t lent {after} planned =
+    let rest = drop (length (plan t [])) lent in
+    let behind : after ≡ plan t rest = planned ∙ sym (plan_before t rest) in
+    behind ∙ ap (plan t) (sym (ap (drop (size t)) behind ∙ plan_drop t rest))
+
+-- The same of types at places: of the types from `at` on.
 module _ {types lent after : List ℕ} {at : ℕ} {planned : Planned} (plans : Plans types at lent after planned) (due : PlanDue types at lent) where
   unfoldable pub as_planned : AsPlanned (part at types) after planned.width
   as_planned =
