@@ -1,3 +1,5 @@
-pub mod FirstPass
-pub mod LastSection
 pub mod NodeRoots
+pub mod NodeParts
+pub mod NodeFronts
+pub mod PatchParts
+pub mod PatchFacts

@@ -1,6 +1,5 @@
 -- The root of a node, by its kind byte: where it ends, how many parts it owes, and which bytes it leaves.
 use mathlib.Core.Path.{◌≡◌, refl, sym, ap, ◌∙◌}
-use mathlib.Core.Logic.{⊎_elim}
 use mathlib.Core.List.{List, [], ◌∷◌}
 use Prim.Native.Nat.{ℕ, ◌+◌, ◌-◌, ◌≤◌, ◌<◌}
 use native.Mathlib.Omega.{arith}
@@ -8,29 +7,27 @@ use native.Mathlib.Numerals.{add-one}
 use lib.ListN.{length, get_or, drop, length-drop, drop_of_length-le}
 use lib.Seq.{drop-cons, drop-drop}
 use Rattle.stream.specs.declared.Fault.{Fault}
-use Rattle.stream.specs.declared.Fault.TheVariants.{CutShort, Unlisted, TooManyNodes}
-use Rattle.reading.specs.declared.sections.TreeEnd.{TreeEnd}
-use Rattle.reading.specs.declared.sections.TreeEnd.TheVariants.{At, Failed}
+use Rattle.stream.specs.declared.Fault.TheVariants.{CutShort, Unlisted}
 use Rattle.stream.specs.Types.{Ty, size}
 use Rattle.stream.specs.Levels.{value_width, read_value}
 use Rattle.stream.proofs.Levels.Laws.{value_length, value_behind, value_sound, value_there, value_missing}
 use Rattle.stream.specs.Reading.{Bytes, Reading, read, fault, read_on, Root, leaf, two_parts}
 use Rattle.stream.proofs.Reading.Laws.{◌&◌, past, every, bytes_drop}
-use Rattle.stream.proofs.Reading.Numbers.{long_or_short}
 use Rattle.stream.specs.Reading.Walking.{Owes, MakesOne}
 use Rattle.stream.proofs.Reading.Walking.{leaf_makes, two_makes}
 use Rattle.stream.specs.TypeFiles.{read_type}
 use Rattle.stream.proofs.TypeFiles.Laws.{type_length, read_type_sound}
 use Rattle.reading.specs.Sections.{end_of}
-use Rattle.reading.specs.Sections.Laws.{failed, Within, tree_within}
+use Rattle.reading.specs.Sections.Laws.{failed, Within}
 use Rattle.reading.specs.TypeReads.Laws.{type_drop, read_type_within}
-use Rattle.node.specs.Nodes.{Node, pass, silent, emit_cue, emit_level, both, left_side, right_side, first, second, then, chain, regroup_right, regroup_left, spread, front, choose, mark_first, mark_second, node_limit}
-use Rattle.node.specs.PatchFiles.{node_kinds, node_root, read_node}
+use Rattle.node.specs.Nodes.{Node, pass, silent, emit_cue, emit_level, both, left_side, right_side, first, second, then, chain, regroup_right, regroup_left, spread, front, choose, mark_first, mark_second}
+use Rattle.node.specs.PatchFiles.{node_kinds, node_root}
 use Rattle.node.specs.Nodes.Kinds.{node_arities, node_arity, listed_kinds, Contents, bare, a_type, a_value, no_kind, contents_by_kind, node_contents}
 use Rattle.stream.specs.Tables.{beyond}
+use Rattle.std.specs.Prelude.{Err, Ok, Result}
 
 -- A tree ends within the bytes that it was read from.
-pub ends_within : {A : Type 0} (n : ℕ) (g : Reading A) (k : ℕ) → end_of n g ≡ At k → k ≤ n
+pub ends_within : {A : Type 0} (n : ℕ) (g : Reading A) (k : ℕ) → end_of n g ≡ Ok k → k ≤ n
 unfolding end_of
 ends_within n (read a r) k h = let e : n - length r ≡ k = cc in omega arith
 ends_within n (fault e) k h = let z : ◌≡◌ {A = ℕ} 0 1 = cc in absurd (omega arith)
@@ -94,42 +91,14 @@ unfolding node_root
 makes_one w [] = tt
 makes_one w (k ∷ s) = makes (shape k) s
 
--- None leaves more bytes than there were.
-
-within_after : {A : Type 0} (k : ℕ) (s : List ℕ) (g : Reading A) (make : A → Node) → Within s g
-    → Within (k ∷ s) (read_on g (λ a r. leaf {W = Unit {0}} (make a) r))
-within_after k s (read a r) make h = omega arith
-within_after k s (fault e) make h = tt
-
-value_within : (s : List ℕ) → Within s (read_value CutShort s)
-value_within s =
-    ⊎_elim (λ h. rw (value_there CutShort s h).1 (omega (arith, length-drop value_width s))) (λ h. rw (value_missing CutShort s h) tt)
-    (long_or_short value_width s)
-
-within : (k : ℕ) {c : Contents} {parts : ℕ} {f : ReadsRoot} → Shape c parts f → (s : List ℕ) → Within (k ∷ s) (f s)
-within k (plain n) s = omega arith
-within k (carries make) s = within_after k s (read_type s) make (read_type_within s)
-within k (values make) s = within_after k s (read_value CutShort s) make (value_within s)
-within k (forks f) s = omega arith
-within k unlisted s = tt
-
-root_within : (w : Unit {0}) (s : List ℕ) → Within s (node_root w s)
-unfolding node_root
-root_within w [] = tt
-root_within w (k ∷ s) = within k (shape k) s
-
-pub node_within : (s : List ℕ) → Within s (read_node s)
-unfolding read_node
-node_within s = tree_within TooManyNodes node_root root_within node_limit tt s
-
 -- Where the root ends, by what stands behind the kind byte: nothing, a type or a value. No kind is refused.
 
-plain_ends : {parts : ℕ} {f : ReadsRoot} → Shape bare parts f → (m : ℕ) (s : List ℕ) → end_of m (f s) ≡ At (m - length s)
+plain_ends : {parts : ℕ} {f : ReadsRoot} → Shape bare parts f → (m : ℕ) (s : List ℕ) → end_of m (f s) ≡ Ok (m - length s)
 unfolding end_of
 plain_ends (plain n) m s = refl
 plain_ends (forks f) m s = refl
 
-refuses : {parts : ℕ} {f : ReadsRoot} → Shape no_kind parts f → (m : ℕ) (s : List ℕ) → end_of m (f s) ≡ Failed Unlisted
+refuses : {parts : ℕ} {f : ReadsRoot} → Shape no_kind parts f → (m : ℕ) (s : List ℕ) → end_of m (f s) ≡ Err Unlisted
 unfolding end_of
 refuses unlisted m s = refl
 
@@ -142,29 +111,29 @@ carried-ends (carries make) m s = go (read_type s)
     go (fault e) = refl
 
 valued_fails : {parts : ℕ} {f : ReadsRoot} → Shape a_value parts f → (m : ℕ) (s : List ℕ) → length s < value_width
-    → end_of m (f s) ≡ Failed CutShort
+    → end_of m (f s) ≡ Err CutShort
 unfolding end_of
 valued_fails (values make) m s h = rw (value_missing CutShort s h)
 
 valued-ends : {parts : ℕ} {f : ReadsRoot} → Shape a_value parts f → (m : ℕ) (s : List ℕ) → value_width ≤ length s → length s ≤ m
-    → end_of m (f s) ≡ At (m - length s + value_width)
+    → end_of m (f s) ≡ Ok (m - length s + value_width)
 unfolding end_of
-valued-ends (values make) m s h l = rw (value_there CutShort s h).1 (ap At (omega (arith, length-drop value_width s)))
+valued-ends (values make) m s h l = rw (value_there CutShort s h).1 (ap Ok (omega (arith, length-drop value_width s)))
 
 -- Where a carried type ends, by where it ends in the bytes from its place on.
 
-pub carried_failed : (s : List ℕ) (at : ℕ) (e : Fault) → end_of (length (drop at s)) (read_type (drop at s)) ≡ Failed e
-    → end_of (length s) (read_type (drop at s)) ≡ Failed e
+pub carried_failed : (s : List ℕ) (at : ℕ) (e : Fault) → end_of (length (drop at s)) (read_type (drop at s)) ≡ Err e
+    → end_of (length s) (read_type (drop at s)) ≡ Err e
 unfolding end_of
 carried_failed s at e h = rw (failed (length (drop at s)) (read_type (drop at s)) e h)
 
-pub carried_ended : (s : List ℕ) (at : ℕ) → at ≤ length s → (k : ℕ) → end_of (length (drop at s)) (read_type (drop at s)) ≡ At k
-    → end_of (length s) (read_type (drop at s)) ≡ At (at + k)
+pub carried_ended : (s : List ℕ) (at : ℕ) → at ≤ length s → (k : ℕ) → end_of (length (drop at s)) (read_type (drop at s)) ≡ Ok k
+    → end_of (length s) (read_type (drop at s)) ≡ Ok (at + k)
 unfolding end_of
 carried_ended s at inside k told = go (read_type (drop at s)) (read_type_within (drop at s)) told
   where
-    go : (g : Reading Ty) → Within (drop at s) g → end_of (length (drop at s)) g ≡ At k → end_of (length s) g ≡ At (at + k)
-    go (read t r) w told = let e : length (drop at s) - length r ≡ k = cc in ap At (omega (arith, length-drop at s))
+    go : (g : Reading Ty) → Within (drop at s) g → end_of (length (drop at s)) g ≡ Ok k → end_of (length s) g ≡ Ok (at + k)
+    go (read t r) w told = let e : length (drop at s) - length r ≡ k = cc in ap Ok (omega (arith, length-drop at s))
     go (fault e) w told = let z : ◌≡◌ {A = ℕ} 0 1 = cc in absurd (omega arith)
 
 -- A root was read at the front of s, before which m - length s bytes stand: it ends at `end` and leaves what stands there.
@@ -177,7 +146,7 @@ record Leaves (parts m : ℕ) (s : List ℕ) (g : Reading (Root (Unit {0}) Node)
 module _ (m : ℕ) (s : List ℕ) (l : length s ≤ m) (end : ℕ) where
   leaves_after : {A : Type 0} (g : Reading A) (make : A → Node)
       → ((a : A) (r : List ℕ) → g ≡ read a r → (w : ℕ) × (w ≤ length s) × (r ≡ drop w s))
-      → end_of m (read_on g (λ a r. leaf {W = Unit {0}} (make a) r)) ≡ At end → Leaves 0 m s (read_on g (λ a r. leaf (make a) r)) end
+      → end_of m (read_on g (λ a r. leaf {W = Unit {0}} (make a) r)) ≡ Ok end → Leaves 0 m s (read_on g (λ a r. leaf (make a) r)) end
   unfolding end_of
   leaves_after (fault e) make h k = let z : ◌≡◌ {A = ℕ} 0 1 = cc in absurd (omega arith)
   leaves_after (read a r) make h k =
@@ -185,7 +154,7 @@ module _ (m : ℕ) (s : List ℕ) (l : length s ≤ m) (end : ℕ) where
       let n : m - length r ≡ end = cc in
       record { width = w; inside = inside; place = omega (arith, simp length-drop at (ap length e)); owes = (_, ap (leaf (make a)) e, refl) }
 
-  leaves : {c : Contents} {parts : ℕ} {f : ReadsRoot} → Shape c parts f → Bytes s → end_of m (f s) ≡ At end → Leaves parts m s (f s) end
+  leaves : {c : Contents} {parts : ℕ} {f : ReadsRoot} → Shape c parts f → Bytes s → end_of m (f s) ≡ Ok end → Leaves parts m s (f s) end
   unfolding end_of
   leaves (plain n) b h = let e : m - length s ≡ end = cc in record { width = 0; inside = omega arith; place = omega arith; owes = (_, refl, refl) }
   leaves (carries make) b h = leaves_after (read_type s) make behind h
@@ -205,10 +174,10 @@ module _ (m : ℕ) (s : List ℕ) (l : length s ≤ m) (end : ℕ) where
 
 -- The root at a place.
 module _ (s : List ℕ) (at : ℕ) where
-  abbrev pub root_end : TreeEnd
+  abbrev pub root_end : Result ℕ Fault
   root_end = end_of (length s) (node_root tt (drop at s))
 
-  pub cut_short : at ≡ length s → root_end ≡ Failed CutShort
+  pub cut_short : at ≡ length s → root_end ≡ Err CutShort
   unfolding end_of node_root
   cut_short e =
       let h : length s ≤ at = omega arith in
@@ -233,23 +202,23 @@ module _ (s : List ℕ) (at : ℕ) where
     rest_inside : length (drop (at + 1) s) ≤ length s
     rest_inside = simp length-drop (omega arith)
 
-    pub plain_end : node_contents (get_or s at 0) ≡ bare → root_end ≡ At (at + 1)
-    plain_end e = by_kind ∙ plain_ends (shape_at e) (length s) (drop (at + 1) s) ∙ ap At behind_kind
+    pub plain_end : node_contents (get_or s at 0) ≡ bare → root_end ≡ Ok (at + 1)
+    plain_end e = by_kind ∙ plain_ends (shape_at e) (length s) (drop (at + 1) s) ∙ ap Ok behind_kind
 
-    pub unlisted_end : listed_kinds ≤ get_or s at 0 → root_end ≡ Failed Unlisted
+    pub unlisted_end : listed_kinds ≤ get_or s at 0 → root_end ≡ Err Unlisted
     unlisted_end h = by_kind ∙ refuses (shape_at (sym (beyond contents_by_kind no_kind (get_or s at 0) h))) (length s) (drop (at + 1) s)
 
     pub type_end : node_contents (get_or s at 0) ≡ a_type → root_end ≡ end_of (length s) (read_type (drop (at + 1) s))
     type_end e = by_kind ∙ carried-ends (shape_at e) (length s) (drop (at + 1) s)
 
     module _ (has_value : node_contents (get_or s at 0) ≡ a_value) where
-      pub value_failed : length s - (at + 1) < value_width → root_end ≡ Failed CutShort
+      pub value_failed : length s - (at + 1) < value_width → root_end ≡ Err CutShort
       value_failed h = by_kind ∙ valued_fails (shape_at has_value) (length s) (drop (at + 1) s) (simp length-drop h)
 
-      pub value_ended : value_width ≤ length s - (at + 1) → root_end ≡ At (at + 1 + value_width)
+      pub value_ended : value_width ≤ length s - (at + 1) → root_end ≡ Ok (at + 1 + value_width)
       value_ended h =
           by_kind ∙ valued-ends (shape_at has_value) (length s) (drop (at + 1) s) (simp length-drop h) rest_inside
-          ∙ ap (λ n. At (n + value_width)) behind_kind
+          ∙ ap (λ n. Ok (n + value_width)) behind_kind
 
   -- A root that ends at `end` was read.
   pub record RootRead (end : ℕ) : Type 0 where
@@ -257,7 +226,7 @@ module _ (s : List ℕ) (at : ℕ) where
     pub ends_inside : end ≤ length s
     pub owes : Owes tt (node_arity (get_or s at 0)) (drop end s) (node_root tt (drop at s))
 
-  pub root_read : (end : ℕ) → Bytes s → root_end ≡ At end → RootRead end
+  pub root_read : (end : ℕ) → Bytes s → root_end ≡ Ok end → RootRead end
   unfolding end_of node_root
   root_read end b h = go (drop at s) refl
     where

@@ -1,1 +1,4 @@
 pub mod PatchReads
+pub mod Found
+pub mod Fronts
+pub mod PatchViews

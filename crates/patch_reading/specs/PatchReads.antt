@@ -1,33 +1,30 @@
--- What the reader of patch files tells its caller: where a patch stands, or the first fault.
-use Rattle.std.specs.Prelude.{◌≡◌, List, [], ℕ, ◌+◌, ◌-◌, ◌≤◌, length, drop}
+-- Where a patch stands in its file, and what the first pass comes to by that: words of the laws, while the code hands on views.
+use Rattle.std.specs.Prelude.{Err, Ok, Result, ◌≡◌, List, [], ℕ, ◌+◌, ◌-◌, ◌≤◌, length, drop}
 use Rattle.reading.specs.TypeReads.{in_file, TypeIn}
 use Rattle.stream.specs.Types.{size}
-use Rattle.stream.specs.Reading.{Result, accepted, refused}
-use Rattle.reading.specs.declared.sections.TreeEnd.{TreeEnd}
-use Rattle.reading.specs.declared.sections.TreeEnd.TheVariants.{At, Failed}
+use Rattle.stream.specs.Reading.{Result as Outcome, accepted, refused}
 use Rattle.node.specs.Totals.{Held, totals_bytes}
 use Rattle.node.specs.Nodes.{Node, Patch, count, node_limit, Few}
 use Rattle.node.specs.Nodes.Functions.{Carries}
 use Rattle.node.specs.PatchFiles.{node_bytes, first_pass}
-use Rattle.patch_reading.specs.declared.PatchPlace.{PatchPlace}
-use Rattle.patch_reading.specs.declared.PatchRead.{PatchRead}
-use Rattle.patch_reading.specs.declared.PatchRead.TheVariants.{Whole, Refused}
+use Rattle.reading.specs.Places.{TypePlace}
 pub use Rattle.node.specs.Nodes.Kinds.{node_arity}
 pub mod Laws
 pub mod Standing
+use Rattle.stream.specs.declared.Fault.{Fault}
+
+-- The place of its input type, and where its nodes begin. The totals are the last bytes.
+pub record PatchPlace : Type 0 where
+  pub input : TypePlace
+  pub nodes : ℕ
 
 -- The input type of a patch file stands behind the two bytes of its section's count, and the nodes behind those of theirs.
 abbrev pub in_patch_file : Patch → PatchPlace
 in_patch_file p = record { input = in_file p.input; nodes = 2 + size p.input + 2 }
 
-unfoldable pub patch_read : Result Patch → PatchRead
-patch_read (accepted p) = Whole (in_patch_file p)
-patch_read (refused e) = Refused e
-
--- Where something ends that has to be the last of n bytes.
-unfoldable pub whole_end : {A : Type 0} → ℕ → Result A → TreeEnd
-whole_end n (accepted a) = At n
-whole_end n (refused e) = Failed e
+unfoldable pub patch_read : Outcome Patch → Result PatchPlace Fault
+patch_read (accepted p) = Ok (in_patch_file p)
+patch_read (refused e) = Err e
 
 -- The number of a node's bytes.
 abbrev pub node_width : Node → ℕ

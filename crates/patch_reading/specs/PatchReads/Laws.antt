@@ -60,7 +60,7 @@ node_append (mark_second t) r s = rw (type_before t (r ++ s), type_before t r, a
 pub node_before : (n : Node) (r : List ℕ) → node_bytes n r ≡ node_bytes n [] ++ r
 node_before n r = node_append n [] r
 
-node_bytes_length : (n : Node) (r : List ℕ) → length (node_bytes n r) ≡ node_width n + length r
+pub node_bytes_length : (n : Node) (r : List ℕ) → length (node_bytes n r) ≡ node_width n + length r
 node_bytes_length n r = ap length (node_before n r) ∙ length-append (node_bytes n []) r
 
 pub node_drop : (n : Node) (r : List ℕ) → drop (node_width n) (node_bytes n r) ≡ r

@@ -3,21 +3,18 @@
 use Rattle.std.proofs.Math.Path.{◌≡◌, refl, sym, ap}
 use Rattle.std.proofs.Common.{◌∙◌, arith, drop-drop}
 use mathlib.Core.List.{List, [], append-nil}
-use Rattle.std.specs.Prelude.{ℕ, ◌+◌, ◌-◌}
+use Rattle.std.specs.Prelude.{Err, Ok, Result, ℕ, ◌+◌, ◌-◌}
 use Rattle.std.proofs.Math.ListN.{length, drop}
 use Rattle.stream.specs.declared.Fault.{Fault}
 use Rattle.stream.specs.Types.{size}
-use Rattle.stream.specs.Reading.{Bytes, Result, accepted, refused, section_bytes}
+use Rattle.stream.specs.Reading.{Bytes, Result as Outcome, accepted, refused, section_bytes}
 use Rattle.stream.specs.TypeFiles.{type_bytes}
 use Rattle.reading.specs.TypeReads.Laws.{type_before, type_drop, type_width}
 use Rattle.node.specs.Totals.{totals_bytes}
 use Rattle.node.specs.Nodes.{Patch}
 use Rattle.node.specs.PatchFiles.{node_bytes, patch_file_bytes, first_pass}
 use Rattle.node.proofs.PatchFiles.Laws.{patch_file-size, first_pass_sound}
-use Rattle.patch_reading.specs.declared.PatchPlace.{PatchPlace}
-use Rattle.patch_reading.specs.declared.PatchRead.{PatchRead}
-use Rattle.patch_reading.specs.declared.PatchRead.TheVariants.{Whole, Refused}
-use Rattle.patch_reading.specs.PatchReads.{in_patch_file, patch_read, node_width, AcceptedPatch}
+use Rattle.patch_reading.specs.PatchReads.{PatchPlace, in_patch_file, patch_read, node_width, AcceptedPatch}
 use Rattle.patch_reading.specs.PatchReads.Laws.{node_before, node_drop}
 
 -- Behind the two bytes of its count stands the type, behind those of theirs stand the nodes, and behind those of theirs the totals.
@@ -57,7 +54,7 @@ module _ (p : Patch) where
       ∙ ap (drop 2) (sym (drop-drop wide nodes_place (patch_file_bytes p)) ∙ ap (drop wide) nodes_stand ∙ node_drop p.node totals_there)
       ∙ append-nil (totals_bytes p.totals [])
 
-stands : (file : List ℕ) (p : Patch) → Bytes file → first_pass file ≡ accepted p → AcceptedPatch file (in_patch_file p)
+pub stands : (file : List ℕ) (p : Patch) → Bytes file → first_pass file ≡ accepted p → AcceptedPatch file (in_patch_file p)
 stands file p bytes e =
     let f = first_pass_sound file p bytes e in
     record {
@@ -72,19 +69,19 @@ stands file p bytes e =
       held = f.held;
     }
 
-module _ (file : List ℕ) {answer : PatchRead} (told : answer ≡ patch_read (first_pass file)) where
-  pub patch_accepted : Bytes file → (place : PatchPlace) → answer ≡ Whole place → AcceptedPatch file place
+module _ (file : List ℕ) {answer : Result PatchPlace Fault} (told : answer ≡ patch_read (first_pass file)) where
+  pub patch_accepted : Bytes file → (place : PatchPlace) → answer ≡ Ok place → AcceptedPatch file place
   unfolding patch_read
   patch_accepted bytes place e = go (first_pass file) refl (sym told ∙ e)
     where
-      go : (g : Result Patch) → first_pass file ≡ g → patch_read g ≡ Whole place → AcceptedPatch file place
+      go : (g : Outcome Patch) → first_pass file ≡ g → patch_read g ≡ Ok place → AcceptedPatch file place
       go (accepted p) h w = let same : in_patch_file p ≡ place = cc in rw (← same) (stands file p bytes h)
       go (refused x) h w = let z : ◌≡◌ {A = ℕ} 0 1 = cc in absurd (omega arith)
 
-  pub patch_refused : (e : Fault) → answer ≡ Refused e → first_pass file ≡ refused e
+  pub patch_refused : (e : Fault) → answer ≡ Err e → first_pass file ≡ refused e
   unfolding patch_read
   patch_refused e h = go (first_pass file) (sym told ∙ h)
     where
-      go : (g : Result Patch) → patch_read g ≡ Refused e → g ≡ refused e
+      go : (g : Outcome Patch) → patch_read g ≡ Err e → g ≡ refused e
       go (accepted p) w = let z : ◌≡◌ {A = ℕ} 0 1 = cc in absurd (omega arith)
       go (refused x) w = let z : x ≡ e = cc in ap refused z

@@ -4,7 +4,7 @@ use Rattle.std.proofs.Common.{refl, sym, ap, ◌∙◌, get_or, arith}
 use Rattle.stream.specs.Tables.{shared}
 use Rattle.node.specs.Nodes.Kinds.{no_kind, contents_by_kind, node_contents}
 use Rattle.patch_reading.proofs.NodeRoots.{cut_short, plain_end, unlisted_end, type_end, value_failed, value_ended}
-use Rattle.patch_reading.proofs.root_end.Goals as goal
+use Rattle.patch_reading.proofs.nodes.root_end.Goals as goal
 
 pub returns-then-at-length : goal.returns-then-at-length
 returns-then-at-length c = sym (cut_short c.args.bytes.now c.args.at c.if-at-length.true)

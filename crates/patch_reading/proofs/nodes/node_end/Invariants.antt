@@ -4,7 +4,7 @@ use Rattle.stream.specs.declared.Fault.TheVariants.{TooManyNodes}
 use Rattle.reading.specs.Sections.Walking.{Walked}
 use Rattle.node.specs.Nodes.{node_limit}
 use Rattle.node.specs.PatchFiles.{node_root}
-use Rattle.patch_reading.proofs.node_end.Given as goal
+use Rattle.patch_reading.proofs.nodes.node_end.Given as goal
 
 abbrev pub invariant-loop-owed : goal.invariant-loop-owed
 invariant-loop-owed l = Walked TooManyNodes node_root node_limit l.bytes l.owed l.count l.at
