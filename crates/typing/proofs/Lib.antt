@@ -1,5 +1,7 @@
+pub mod Giving
 pub mod Regrouping
 pub mod TypingLeaf
+pub mod Given
 pub mod TypingParts
-pub mod TypingMarks
+pub mod TypingChain
 pub mod TypingChoose

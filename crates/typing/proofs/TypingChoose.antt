@@ -1,161 +1,77 @@
 -- The second pass at choose: each part is typed on its part of an either, and what they give is compared.
-use mathlib.Core.Bool.{Bool, true, false}
-use mathlib.Core.Path.{◌≡◌, refl, sym, ap, ◌∙◌}
-use mathlib.Core.List.{List}
-use Prim.Native.Nat.{ℕ, ◌+◌, ◌<◌}
-use native.Mathlib.Omega.{arith}
-use lib.ListN.{get_or, take}
+use Rattle.std.specs.Prelude.{◌≡◌, refl, Bool, true, false, List, ℕ, ◌+◌, length, take, Some, Ok, Err}
+use Rattle.std.specs.Cmp.Lexicographic.{pointwise}
+use Rattle.std.proofs.Common.{nat_eq, sym, ap, ◌∙◌}
+use Rattle.std.proofs.Math.Bool.{not, not-not}
 use Rattle.stream.specs.declared.Fault.{Fault}
 use Rattle.stream.specs.declared.Fault.TheVariants.{WrongShape, OutputsDiffer}
 use Rattle.stream.specs.Types.{Ty, first_part, second_part, has_kind, same_type}
-use Rattle.stream.specs.Types.Kinds.{Fork}
-use Rattle.stream.specs.Reading.{Result, require, go_on}
-use Rattle.reading.specs.declared.types.TypePlace.{TypePlace}
-use Rattle.reading.specs.TypeReads.{TypeIn, TypeEnds, SomeTypeIn}
-use Rattle.reading.specs.TypeReads.Laws.{first_in, second_in}
-use Rattle.reading.specs.Nesting.Laws.{other_shape, same_shape, is_fork}
-use Rattle.writing.specs.Comparing.{Compares}
-use Rattle.node.specs.Nodes.{Node, choose}
+use Rattle.stream.specs.Reading.{Result as Outcome, require, go_on}
+use Rattle.reading.specs.declared.types.TypeView.{TypeView}
+use Rattle.reading.specs.Views.{tree, PartsOf}
+use Rattle.writing.specs.Appending.{Appends}
+use Rattle.writing.specs.Appending.Laws.{nothing_written, written_on}
+use Rattle.writing.specs.Comparing.{compared}
+use Rattle.node.specs.Nodes.{Node}
+use Rattle.node.specs.Nodes.Kinds.{node_kind, node_arity}
 use Rattle.node.specs.Checking.{gives, typing}
+use Rattle.patch_reading.specs.declared.fronts.NodeFront.{NodeFront}
+use Rattle.patch_reading.specs.Fronts.{node, first_node, second_node}
+use Rattle.patch_reading.proofs.NodeParts.{made_of}
 use Rattle.typing.specs.declared.Typed.{Typed}
-use Rattle.typing.specs.declared.Typed.TheVariants.{Failed}
-use Rattle.patch_reading.specs.PatchReads.{node_width, NodeAt}
-use Rattle.patch_reading.specs.PatchReads.Laws.{choose_forks, Parts, parts_at}
-use Rattle.typing.specs.Typing.{Answers, Given, TypingDue, TypesNode}
-use Rattle.typing.specs.Typing.Laws.{is_refused, answers_refused, requires_fails, requires_holds, HasGiven, GivenType, given_type, held_in}
+use Rattle.typing.specs.Typing.{typed_at, NodeTyped}
+use Rattle.typing.specs.Typing.Laws.{answers_refused, requires_fails, requires_holds}
+use Rattle.typing.proofs.Giving.{small_given}
+use Rattle.typing.proofs.Given.{Gave, Refused, given_held, fork_ends}
+use Rattle.typing.proofs.TypingLeaf.{ended_typed}
 
 -- What the parts give, if it is the same.
-abbrev same_outputs : Ty → Ty → Node → Node → Result Ty
+abbrev same_outputs : Ty → Ty → Node → Node → Outcome Ty
 same_outputs s t n m = go_on (typing s n) (λ u. go_on (typing t m) (λ r. require (same_type u r) OutputsDiffer (gives u)))
 
-choose_typing : (t : Ty) (n m : Node) → typing t (choose n m) ≡ require (has_kind 5 t) WrongShape (same_outputs (first_part t) (second_part t) n m)
-unfolding typing
-choose_typing t n m = refl
+module _ (front : NodeFront) (ty : TypeView) (is : node_kind (node front) ≡ 15) where
+  abbrev n : Node
+  n = node front
 
--- An either in its place, and its parts in theirs.
-pub record Halved (types : List ℕ) (place first second : TypePlace) : Type 0 where
-  pub is_either : get_or types place.start 0 ≡ 5
-  pub middle : ℕ
-  pub ends : TypeEnds types (place.start + 1) middle
-  pub is_first : first ≡ record { start = place.start + 1; end = middle }
-  pub is_second : second ≡ record { start = middle; end = place.end }
+  pub two : node_arity (node_kind n) ≡ 2
+  two = ap node_arity is
 
-pub halved : {types : List ℕ} {place first second : TypePlace} {middle : ℕ} → get_or types place.start 0 ≡ 5
-    → TypeEnds types (place.start + 1) middle → first ≡ record { start = place.start + 1; end = middle }
-    → second ≡ record { start = middle; end = place.end } → Halved types place first second
-halved {middle = middle} is_either ends is_first is_second =
-    record { is_either = is_either; middle = middle; ends = ends; is_first = is_first; is_second = is_second }
+  choose_is : typing (tree ty) n
+      ≡ require (has_kind 5 (tree ty)) WrongShape (same_outputs (first_part (tree ty)) (second_part (tree ty)) (first_node n) (second_node n))
+  unfolding typing
+  choose_is = ap (typing (tree ty)) (made_of n is)
 
-module _ {types : List ℕ} {place first second : TypePlace} (halved : Halved types place first second) {t : Ty} (here : TypeIn types place t) where
-  forked : Fork t
-  forked = is_fork here.stands halved.is_either refl
+  pub choose_shapeless : {lent : List ℕ} → has_kind 5 (tree ty) ≡ false → NodeTyped (tree ty) n lent lent (Err WrongShape)
+  choose_shapeless other = rw choose_is (requires_fails _ other refl)
 
-  pub first_half : TypeIn types first (first_part t)
-  first_half = rw halved.is_first (first_in here forked halved.ends)
+  module _ (s t : TypeView) (parts : PartsOf 5 (tree ty) (Some (s, t))) where
+    by_parts : typing (tree ty) n ≡ same_outputs (tree s) (tree t) (first_node n) (second_node n)
+    by_parts = rw (choose_is, parts.0, ← parts.1, ← parts.2)
 
-  pub second_half : TypeIn types second (second_part t)
-  second_half = rw halved.is_second (second_in here forked halved.ends)
+    pub first_refused : {room held lent : List ℕ} {fault : Fault} → Refused (tree s) (first_node n) room held fault
+        → NodeTyped (tree ty) n lent lent (Err fault)
+    first_refused one = rw (by_parts, one.outcome) (answers_refused refl)
 
-module _ {types : List ℕ} {place : TypePlace} {nodes : List ℕ} {from : ℕ} (byte : get_or nodes from 0 ≡ 15) where
-  abbrev pub chosen : (due : TypingDue types place nodes from) → Parts choose nodes from due.node
-  chosen due = parts_at choose_forks byte due.node_at
+    module _ {room held : List ℕ} {g : Typed} (one : Gave (tree s) (first_node n) room held g) where
+      pub second_refused : {other_room other_held lent : List ℕ} {fault : Fault} → Refused (tree t) (second_node n) other_room other_held fault
+          → NodeTyped (tree ty) n lent lent (Err fault)
+      second_refused other = rw (by_parts, one.outcome, other.outcome) (answers_refused refl)
 
-  by_parts : (due : TypingDue types place nodes from)
-      → typing due.type due.node
-      ≡ require (has_kind 5 due.type) WrongShape (same_outputs (first_part due.type) (second_part due.type) (chosen due).first (chosen due).second)
-  by_parts due = ap (typing due.type) (chosen due).made ∙ choose_typing due.type (chosen due).first (chosen due).second
+      module _ {other_room other_held : List ℕ} {h : Typed} (other : Gave (tree t) (second_node n) other_room other_held h)
+          (wide : length room ≡ 255) (other_wide : length other_room ≡ 255) {unlike : Bool}
+          (told : unlike ≡ not (pointwise nat_eq (take g.size held) (take h.size other_held))) where
+        same_is : same_type one.type other.type ≡ not unlike
+        same_is =
+            let c = compared (not unlike) (ap not told ∙ not-not _) in
+            sym (c.each one.type other.type one.small other.small (given_held one wide).bytes (given_held other other_wide).bytes)
 
-  -- At a type that is no either.
-  pub choose_refused : {lent : List ℕ} → (get_or types place.start 0 ≡ 5 → ⊥) → TypesNode types place nodes from lent lent (Failed WrongShape)
-  choose_refused {lent} other = record { each = each }
-    where
-      each : (due : TypingDue types place nodes from)
-          → Answers (from + node_width due.node) (typing due.type due.node) lent lent (Failed WrongShape)
-      each due = rw (by_parts due) (requires_fails _ (other_shape due.type_in.stands other) refl)
+        pub outputs_differ : {lent : List ℕ} → unlike ≡ true → NodeTyped (tree ty) n lent lent (Err OutputsDiffer)
+        outputs_differ differ = rw (by_parts, one.outcome, other.outcome) (requires_fails (gives one.type) (same_is ∙ ap not differ) refl)
 
-  module _ {first second : TypePlace} (halved : Halved types place first second) where
-    abbrev pub first_due : TypingDue types place nodes from → TypingDue types first nodes (from + 1)
-    first_due due =
-        record {
-          type = first_part due.type;
-          node = (chosen due).first;
-          type_in = first_half halved due.type_in;
-          node_at = (chosen due).first_at;
-        }
-
-    choose_is : (due : TypingDue types place nodes from)
-        → typing due.type due.node ≡ same_outputs (first_part due.type) (second_part due.type) (chosen due).first (chosen due).second
-    choose_is due = rw (by_parts due, same_shape due.type_in.stands halved.is_either)
-
-    pub first_failed : {work work_after lent : List ℕ} {answer : Typed} (fault : Fault) → TypesNode types first nodes (from + 1) work work_after answer
-        → answer ≡ Failed fault → TypesNode types place nodes from lent lent (Failed fault)
-    first_failed {lent = lent} fault typed told = record { each = each }
-      where
-        each : (due : TypingDue types place nodes from)
-            → Answers (from + node_width due.node) (typing due.type due.node) lent lent (Failed fault)
-        each due = rw (choose_is due, is_refused _ _ (sym told ∙ (typed.each (first_due due)).answers)) (answers_refused refl)
-
-    module _ {one : List ℕ} {next many : ℕ} (given : HasGiven types first nodes (from + 1) one next many) where
-      pub first_given : (due : TypingDue types place nodes from) → GivenType (first_due due) one next many
-      first_given due = given_type given (first_due due)
-
-      pub second_node_at : (due : TypingDue types place nodes from) → NodeAt nodes next (chosen due).second
-      second_node_at due = rw (first_given due).ends (chosen due).second_at
-
-      abbrev pub second_due : TypingDue types place nodes from → TypingDue types second nodes next
-      second_due due =
-          record {
-            type = second_part due.type;
-            node = (chosen due).second;
-            type_in = second_half halved due.type_in;
-            node_at = second_node_at due;
-          }
-
-      pub later : TypingDue types place nodes from → from < next
-      later due = omega (arith, (first_given due).ends)
-
-      pub second_failed : {work work_after lent : List ℕ} {answer : Typed} (fault : Fault) → TypesNode types second nodes next work work_after answer
-          → answer ≡ Failed fault → TypesNode types place nodes from lent lent (Failed fault)
-      second_failed {lent = lent} fault typed told = record { each = each }
-        where
-          each : (due : TypingDue types place nodes from)
-              → Answers (from + node_width due.node) (typing due.type due.node) lent lent (Failed fault)
-          each due =
-              rw (choose_is due, (first_given due).is_accepted, is_refused _ _ (sym told ∙ (typed.each (second_due due)).answers))
-              (answers_refused refl)
-
-      -- The type that it gives, where it lies.
-      pub some_given : {lies : TypePlace} → lies ≡ record { start = 0; end = many } → TypingDue types place nodes from → SomeTypeIn one lies
-      some_given is_place due = record { type = (first_given due).type; here = held_in (first_given due).holds is_place }
-
-      module _ {other : List ℕ} {end more : ℕ} (also : HasGiven types second nodes next other end more) where
-        pub second_given : (due : TypingDue types place nodes from) → GivenType (second_due due) other end more
-        second_given due = given_type also (second_due due)
-
-        module _ {same : Bool} (compared : Compares (take many one) (take more other) same) where
-          same_is : (due : TypingDue types place nodes from) → same_type (first_given due).type (second_given due).type ≡ same
-          same_is due =
-              let f = first_given due in
-              let g = second_given due in
-              sym (compared.each f.type g.type f.small g.small f.holds.bytes g.holds.bytes)
-
-          pub outputs_differ : {lent : List ℕ} → same ≡ false → TypesNode types place nodes from lent lent (Failed OutputsDiffer)
-          outputs_differ {lent} differ = record { each = each }
-            where
-              each : (due : TypingDue types place nodes from)
-                  → Answers (from + node_width due.node) (typing due.type due.node) lent lent (Failed OutputsDiffer)
-              each due =
-                  rw (choose_is due, (first_given due).is_accepted, (second_given due).is_accepted)
-                  (requires_fails (gives (first_given due).type) (same_is due ∙ differ) refl)
-
-          pub outputs_same : {lies : TypePlace} {lent after : List ℕ} {answer : Typed} → lies ≡ record { start = 0; end = many } → same ≡ true
-              → Given gives one lies end lent after answer → TypesNode types place nodes from lent after answer
-          outputs_same {lent = lent} {after = after} {answer = answer} is_place agree given_one = record { each = each }
-            where
-              each : (due : TypingDue types place nodes from) → Answers (from + node_width due.node) (typing due.type due.node) lent after answer
-              each due =
-                  let f = first_given due in
-                  let g = second_given due in
-                  let ends : from + node_width due.node ≡ end = omega (arith, f.ends, g.ends, (chosen due).wide) in
-                  rw (ends, choose_is due, f.is_accepted, g.is_accepted)
-                  (requires_holds OutputsDiffer (same_is due ∙ agree) (given_one.each f.type (held_in f.holds is_place)))
+        pub outputs_same : {lent now : List ℕ} {many : ℕ} → unlike ≡ false → Appends (take g.size held) 0 lent now many
+            → NodeTyped (tree ty) n lent now (Ok (typed_at (1 + g.end + h.end) many))
+        outputs_same {lent} agree appended =
+            let written = written_on (nothing_written lent) appended in
+            let given = small_given one.type written (given_held one wide).bytes one.small in
+            rw (by_parts, one.outcome, other.outcome, fork_ends front two one.ends other.ends)
+            (requires_holds OutputsDiffer (same_is ∙ ap not agree) (ended_typed given))

@@ -1,171 +1,227 @@
 -- `type_node`, `type_parts` and `type_choose` meet their contracts: a node hands its input, or the parts of it, to its parts, and
--- the types that these give make the node's (`TypingParts`, `TypingChoose`).
-use Rattle.std.proofs.Common.{refl, sym, arith}
+-- the types that these give make the node's (`TypingParts`, `TypingChain`, `TypingChoose`).
+use Rattle.std.proofs.Common.{rules, refl, sym, ap, arith, ◌≡◌, ◌+◌, Err}
 use Rattle.std.proofs.lemmas.List.{length-take-le}
-use Rattle.reading.specs.TypeReads.Laws.{starts_inside as type_inside}
-use Rattle.patch_reading.specs.PatchReads.Laws.{starts_inside}
-use Rattle.typing.specs.Typing.Laws.{has_given}
-use Rattle.typing.proofs.TypingParts.{first_answer, first_failed, first_given, second_due, second_failed, second_small, both_given, both_splits, part_first, then_splits, then_refused, parts_due, parts_typed, chain_first, chain_failed, chain_later, chain_second, chain_typed}
-use Rattle.typing.proofs.TypingChoose.{halved, choose_refused, later, some_given, outputs_differ, outputs_same, second_given}
-use Rattle.typing.proofs.TypingChoose.{first_due as choose_first, first_given as choose_first_given, first_failed as choose_first_failed, second_due as choose_second, second_failed as choose_second_failed}
+use Rattle.stream.specs.declared.Fault.TheVariants.{WrongShape}
+use Rattle.stream.proofs.TypeFiles.Held.{is_whole, is_small}
+use Rattle.reading.specs.Views.{tree}
+use Rattle.patch_reading.specs.PatchReads.{node_width}
+use Rattle.patch_reading.specs.Fronts.{node}
+use Rattle.patch_reading.proofs.NodeParts.{fork_width}
+use Rattle.typing.specs.Typing.Laws.{requires_fails}
+use Rattle.typing.proofs.Given.{gave, was_refused, size_inside, given_held, first_inside, second_inside}
+use Rattle.typing.proofs.TypingParts.{first_failed, second_failed, both_given, both_is, then_is, no_parts}
+use Rattle.typing.proofs.TypingChain.{two as chain_two, chain_refused, second_refused as chain_second_refused, chain_given}
+use Rattle.typing.proofs.TypingChoose.{two as choose_two, choose_shapeless, first_refused, second_refused, outputs_differ, outputs_same}
 use Rattle.typing.proofs.+type_each_node.Goals as goal
 
-pub type_choose-bounds-types-at : goal.type_choose-bounds-types-at
-type_choose-bounds-types-at t c = type_inside c.requires.0.type_in.stands
+pub type_node-returns-in-4 : goal.type_node-returns-in-4
+type_node-returns-in-4 t c = rw (both_is (node c.args.front) c.kind.ensures (tree c.args.ty) c.in-4.is) c.type_parts.ensures
 
-pub type_choose-returns-then-types-at-ne5 : goal.type_choose-returns-then-types-at-ne5
-type_choose-returns-then-types-at-ne5 t c = choose_refused c.requires.1 c.if-types-at-ne5.true
+pub type_node-returns-in_err-first-in-9 : goal.type_node-returns-in_err-first-in-9
+type_node-returns-in_err-first-in-9 t c =
+    let refused : c.from_residual.result ≡ Err WrongShape = search rules in
+    let other = no_parts 3 (tree c.args.ty) c.parts_of.result c.parts_of.ensures c.in_err-first-in-9.ensures.variant in
+    rw (refused, then_is (node c.args.front) c.kind.ensures (tree c.args.ty) c.in-9.is) (requires_fails _ other refl)
 
-pub type_choose-skip_type-middle-requires : goal.type_choose-skip_type-middle-requires
-type_choose-skip_type-middle-requires t c = part_first c.if-types-at-ne5.false refl c.requires.0
-
-pub type_choose-type_node-requires : goal.type_choose-type_node-requires
-type_choose-type_node-requires t c =
-    let halves = halved c.if-types-at-ne5.false c.skip_type-middle.ensures c.new-first.ensures c.new-second.ensures in
-    (omega (arith, c.decreases, starts_inside c.requires.0.node_at), choose_first c.requires.1 halves c.requires.0)
-
-pub type_choose-type_node-requires-in-Gives : goal.type_choose-type_node-requires-in-Gives
-type_choose-type_node-requires-in-Gives t c =
-    let halves = halved c.if-types-at-ne5.false c.skip_type-middle.ensures c.new-first.ensures c.new-second.ensures in
-    let one = has_given refl c.type_node.ensures c.in-Gives.is in
-    (omega (arith, c.decreases, starts_inside c.requires.0.node_at, later c.requires.1 halves one c.requires.0), choose_second c.requires.1 halves one c.requires.0)
-
-pub type_choose-slice_bounds-one-end : goal.type_choose-slice_bounds-one-end
-type_choose-slice_bounds-one-end t c =
-    let halves = halved c.if-types-at-ne5.false c.skip_type-middle.ensures c.new-first.ensures c.new-second.ensures in
-    let one = has_given refl c.type_node.ensures c.in-Gives.is in
-    (choose_first_given c.requires.1 halves one c.requires.0).holds.inside
-
-pub type_choose-slice_bounds-same_types-end : goal.type_choose-slice_bounds-same_types-end
-type_choose-slice_bounds-same_types-end t c =
-    let halves = halved c.if-types-at-ne5.false c.skip_type-middle.ensures c.new-first.ensures c.new-second.ensures in
-    let one = has_given refl c.type_node.ensures c.in-Gives.is in
-    sym (length-take-le _ _ (choose_first_given c.requires.1 halves one c.requires.0).holds.inside)
-
-pub type_choose-slice_bounds-other-end : goal.type_choose-slice_bounds-other-end
-type_choose-slice_bounds-other-end t c =
-    let halves = halved c.if-types-at-ne5.false c.skip_type-middle.ensures c.new-first.ensures c.new-second.ensures in
-    let one = has_given refl c.type_node.ensures c.in-Gives.is in
-    let other = has_given refl c.type_node-in-Gives.ensures c.in-Gives-type_node.is in
-    (second_given c.requires.1 halves one other c.requires.0).holds.inside
-
-pub type_choose-slice_bounds-same_types-end-in-Gives-type_node :
-    goal.type_choose-slice_bounds-same_types-end-in-Gives-type_node
-type_choose-slice_bounds-same_types-end-in-Gives-type_node t c =
-    let halves = halved c.if-types-at-ne5.false c.skip_type-middle.ensures c.new-first.ensures c.new-second.ensures in
-    let one = has_given refl c.type_node.ensures c.in-Gives.is in
-    let other = has_given refl c.type_node-in-Gives.ensures c.in-Gives-type_node.is in
-    sym (length-take-le _ _ (second_given c.requires.1 halves one other c.requires.0).holds.inside)
-
-pub type_choose-give_type-requires : goal.type_choose-give_type-requires
-type_choose-give_type-requires t c =
-    let halves = halved c.if-types-at-ne5.false c.skip_type-middle.ensures c.new-first.ensures c.new-second.ensures in
-    let one = has_given refl c.type_node.ensures c.in-Gives.is in
-    some_given c.requires.1 halves one c.new-held.ensures c.requires.0
-
-pub type_choose-returns-in-Failed : goal.type_choose-returns-in-Failed
-type_choose-returns-in-Failed t c =
-    let halves = halved c.if-types-at-ne5.false c.skip_type-middle.ensures c.new-first.ensures c.new-second.ensures in
-    choose_first_failed c.requires.1 halves _ c.type_node.ensures c.in-Failed.is
-
-pub type_choose-returns-in-Failed-type_node : goal.type_choose-returns-in-Failed-type_node
-type_choose-returns-in-Failed-type_node t c =
-    let halves = halved c.if-types-at-ne5.false c.skip_type-middle.ensures c.new-first.ensures c.new-second.ensures in
-    let one = has_given refl c.type_node.ensures c.in-Gives.is in
-    choose_second_failed c.requires.1 halves one _ c.type_node-in-Gives.ensures c.in-Failed-type_node.is
-
-pub type_choose-returns-then-same_types : goal.type_choose-returns-then-same_types
-type_choose-returns-then-same_types t c =
-    let halves = halved c.if-types-at-ne5.false c.skip_type-middle.ensures c.new-first.ensures c.new-second.ensures in
-    let one = has_given refl c.type_node.ensures c.in-Gives.is in
-    let other = has_given refl c.type_node-in-Gives.ensures c.in-Gives-type_node.is in
-    outputs_same c.requires.1 halves one other c.same_types.ensures c.new-held.ensures c.if-same_types.true c.give_type.ensures
-
-pub type_choose-returns-else-same_types : goal.type_choose-returns-else-same_types
-type_choose-returns-else-same_types t c =
-    let halves = halved c.if-types-at-ne5.false c.skip_type-middle.ensures c.new-first.ensures c.new-second.ensures in
-    let one = has_given refl c.type_node.ensures c.in-Gives.is in
-    let other = has_given refl c.type_node-in-Gives.ensures c.in-Gives-type_node.is in
-    outputs_differ c.requires.1 halves one other c.same_types.ensures c.if-same_types.false
-
-pub type_node-bounds-nodes-from : goal.type_node-bounds-nodes-from
-type_node-bounds-nodes-from t c = starts_inside c.requires.node_at
-
-pub type_node-type_parts-requires : goal.type_node-type_parts-requires
-type_node-type_parts-requires t c =
-    (omega (arith, c.decreases, starts_inside c.requires.node_at), parts_due both_splits c.in-4.is c.requires)
-
-pub type_node-bounds-types-at : goal.type_node-bounds-types-at
-type_node-bounds-types-at t c = type_inside c.requires.type_in.stands
-
-pub type_node-returns-then-types-at-ne3 : goal.type_node-returns-then-types-at-ne3
-type_node-returns-then-types-at-ne3 t c = then_refused c.in-9.is c.if-types-at-ne3.true
-
-pub type_node-skip_type-second-requires : goal.type_node-skip_type-second-requires
-type_node-skip_type-second-requires t c = part_first {shape = 3} (omega arith) refl c.requires
-
-pub type_node-type_parts-requires-in-9 : goal.type_node-type_parts-requires-in-9
-type_node-type_parts-requires-in-9 t c =
-    let splits = then_splits (omega arith) c.skip_type-second.ensures c.new.ensures c.new-rest.ensures in
-    (omega (arith, c.decreases, starts_inside c.requires.node_at), parts_due splits c.in-9.is c.requires)
+pub type_node-returns-in_ok-first-in-9 : goal.type_node-returns-in_ok-first-in-9
+type_node-returns-in_ok-first-in-9 t c =
+    let parts = rw c.in_ok-first-in-9.ensures.ok_part at c.parts_of.ensures in
+    rw (then_is (node c.args.front) c.kind.ensures (tree c.args.ty) c.in-9.is, parts.0, ← parts.1, ← parts.2)
+    c.type_parts-in-9.ensures
 
 pub type_node-type_node-requires : goal.type_node-type_node-requires
 type_node-type_node-requires t c =
-    (omega (arith, c.decreases, starts_inside c.requires.node_at), chain_first c.in-10.is c.requires)
+    let two = chain_two c.args.front c.kind.ensures c.in-10.is (tree c.args.ty) in
+    (omega (arith, fork_width (node c.args.front) two, ap node_width c.first.ensures, c.decreases), tt)
 
-pub type_node-type_node-requires-in-Gives : goal.type_node-type_node-requires-in-Gives
-type_node-type_node-requires-in-Gives t c = (
-  omega (arith, c.decreases, starts_inside c.requires.node_at, chain_later c.in-10.is c.type_node.ensures c.in-Gives.is refl c.requires),
-  chain_second c.in-10.is c.type_node.ensures c.in-Gives.is refl c.new-given.ensures c.requires,
-)
+pub type_node-returns-in_err-first-in-10 : goal.type_node-returns-in_err-first-in-10
+type_node-returns-in_err-first-in-10 t c =
+    let refused : c.from_residual-in_err-first-in-10.result ≡ Err c.in_err-first-in-10.field-0.0 = search rules in
+    let one = was_refused c.first.result c.first.ensures c.in_err-first-in-10.ensures in
+    rw refused (chain_refused c.args.front c.kind.ensures c.in-10.is (tree c.args.ty) one)
 
-pub type_node-returns-in-4 : goal.type_node-returns-in-4
-type_node-returns-in-4 t c = parts_typed both_splits c.in-4.is c.type_parts.ensures
+pub type_node-invariant_of-given : goal.type_node-invariant_of-given
+type_node-invariant_of-given t c =
+    let one = gave c.first.result c.first.ensures c.in_ok-first-in-10.ensures in
+    let held = given_held one refl in
+    record { whole = is_whole held; small = is_small held }
 
-pub type_node-returns-else-types-at-ne3 : goal.type_node-returns-else-types-at-ne3
-type_node-returns-else-types-at-ne3 t c =
-    let splits = then_splits (omega arith) c.skip_type-second.ensures c.new.ensures c.new-rest.ensures in
-    parts_typed splits c.in-9.is c.type_parts-in-9.ensures
+pub type_node-slice_bounds-middle-end : goal.type_node-slice_bounds-middle-end
+type_node-slice_bounds-middle-end t c = size_inside (gave c.first.result c.first.ensures c.in_ok-first-in-10.ensures) refl
 
-pub type_node-returns-in-Failed : goal.type_node-returns-in-Failed
-type_node-returns-in-Failed t c = chain_failed c.in-10.is c.type_node.ensures _ c.in-Failed.is
+pub type_node-slice_bounds-given-end : goal.type_node-slice_bounds-given-end
+type_node-slice_bounds-given-end t c =
+    let one = gave c.first.result c.first.ensures c.in_ok-first-in-10.ensures in
+    sym (length-take-le _ _ (size_inside one refl))
 
-pub type_node-returns-in-Gives : goal.type_node-returns-in-Gives
-type_node-returns-in-Gives t c =
-    chain_typed c.in-10.is c.type_node.ensures c.in-Gives.is refl c.new-given.ensures c.type_node-in-Gives.ensures
+pub type_node-overflow_add-end : goal.type_node-overflow_add-end
+type_node-overflow_add-end t c =
+    let one = gave c.first.result c.first.ensures c.in_ok-first-in-10.ensures in
+    omega (arith, first_inside c.args.front (chain_two c.args.front c.kind.ensures c.in-10.is (tree c.args.ty)) one.ends)
+
+pub type_node-second-requires-clause-ends : goal.type_node-second-requires-clause-ends
+type_node-second-requires-clause-ends t c =
+    let one = gave c.first.result c.first.ensures c.in_ok-first-in-10.ensures in
+    ap (λ m. 1 + m) one.ends
+
+pub type_node-type_node-requires-in-10 : goal.type_node-type_node-requires-in-10
+type_node-type_node-requires-in-10 t c =
+    let two = chain_two c.args.front c.kind.ensures c.in-10.is (tree c.args.ty) in
+    (omega (arith, fork_width (node c.args.front) two, ap node_width c.second.ensures, c.decreases), tt)
+
+pub type_node-returns-in_err-second-in-10 : goal.type_node-returns-in_err-second-in-10
+type_node-returns-in_err-second-in-10 t c =
+    let one = gave c.first.result c.first.ensures c.in_ok-first-in-10.ensures in
+    let refused : c.from_residual-in_err-second-in-10.result ≡ Err c.in_err-second-in-10.field-0.0 = search rules in
+    let other = was_refused c.second.result c.second.ensures c.in_err-second-in-10.ensures in
+    rw refused (chain_second_refused c.args.front c.kind.ensures c.in-10.is (tree c.args.ty) one refl other)
+
+pub type_node-overflow_add-result : goal.type_node-overflow_add-result
+type_node-overflow_add-result t c =
+    let one = gave c.first.result c.first.ensures c.in_ok-first-in-10.ensures in
+    let other = gave c.second.result c.second.ensures c.in_ok-second-in-10.ensures in
+    omega (arith, second_inside c.args.front (chain_two c.args.front c.kind.ensures c.in-10.is (tree c.args.ty)) one.ends other.ends)
+
+pub type_node-returns-in_ok-second-in-10 : goal.type_node-returns-in_ok-second-in-10
+type_node-returns-in_ok-second-in-10 t c =
+    let one = gave c.first.result c.first.ensures c.in_ok-first-in-10.ensures in
+    let other = gave c.second.result c.second.ensures c.in_ok-second-in-10.ensures in
+    chain_given c.args.front c.kind.ensures c.in-10.is (tree c.args.ty) one refl other
+
+pub type_parts-type_node-requires : goal.type_parts-type_node-requires
+type_parts-type_node-requires t c =
+    (omega (arith, fork_width (node c.args.front) c.requires.two_parts, ap node_width c.first.ensures, c.decreases), tt)
+
+pub type_parts-returns-in_err-one : goal.type_parts-returns-in_err-one
+type_parts-returns-in_err-one t c =
+    let refused : c.from_residual.result ≡ Err c.in_err-one.field-0.0 = search rules in
+    let one = was_refused c.first.result c.first.ensures c.in_err-one.ensures in
+    rw refused
+    (first_failed c.args.front c.requires.two_parts (tree c.args.first) (tree c.args.second) c.append_kind-before.ensures c.within-start.ensures one)
+
+pub type_parts-overflow_add-end : goal.type_parts-overflow_add-end
+type_parts-overflow_add-end t c =
+    let one = gave c.first.result c.first.ensures c.in_ok-one.ensures in
+    omega (arith, first_inside c.args.front c.requires.two_parts one.ends)
 
 pub type_parts-overflow_add-written : goal.type_parts-overflow_add-written
 type_parts-overflow_add-written t c =
-    let first = first_answer c.append_kind-before.ensures c.within-start.ensures c.type_node.ensures in
-    omega (arith, first_given first c.in-Gives.is c.requires)
+    let one = gave c.first.result c.first.ensures c.in_ok-one.ensures in
+    omega (arith, c.append_kind-before.ensures.ends, one.few)
 
-pub type_parts-type_node-requires-in-Gives : goal.type_parts-type_node-requires-in-Gives
-type_parts-type_node-requires-in-Gives t c =
-    let first = first_answer c.append_kind-before.ensures c.within-start.ensures c.type_node.ensures in
-    (omega (arith, c.decreases, first_given first c.in-Gives.is c.requires), second_due first c.in-Gives.is c.requires)
+pub type_parts-second-requires-clause-ends : goal.type_parts-second-requires-clause-ends
+type_parts-second-requires-clause-ends t c =
+    let one = gave c.first.result c.first.ensures c.in_ok-one.ensures in
+    ap (λ m. 1 + m) one.ends
 
-pub type_parts-overflow_add-written-in-Gives-type_node :
-    goal.type_parts-overflow_add-written-in-Gives-type_node
-type_parts-overflow_add-written-in-Gives-type_node t c =
-    let first = first_answer c.append_kind-before.ensures c.within-start.ensures c.type_node.ensures in
-    omega (
-      arith,
-      first_given first c.in-Gives.is c.requires,
-      second_small first c.in-Gives.is c.within-rest.ensures c.type_node-in-Gives.ensures c.in-Gives-type_node.is c.requires,
-    )
+pub type_parts-type_node-requires-2 : goal.type_parts-type_node-requires-2
+type_parts-type_node-requires-2 t c =
+    (omega (arith, fork_width (node c.args.front) c.requires.two_parts, ap node_width c.second.ensures, c.decreases), tt)
 
-pub type_parts-returns-in-Failed : goal.type_parts-returns-in-Failed
-type_parts-returns-in-Failed t c =
-    let first = first_answer c.append_kind-before.ensures c.within-start.ensures c.type_node.ensures in
-    first_failed first _ c.in-Failed.is
+pub type_parts-returns-in_err-other : goal.type_parts-returns-in_err-other
+type_parts-returns-in_err-other t c =
+    let one = gave c.first.result c.first.ensures c.in_ok-one.ensures in
+    let refused : c.from_residual-in_err-other.result ≡ Err c.in_err-other.field-0.0 = search rules in
+    let other = was_refused c.second.result c.second.ensures c.in_err-other.ensures in
+    rw refused
+    (second_failed c.args.front c.requires.two_parts (tree c.args.first) (tree c.args.second) c.append_kind-before.ensures c.within-start.ensures one
+    c.within-rest.ensures other)
 
-pub type_parts-returns-in-Failed-type_node : goal.type_parts-returns-in-Failed-type_node
-type_parts-returns-in-Failed-type_node t c =
-    let first = first_answer c.append_kind-before.ensures c.within-start.ensures c.type_node.ensures in
-    second_failed first c.in-Gives.is c.within-rest.ensures c.type_node-in-Gives.ensures _ c.in-Failed-type_node.is
+pub type_parts-overflow_add-end-2 : goal.type_parts-overflow_add-end-2
+type_parts-overflow_add-end-2 t c =
+    let one = gave c.first.result c.first.ensures c.in_ok-one.ensures in
+    let other = gave c.second.result c.second.ensures c.in_ok-other.ensures in
+    omega (arith, second_inside c.args.front c.requires.two_parts one.ends other.ends)
 
-pub type_parts-returns-in-Gives-type_node : goal.type_parts-returns-in-Gives-type_node
-type_parts-returns-in-Gives-type_node t c =
-    let first = first_answer c.append_kind-before.ensures c.within-start.ensures c.type_node.ensures in
-    rw c.limit.ensures
-    (both_given first c.in-Gives.is c.within-rest.ensures c.type_node-in-Gives.ensures c.in-Gives-type_node.is)
+pub type_parts-overflow_add-written-2 : goal.type_parts-overflow_add-written-2
+type_parts-overflow_add-written-2 t c =
+    let one = gave c.first.result c.first.ensures c.in_ok-one.ensures in
+    let other = gave c.second.result c.second.ensures c.in_ok-other.ensures in
+    omega (arith, c.append_kind-before.ensures.ends, one.few, other.few)
+
+pub type_parts-returns : goal.type_parts-returns
+type_parts-returns t c =
+    let one = gave c.first.result c.first.ensures c.in_ok-one.ensures in
+    let other = gave c.second.result c.second.ensures c.in_ok-other.ensures in
+    rw (c.ending.ensures, c.limit.ensures)
+    (both_given c.args.front c.requires.two_parts (tree c.args.first) (tree c.args.second) c.append_kind-before.ensures c.within-start.ensures one
+    c.within-rest.ensures c.requires.forks other)
+
+pub type_choose-returns-in_err-first : goal.type_choose-returns-in_err-first
+type_choose-returns-in_err-first t c =
+    let refused : c.from_residual.result ≡ Err WrongShape = search rules in
+    let other = no_parts 5 (tree c.args.ty) c.parts_of.result c.parts_of.ensures c.in_err-first.ensures.variant in
+    rw refused (choose_shapeless c.args.front c.args.ty c.requires other)
+
+pub type_choose-type_node-requires : goal.type_choose-type_node-requires
+type_choose-type_node-requires t c =
+    let two = choose_two c.args.front c.args.ty c.requires in
+    (omega (arith, fork_width (node c.args.front) two, ap node_width c.first.ensures, c.decreases), tt)
+
+pub type_choose-returns-in_err-first_typed : goal.type_choose-returns-in_err-first_typed
+type_choose-returns-in_err-first_typed t c =
+    let parts = rw c.in_ok-first.ensures.ok_part at c.parts_of.ensures in
+    let refused : c.from_residual-in_err-first_typed.result ≡ Err c.in_err-first_typed.field-0.0 = search rules in
+    let one = was_refused c.first.result c.first.ensures c.in_err-first_typed.ensures in
+    rw refused (first_refused c.args.front c.args.ty c.requires c.in_ok-first.first c.in_ok-first.second parts one)
+
+pub type_choose-overflow_add-end : goal.type_choose-overflow_add-end
+type_choose-overflow_add-end t c =
+    let one = gave c.first.result c.first.ensures c.in_ok-first_typed.ensures in
+    omega (arith, first_inside c.args.front (choose_two c.args.front c.args.ty c.requires) one.ends)
+
+pub type_choose-second-requires-clause-ends : goal.type_choose-second-requires-clause-ends
+type_choose-second-requires-clause-ends t c =
+    let one = gave c.first.result c.first.ensures c.in_ok-first_typed.ensures in
+    ap (λ m. 1 + m) one.ends
+
+pub type_choose-type_node-requires-2 : goal.type_choose-type_node-requires-2
+type_choose-type_node-requires-2 t c =
+    let two = choose_two c.args.front c.args.ty c.requires in
+    (omega (arith, fork_width (node c.args.front) two, ap node_width c.second.ensures, c.decreases), tt)
+
+pub type_choose-returns-in_err-second_typed : goal.type_choose-returns-in_err-second_typed
+type_choose-returns-in_err-second_typed t c =
+    let parts = rw c.in_ok-first.ensures.ok_part at c.parts_of.ensures in
+    let one = gave c.first.result c.first.ensures c.in_ok-first_typed.ensures in
+    let refused : c.from_residual-in_err-second_typed.result ≡ Err c.in_err-second_typed.field-0.0 = search rules in
+    let other = was_refused c.second.result c.second.ensures c.in_err-second_typed.ensures in
+    rw refused (second_refused c.args.front c.args.ty c.requires c.in_ok-first.first c.in_ok-first.second parts one other)
+
+pub type_choose-slice_bounds-one-end : goal.type_choose-slice_bounds-one-end
+type_choose-slice_bounds-one-end t c = size_inside (gave c.first.result c.first.ensures c.in_ok-first_typed.ensures) refl
+
+pub type_choose-slice_bounds-given-end : goal.type_choose-slice_bounds-given-end
+type_choose-slice_bounds-given-end t c =
+    let one = gave c.first.result c.first.ensures c.in_ok-first_typed.ensures in
+    sym (length-take-le _ _ (size_inside one refl))
+
+pub type_choose-slice_bounds-other-end : goal.type_choose-slice_bounds-other-end
+type_choose-slice_bounds-other-end t c = size_inside (gave c.second.result c.second.ensures c.in_ok-second_typed.ensures) refl
+
+pub type_choose-slice_bounds-ne-end : goal.type_choose-slice_bounds-ne-end
+type_choose-slice_bounds-ne-end t c =
+    let other = gave c.second.result c.second.ensures c.in_ok-second_typed.ensures in
+    sym (length-take-le _ _ (size_inside other refl))
+
+pub type_choose-returns-then-ne : goal.type_choose-returns-then-ne
+type_choose-returns-then-ne t c =
+    let parts = rw c.in_ok-first.ensures.ok_part at c.parts_of.ensures in
+    let one = gave c.first.result c.first.ensures c.in_ok-first_typed.ensures in
+    let other = gave c.second.result c.second.ensures c.in_ok-second_typed.ensures in
+    outputs_differ c.args.front c.args.ty c.requires c.in_ok-first.first c.in_ok-first.second parts one other refl refl c.ne.ensures c.if-ne.true
+
+pub type_choose-overflow_add-result : goal.type_choose-overflow_add-result
+type_choose-overflow_add-result t c =
+    let one = gave c.first.result c.first.ensures c.in_ok-first_typed.ensures in
+    let other = gave c.second.result c.second.ensures c.in_ok-second_typed.ensures in
+    omega (arith, second_inside c.args.front (choose_two c.args.front c.args.ty c.requires) one.ends other.ends)
+
+pub type_choose-returns : goal.type_choose-returns
+type_choose-returns t c =
+    let parts = rw c.in_ok-first.ensures.ok_part at c.parts_of.ensures in
+    let one = gave c.first.result c.first.ensures c.in_ok-first_typed.ensures in
+    let other = gave c.second.result c.second.ensures c.in_ok-second_typed.ensures in
+    outputs_same c.args.front c.args.ty c.requires c.in_ok-first.first c.in_ok-first.second parts one other refl refl c.ne.ensures
+    c.if-ne.false c.append.ensures

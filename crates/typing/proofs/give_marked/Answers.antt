@@ -1,26 +1,25 @@
--- `give_marked` meets its contract: the node carries a type behind its kind byte, up to where `skip_type` says, and its kind tells
--- which part of the either that is (`TypingMarks`).
-use Rattle.typing.proofs.TypingMarks.{marked_type, marked_in, first_marked, second_marked}
+-- `give_marked` meets its contract: its kind tells which part of the either the type is that the node carries.
+use Rattle.std.proofs.Common.{refl, ap, ◌∙◌, arith}
+use Rattle.stream.specs.Types.{size}
+use Rattle.stream.proofs.Types.Laws.{limit_is}
+use Rattle.node.specs.Checking.{typing}
+use Rattle.typing.proofs.TypingLeaf.{carried_typed, other_mark}
 use Rattle.typing.proofs.give_marked.Goals as goal
 
-pub skip_type-end-requires : goal.skip_type-end-requires
-skip_type-end-requires c = marked_type c.requires.marks c.requires.typing_due
+pub overflow_add-end : goal.overflow_add-end
+overflow_add-end c = omega (arith, c.carried-carried.result.small, limit_is)
 
-pub give_either-requires : goal.give_either-requires
-give_either-requires c =
-    let due = c.requires.typing_due in
-    (record { type = due.type; here = due.type_in }, marked_in c.skip_type-end.ensures c.new-carried.ensures c.requires.marks due)
+pub returns-then-kind-eq16 : goal.returns-then-kind-eq16
+unfolding typing
+returns-then-kind-eq16 c =
+    let carried = c.carried-carried.ensures in
+    let given = rw carried at c.give_either.ensures in
+    rw c.ending.ensures (carried_typed c.args.ty c.args.front c.kind.ensures c.if-kind-eq16.true given refl (c.size-end.ensures ∙ ap size carried))
 
-pub give_either-requires-else-nodes-from-eq16 : goal.give_either-requires-else-nodes-from-eq16
-give_either-requires-else-nodes-from-eq16 c =
-    let due = c.requires.typing_due in
-    (marked_in c.skip_type-end.ensures c.new-carried.ensures c.requires.marks due, record { type = due.type; here = due.type_in })
-
-pub returns-then-nodes-from-eq16 : goal.returns-then-nodes-from-eq16
-returns-then-nodes-from-eq16 c =
-    first_marked c.skip_type-end.ensures c.new-carried.ensures c.if-nodes-from-eq16.true c.give_either.ensures
-
-pub returns-else-nodes-from-eq16 : goal.returns-else-nodes-from-eq16
-returns-else-nodes-from-eq16 c =
-    second_marked c.skip_type-end.ensures c.new-carried.ensures c.requires.marks c.if-nodes-from-eq16.false
-    c.give_either-else-nodes-from-eq16.ensures
+pub returns-else-kind-eq16 : goal.returns-else-kind-eq16
+unfolding typing
+returns-else-kind-eq16 c =
+    let carried = c.carried-carried.ensures in
+    let given = rw carried at c.give_either-else-kind-eq16.ensures in
+    let is = other_mark (rw c.kind.ensures c.requires) c.if-kind-eq16.false in
+    rw c.ending-else-kind-eq16.ensures (carried_typed c.args.ty c.args.front c.kind.ensures is given refl (c.size-end.ensures ∙ ap size carried))

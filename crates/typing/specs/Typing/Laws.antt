@@ -1,14 +1,14 @@
 -- What an answer of the second pass says.
-use Rattle.std.specs.Prelude.{Bool, true, false, ◌≡◌, refl, List, [], ℕ, ◌+◌, ◌≤◌, ◌<◌, leb, eqb, length}
+use Rattle.std.specs.Prelude.{Err, Ok, Result, Bool, true, false, ◌≡◌, refl, List, [], ℕ, ◌+◌, ◌≤◌, ◌<◌, leb, eqb, length}
 use Rattle.std.proofs.Common.{inl, inr, sym, ap, ◌∙◌, arith, le-leb, eqb-true}
 use Rattle.std.proofs.lemmas.Bool.{lt-leb, eqb-false}
 use Rattle.stream.specs.declared.Fault.{Fault}
 use Rattle.stream.specs.declared.Fault.TheVariants.{TypeTooLarge}
 use Rattle.stream.specs.Types.{Ty, size, type_limit, Small}
 use Rattle.stream.proofs.Types.Laws.{limit_is}
-use Rattle.stream.specs.Reading.{Result, accepted, refused, require}
+use Rattle.stream.specs.Reading.{Result as Outcome, accepted, refused, require}
 use Rattle.stream.specs.TypeFiles.{type_bytes}
-use Rattle.reading.specs.declared.types.TypePlace.{TypePlace}
+use Rattle.reading.specs.Places.{TypePlace}
 use Rattle.reading.specs.TypeReads.{TypeIn, SomeTypeIn}
 use Rattle.reading.specs.TypeReads.Laws.{type_width}
 use Rattle.reading.specs.Nesting.{Piece}
@@ -21,10 +21,9 @@ use Rattle.node.proofs.Nodes.Laws.{output_small}
 use Rattle.node.specs.Checking.{gives, typing}
 use Rattle.node.proofs.Checking.Laws.{gives_accepted, typing_sound}
 use Rattle.node.specs.Nodes.Functions.{Carries}
-use Rattle.typing.specs.declared.Typed.{Typed}
-use Rattle.typing.specs.declared.Typed.TheVariants.{Gives, Failed}
 use Rattle.patch_reading.specs.PatchReads.{node_width}
-use Rattle.typing.specs.Typing.{typed, limited, Answers, Marks, TypingDue, TypesNode}
+use Rattle.typing.specs.Typing.{typed_at, typed, limited, Answers, Marks, TypingDue, TypesNode}
+use Rattle.typing.specs.declared.Typed.{Typed}
 
 -- A type in its place is a piece of the bytes, and can be written behind a kind byte and another type.
 
@@ -46,11 +45,11 @@ marks_between k low high = go (eqb k 16) refl
 
 -- What is told of a type given
 
-pub limited_small : (end : ℕ) {n : ℕ} → n ≤ type_limit → limited end n ≡ Gives end n
+pub limited_small : (end : ℕ) {n : ℕ} → n ≤ type_limit → limited end n ≡ Ok (typed_at end n)
 unfolding limited
 limited_small end {n} h = rw (limited, le-leb n type_limit h)
 
-pub limited_large : (end : ℕ) {n : ℕ} → type_limit < n → limited end n ≡ Failed TypeTooLarge
+pub limited_large : (end : ℕ) {n : ℕ} → type_limit < n → limited end n ≡ Err TypeTooLarge
 unfolding limited
 limited_large end {n} h = rw (limited, lt-leb n type_limit h)
 
@@ -58,7 +57,7 @@ pub typed-gives : (end : ℕ) (t : Ty) → typed end (gives t) ≡ limited end (
 unfolding typed gives limited
 typed-gives end t = go (leb (size t) type_limit)
   where
-    go : (b : Bool) → typed end (require b TypeTooLarge (accepted t)) ≡ elim b [ true ↦ Gives end (size t) | false ↦ Failed TypeTooLarge ]
+    go : (b : Bool) → typed end (require b TypeTooLarge (accepted t)) ≡ elim b [ true ↦ Ok (typed_at end (size t)) | false ↦ Err TypeTooLarge ]
     go true = refl
     go false = refl
 
@@ -67,28 +66,30 @@ typing_small s n {t} carries e = let d = typing_sound s n t carries e in output_
 
 -- What an answer says of the outcome
 
-pub record IsGiven (end next n : ℕ) (outcome : Result Ty) : Type 0 where
+pub record IsGiven (end next n : ℕ) (outcome : Outcome Ty) : Type 0 where
   pub type : Ty
   pub given : outcome ≡ accepted type
   pub ends : next ≡ end
   pub sized : n ≡ size type
 
-pub is_given : {next n : ℕ} (end : ℕ) (outcome : Result Ty) → Gives next n ≡ typed end outcome → IsGiven end next n outcome
+pub is_given : {next n : ℕ} (end : ℕ) (outcome : Outcome Ty) → Ok (typed_at next n) ≡ typed end outcome → IsGiven end next n outcome
 unfolding typed
-is_given end (accepted t) e = record { type = t; given = refl; ends = cc; sized = cc }
-is_given end (refused f) e = let z : ◌≡◌ {A = ℕ} 0 1 = cc in absurd (omega arith)
+is_given {next} {n} end (accepted t) e =
+    let same : typed_at next n ≡ typed_at end (size t) = cc in
+    record { type = t; given = refl; ends = ap (λ g. g.end) same; sized = ap (λ g. g.size) same }
+is_given end (refused f) e = absurd (cc)
 
-pub is_refused : {fault : Fault} (end : ℕ) (outcome : Result Ty) → Failed fault ≡ typed end outcome → outcome ≡ refused fault
+pub is_refused : {fault : Fault} (end : ℕ) (outcome : Outcome Ty) → Err fault ≡ typed end outcome → outcome ≡ refused fault
 unfolding typed
-is_refused end (accepted t) e = let z : ◌≡◌ {A = ℕ} 0 1 = cc in absurd (omega arith)
+is_refused end (accepted t) e = cc
 is_refused end (refused f) e = cc
 
 -- Answers
 
 pub answers_refused : {end : ℕ} {fault : Fault} {lent now : List ℕ} → length now ≡ length lent
-    → Answers end (refused fault) lent now (Failed fault)
+    → Answers end (refused fault) lent now (Err fault)
 unfolding typed
-answers_refused kept = record { answers = refl; long = kept; writes = λ t e. let z : ◌≡◌ {A = ℕ} 0 1 = cc in absurd (omega arith) }
+answers_refused kept = record { answers = refl; long = kept; writes = λ t e. absurd (cc) }
 
 pub answers_written : {end n : ℕ} {pieces lent now : List ℕ} (t : Ty) → WrittenSoFar pieces lent now n → pieces ≡ type_bytes t []
     → Answers end (gives t) lent now (limited end n)
@@ -103,16 +104,16 @@ answers_written {end} {n} t so_far all =
     sized = sym so_far.long ∙ ap length all ∙ type_width t
 
 pub answers_small : {end n : ℕ} {pieces lent now : List ℕ} (t : Ty) → Small t → WrittenSoFar pieces lent now n → pieces ≡ type_bytes t []
-    → Answers end (gives t) lent now (Gives end n)
+    → Answers end (gives t) lent now (Ok (typed_at end n))
 answers_small {end} {n} t small so_far all =
     rw (← limited_small end {n = n} (omega (arith, small, so_far.long, ap length all, type_width t))) (answers_written t so_far all)
 
 -- What has to hold does not, or does.
-pub requires_fails : {end : ℕ} {b : Bool} {fault : Fault} (r : Result Ty) {lent now : List ℕ} → b ≡ false → length now ≡ length lent
-    → Answers end (require b fault r) lent now (Failed fault)
+pub requires_fails : {end : ℕ} {b : Bool} {fault : Fault} (r : Outcome Ty) {lent now : List ℕ} → b ≡ false → length now ≡ length lent
+    → Answers end (require b fault r) lent now (Err fault)
 requires_fails r e kept = rw e (answers_refused kept)
 
-pub requires_holds : {end : ℕ} {b : Bool} (fault : Fault) {r : Result Ty} {lent now : List ℕ} {answer : Typed} → b ≡ true
+pub requires_holds : {end : ℕ} {b : Bool} (fault : Fault) {r : Outcome Ty} {lent now : List ℕ} {answer : Result Typed Fault} → b ≡ true
     → Answers end r lent now answer → Answers end (require b fault r) lent now answer
 requires_holds fault e answered = rw e answered
 
@@ -121,12 +122,12 @@ requires_holds fault e answered = rw e answered
 pub record HasGiven (types : List ℕ) (place : TypePlace) (nodes : List ℕ) (from : ℕ) (held : List ℕ) (next many : ℕ) : Type 0 where
   pub lent : List ℕ
   pub room : 255 ≤ length lent
-  pub answer : Typed
+  pub answer : Result Typed Fault
   pub typed : TypesNode types place nodes from lent held answer
-  pub told : answer ≡ Gives next many
+  pub told : answer ≡ Ok (typed_at next many)
 
-pub has_given : {types : List ℕ} {place : TypePlace} {nodes : List ℕ} {from : ℕ} {lent held : List ℕ} {answer : Typed} {next many : ℕ} → length lent ≡ 255
-    → TypesNode types place nodes from lent held answer → answer ≡ Gives next many → HasGiven types place nodes from held next many
+pub has_given : {types : List ℕ} {place : TypePlace} {nodes : List ℕ} {from : ℕ} {lent held : List ℕ} {answer : Result Typed Fault} {next many : ℕ} → length lent ≡ 255
+    → TypesNode types place nodes from lent held answer → answer ≡ Ok (typed_at next many) → HasGiven types place nodes from held next many
 has_given {lent = lent} {answer = answer} long typed told =
     record { lent = lent; room = omega (arith, long); answer = answer; typed = typed; told = told }
 
