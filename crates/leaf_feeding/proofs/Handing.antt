@@ -1,78 +1,70 @@
--- Giving a type as it stands and leaving a node of one byte: what there is room for, and the answer.
-use mathlib.Core.Path.{◌≡◌, refl, sym, ap, ◌∙◌}
-use mathlib.Core.List.{List, [], ◌∷◌}
-use Prim.Native.Nat.{ℕ, ◌-◌, ◌≤◌, ◌<◌}
-use native.Mathlib.Omega.{arith}
-use lib.ListN.{length, take, drop, set}
-use Rattle.stream.specs.Types.{Ty, size}
+-- Giving a type as it is and leaving a node of one byte: what leads the work bytes, and the answer.
+use Rattle.std.specs.Prelude.{◌≡◌, refl, List, [], ◌∷◌, ℕ, ◌≤◌, ◌<◌, length, take, set, None, Some}
+use Rattle.std.proofs.Common.{sym, ap, ◌∙◌, arith}
+use Rattle.stream.specs.Types.{size}
 use Rattle.stream.specs.Prefixes.{Prefix}
 use Rattle.stream.specs.Buffers.{at_front}
+use Rattle.stream.specs.TypeFiles.{type_bytes}
 use Rattle.stream.specs.SliceFiles.{prefix_bytes}
-use Rattle.reading.specs.declared.types.TypePlace.{TypePlace}
+use Rattle.reading.specs.declared.types.TypeView.{TypeView}
 use Rattle.reading.specs.declared.inputs.Input.{Input}
-use Rattle.reading.specs.TypeReads.{TypeIn}
-use Rattle.reading.specs.TypeReads.Laws.{ends_inside}
+use Rattle.reading.specs.Views.{tree}
+use Rattle.reading.specs.InputViews.{type, prefix}
 use Rattle.reading.specs.SliceReads.{prefix_width}
-use Rattle.reading.specs.SliceReads.Laws.{prefix_inside, prefix_taken, prefix_bytes_length}
+use Rattle.reading.proofs.TypeViews.{size_is}
+use Rattle.reading.proofs.InputViews.{prefix_in, slice_short}
 use Rattle.node.specs.Nodes.{Node}
 use Rattle.node.specs.PatchFiles.{node_bytes}
-use Rattle.leaf_feeding.specs.declared.Step.{Step}
-use Rattle.leaf_feeding.specs.declared.Stepped.TheVariants.{Fed, Failed}
-use Rattle.leaf_feeding.specs.Steps.{Leads, Answers, fed, failed, LeafDue}
-use Rattle.leaf_feeding.specs.Steps.Laws.{byte_leads, type_copied, prefix_copied, prefix_room}
+use Rattle.patch_reading.specs.declared.fronts.NodeFront.{NodeFront}
+use Rattle.patch_reading.specs.Fronts.{node}
+use Rattle.patch_reading.specs.PatchReads.{node_width}
+use Rattle.patch_reading.proofs.NodeFronts.{bytes_are}
+use Rattle.leaf_feeding.specs.Steps.{Leads, Answers, fed, failed, Rooms, LeafRooms, HandsOn}
+use Rattle.leaf_feeding.specs.Steps.Laws.{front_leads, byte_leads}
 
--- The type at `place`.
-module _ {types : List ℕ} {place : TypePlace} {t : Ty} (type_in : TypeIn types place t) where
-  pub type_ends : place.end ≤ length types
-  type_ends = omega (arith, type_in.ends, ends_inside type_in.stands)
+-- The bytes of a node, copied as they stand, lead.
+pub node_leads : (v : NodeFront) {end : ℕ} {lent now : List ℕ} → end ≡ node_width (node v) → end ≤ length lent
+    → now ≡ at_front (take end v.bytes.now) lent → Leads (node_bytes (node v) []) lent now
+node_leads v {end} {lent} ends room copied =
+    let taken : take end v.bytes.now ≡ node_bytes (node v) [] = ap (λ n. take n v.bytes.now) ends ∙ bytes_are v in
+    front_leads (node_bytes (node v) []) lent (copied ∙ ap (λ l. at_front l lent) taken) (omega (arith, ends))
 
-  pub has_room : (given : List ℕ) → place.end - place.start ≤ length given → size t ≤ length given
-  has_room given room = omega (arith, type_in.ends)
+module _ (v : TypeView) where
+  -- So do those of a type.
+  pub type_leads : {lent now : List ℕ} → size (tree v) ≤ length lent → now ≡ at_front v.bytes.now lent → Leads (type_bytes (tree v) []) lent now
+  type_leads {lent} room copied = rw v.whole (front_leads v.bytes.now lent copied (omega (arith, size_is v)))
 
-  module _ {end : ℕ} {o : Prefix} {n : Node} {out remainder given out_after given_after : List ℕ} where
-    pub no_room : {remainder_after : List ℕ} → length given < place.end - place.start
-        → Answers (λ u. u ≡ t) end o n out remainder given out_after remainder_after given_after Failed
-    no_room few = failed (λ u same room. omega (arith, ap size same, type_in.ends))
+  module _ {o : Prefix} {n : Node} {out remainder given out_after given_after : List ℕ} where
+    pub no_room : {end : ℕ} {remainder_after : List ℕ} → length given < size (tree v)
+        → Answers (λ u. u ≡ tree v) end o n out remainder given out_after remainder_after given_after None
+    no_room few = failed (λ u same room. omega (arith, ap size same))
 
     -- It is given, o is sent, and a node of one byte is left.
-    pub given_whole : {k sent : ℕ} {step : Step} → place.end - place.start ≤ length given
-        → given_after ≡ at_front (take (place.end - place.start) (drop place.start types)) given
+    pub given_whole : {k sent many : ℕ} → many ≡ size (tree v) → size (tree v) ≤ length given → given_after ≡ at_front v.bytes.now given
         → Leads (prefix_bytes o []) out out_after → sent ≡ prefix_width o → node_bytes n [] ≡ k ∷ [] → 0 < length remainder
-        → step ≡ record { end = end; sent = sent; kept = 1; size = place.end - place.start }
-        → Answers (λ u. u ≡ t) end o n out remainder given out_after (set remainder 0 k) given_after (Fed step)
-    given_whole {k} {sent} {step} room copied output wide one byte_room told =
-        fed {step = step} refl
+        → Answers (λ u. u ≡ tree v) 1 o n out remainder given out_after (set remainder 0 k) given_after
+        (Some (record { end = 1; sent = sent; kept = 1; size = many }))
+    given_whole {k} {sent} {many} long room copied output wide one byte_room =
+        fed {step = record { end = 1; sent = sent; kept = 1; size = many }} refl
         (record {
-          ends = ap (λ s. s.end) told;
-          sent = ap (λ s. s.sent) told ∙ wide;
-          kept = ap (λ s. s.kept) told ∙ sym (ap length one);
-          sized = omega (arith, ap (λ s. s.size) told, type_in.ends);
+          ends = refl;
+          sent = wide;
+          kept = sym (ap length one);
+          sized = long;
           output = output;
           node_left = rw one (byte_leads k byte_room);
-          type_given = type_copied type_in (has_room given room) copied;
+          type_given = type_leads room copied;
         })
 
--- The prefix of it, which is sent as it is.
-module _ {types slice : List ℕ} {input : Input} {out remainder given : List ℕ} (due : LeafDue types slice input out remainder given) where
-  pub prefix_ends : input.prefix.end ≤ length slice
-  prefix_ends = omega (arith, due.stands.prefix_in.ends, prefix_inside due.stands.prefix_in.stands)
+-- Where a type has room, the prefix of it has.
+pub slice_fits : {out given : List ℕ} (i : Input) → Rooms out given → size (type i) ≤ length given → length i.slice.now ≤ length out
+slice_fits i rooms room = omega (arith, slice_short i, rooms.for_output)
 
-  module _ (room : input.ty.end - input.ty.start ≤ length given) where
-    sent_inside : prefix_width due.prefix ≤ length out
-    sent_inside = prefix_room due.room.rooms due.stands.is_prefix (has_room due.stands.type_in given room)
-
-    pub prefix_fits : length (take (input.prefix.end - input.prefix.start) (drop input.prefix.start slice)) ≤ length out
-    prefix_fits =
-        let long : input.prefix.end - input.prefix.start ≡ prefix_width due.prefix = omega (arith, due.stands.prefix_in.ends) in
-        rw (prefix_taken _ due.stands.prefix_in.stands long) (omega (arith, prefix_bytes_length due.prefix [], sent_inside))
-
-    pub handed_on : {k end : ℕ} {out_after given_after : List ℕ} {step : Step}
-        → given_after ≡ at_front (take (input.ty.end - input.ty.start) (drop input.ty.start types)) given
-        → out_after ≡ at_front (take (input.prefix.end - input.prefix.start) (drop input.prefix.start slice)) out
-        → step ≡ record { end = end; sent = input.prefix.end - input.prefix.start; kept = 1; size = input.ty.end - input.ty.start }
-        → (n : Node) → node_bytes n [] ≡ k ∷ []
-        → Answers (λ t. t ≡ due.type) end due.prefix n out remainder given out_after (set remainder 0 k) given_after (Fed step)
-    handed_on copied sent told n one =
-        let long : input.prefix.end - input.prefix.start ≡ prefix_width due.prefix = omega (arith, due.stands.prefix_in.ends) in
-        given_whole due.stands.type_in room copied (prefix_copied due.stands.prefix_in sent_inside sent) long one
-        (omega (arith, due.room.left_room)) told
+-- Both are handed on.
+pub handed_on : {out remainder given out_after given_after : List ℕ} {k : ℕ} (i : Input) → LeafRooms out remainder given
+    → size (type i) ≤ length given → given_after ≡ at_front i.ty.bytes.now given → out_after ≡ at_front i.slice.now out
+    → HandsOn k (type i) (prefix i) out remainder given out_after (set remainder 0 k) given_after
+    (Some (record { end = 1; sent = length i.slice.now; kept = 1; size = length i.ty.bytes.now }))
+handed_on {out} i rooms room copied sent n one =
+    given_whole i.ty (size_is i.ty) room copied (rw i.whole (front_leads i.slice.now out sent (slice_fits i rooms.rooms room))) (omega (arith, (prefix_in i).ends)) one
+    (omega (arith, rooms.left_room))

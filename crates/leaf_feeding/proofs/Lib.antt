@@ -1,3 +1,4 @@
+pub mod Placed
 pub mod Handing
 pub mod PartsFed
 pub mod SecondWaits
@@ -7,4 +8,3 @@ pub mod SilentSent
 pub mod FirstSpent
 pub mod Regrouped
 pub mod TypedFirst
-pub mod Marked

@@ -3,20 +3,25 @@
 // it takes, and if there is no room for the type that it gives. Where that has room, what is sent has.
 #![tactic(auto)]
 
-ghost use Rattle.std.specs.Prelude.{◌≡◌, ◌≤◌, length};
-ghost use Rattle.reading.specs.SliceReads.{SomePrefixIn};
-ghost use Rattle.node.specs.Nodes.{pass, left_side, right_side, first, second};
-ghost use Rattle.leaf_feeding.specs.Steps.{LeafRooms, LeafDue, LeafFed, CarryingDue, SilentFed, CueFed, LevelFed, HandsOn, WaitingDue, Waits, LeavesSilent};
+ghost use Rattle.std.specs.Prelude.{◌≡◌, ◌+◌, ◌≤◌, length};
+ghost use Rattle.stream.specs.Levels.{value_width};
+ghost use Rattle.reading.specs.Views.{tree};
+ghost use Rattle.reading.specs.InputViews.{type, prefix};
+ghost use Rattle.node.specs.Nodes.{pass, emit_cue, left_side, right_side, first, second};
+ghost use Rattle.node.specs.Nodes.Kinds.{node_kind};
+ghost use Rattle.patch_reading.specs.Fronts.{node};
+ghost use Rattle.leaf_feeding.specs.Steps.{LeafRooms, NodeAnswers, SilentAnswers, HandsOn, Waits, LeavesSilent};
 
-use reading::inputs::{Input, coming_part, halve};
-use reading::prefixes::{PrefixPlace, VALUE_WIDTH, opens};
-use reading::types::{NullableEnd, TypePlace, nullable_end};
+use patch_reading::fronts::NodeFront;
+use reading::inputs::{Input, Parts};
+use reading::prefixes::VALUE_WIDTH;
+use reading::types::TypeView;
 use writing::{copy, write_empty, write_silence, write_spent};
 
 pub mod reordered;
 
-// How a feed leaves a node: where the node ends, how many bytes it sends, how many the node left has, and how many nodes the type
-// that it gives.
+// What a feed of a node comes to: how many bytes the node has, how many are sent, how many the node left has, and how many nodes the
+// type that it gives.
 #[derive(Clone, Copy)]
 pub struct Step {
     pub end: usize,
@@ -25,285 +30,250 @@ pub struct Step {
     pub size: usize,
 }
 
-impl Step {
-    pub fn new(end: usize, sent: usize, kept: usize, size: usize) -> Step
-        ensures { result ≡ record { end = end; sent = sent; kept = kept; size = size } }
-    {
-        Step {
-            end,
-            sent,
-            kept,
-            size,
-        }
-    }
-}
-
-// What a feed answers. Why it failed is for Check's pass to find, which knows the first fault.
-#[derive(Clone, Copy)]
-pub enum Stepped {
-    Fed(Step),
-    Failed,
-}
-
 // Gives the type and sends the prefix, both as they are, and leaves a node of one byte.
+#[tactic(auto, using(reading::proofs::TypeViews::size_is, reading::proofs::InputViews::slice_short))]
 fn hand_on(
     kind: u8,
-    types: &[u8],
-    slice: &[u8],
-    input: Input,
-    end: usize,
+    input: Input<'_>,
     out: &mut [u8],
     remainder: &mut [u8],
     given: &mut [u8],
-) -> Stepped
-    requires { LeafDue types.now slice.now input out.old remainder.old given.old }
-    ensures { HandsOn kind types.now slice.now input end out.old remainder.old given.old out.new remainder.new given.new result }
+) -> Option<Step>
+    requires { LeafRooms out.old remainder.old given.old }
+    ensures { HandsOn kind (type input.entry) (prefix input.entry) out.old remainder.old given.old out.new remainder.new given.new result }
 {
-    let at = input.ty.start;
-    let behind = input.ty.end;
-    let size = behind - at;
-    if given.len() < size {
-        return Stepped::Failed;
+    let ty = input.ty.bytes;
+    if given.len() < ty.len() {
+        return None;
     }
-    copy(&types[at..behind], given);
-    let place = input.prefix.start;
-    let stop = input.prefix.end;
-    copy(&slice[place..stop], out);
+    copy(ty, given);
+    copy(input.slice, out);
     remainder[0] = kind;
-    Stepped::Fed(Step::new(end, stop - place, 1, size))
+    Some(Step {
+        end: 1,
+        sent: input.slice.len(),
+        kept: 1,
+        size: ty.len(),
+    })
 }
 
 // Pass sends the prefix.
 pub fn feed_pass(
-    types: &[u8],
-    slice: &[u8],
-    input: Input,
-    end: usize,
+    input: Input<'_>,
     out: &mut [u8],
     remainder: &mut [u8],
     given: &mut [u8],
-) -> Stepped
-    requires { LeafDue types.now slice.now input out.old remainder.old given.old }
-    ensures { LeafFed pass types.now slice.now input end out.old remainder.old given.old out.new remainder.new given.new result }
+) -> Option<Step>
+    requires { LeafRooms out.old remainder.old given.old }
+    ensures { NodeAnswers 1 (type input.entry) pass (prefix input.entry) out.old remainder.old given.old out.new remainder.new given.new result }
 {
-    hand_on(0, types, slice, input, end, out, remainder, given)
+    hand_on(0, input, out, remainder, given)
 }
 
-// Leaves silent with the empty type, once a type of one node is given.
-fn leave_silent(end: usize, sent: usize, remainder: &mut [u8]) -> Stepped
+// Leaves silent with the empty type, once a type of one node is given by a node of `end` bytes.
+fn leave_silent(end: usize, sent: usize, remainder: &mut [u8]) -> Option<Step>
     requires { 2 ≤ length remainder.old }
     ensures { LeavesSilent end sent remainder.old remainder.new result }
 {
     remainder[0] = 1;
     remainder[1] = 0;
-    Stepped::Fed(Step::new(end, sent, 2, 1))
+    Some(Step {
+        end,
+        sent,
+        kept: 2,
+        size: 1,
+    })
 }
 
 // Cue waits until the prefix opens it, and then sends itself, once.
 pub fn feed_cue(
-    slice: &[u8],
-    place: PrefixPlace,
-    end: usize,
+    input: Input<'_>,
     out: &mut [u8],
     remainder: &mut [u8],
     given: &mut [u8],
-) -> Stepped
-    requires some_prefix_in { SomePrefixIn slice.now place }
-    requires leaf_rooms { LeafRooms out.old remainder.old given.old }
-    ensures { CueFed slice.now place end out.old remainder.old given.old out.new remainder.new given.new result }
+) -> Option<Step>
+    requires { LeafRooms out.old remainder.old given.old }
+    ensures { NodeAnswers 1 (type input.entry) emit_cue (prefix input.entry) out.old remainder.old given.old out.new remainder.new given.new result }
 {
-    if given.len() == 0 {
-        return Stepped::Failed;
+    if given.is_empty() {
+        return None;
     }
     given[0] = 1;
-    if opens(slice, place) {
+    if input.opens() {
         out[0] = 2;
-        return leave_silent(end, 1, remainder);
+        return leave_silent(1, 1, remainder);
     }
     out[0] = 1;
     remainder[0] = 2;
-    Stepped::Fed(Step::new(end, 1, 1, 1))
+    Some(Step {
+        end: 1,
+        sent: 1,
+        kept: 1,
+        size: 1,
+    })
 }
 
 // Level waits as cue does, and then sends its value, once.
+#[tactic(auto, using(patch_reading::proofs::NodeFronts::value_inside, stream::proofs::Types::Laws::limit_is))]
 pub fn feed_level(
-    slice: &[u8],
-    place: PrefixPlace,
-    nodes: &[u8],
-    from: usize,
+    level: NodeFront<'_>,
+    input: Input<'_>,
     out: &mut [u8],
     remainder: &mut [u8],
     given: &mut [u8],
-) -> Stepped
-    requires some_prefix_in { SomePrefixIn slice.now place }
-    requires carrying_due { CarryingDue 3 nodes.now from out.old remainder.old given.old }
-    ensures { LevelFed slice.now place nodes.now from out.old remainder.old given.old out.new remainder.new given.new result }
+) -> Option<Step>
+    requires is_level { node_kind (node level) ≡ 3 }
+    requires leaf_rooms { LeafRooms out.old remainder.old given.old }
+    ensures { NodeAnswers (1 + value_width) (type input.entry) (node level.entry) (prefix input.entry) out.old remainder.old given.old out.new remainder.new given.new result }
 {
-    if given.len() == 0 {
-        return Stepped::Failed;
+    if given.is_empty() {
+        return None;
     }
-    let value = from + 1;
-    let end = value + VALUE_WIDTH;
+    let end = 1 + VALUE_WIDTH;
     given[0] = 2;
-    if opens(slice, place) {
+    if input.opens() {
         out[0] = 4;
-        copy(&nodes[value..end], &mut out[1..]);
+        copy(level.value(), &mut out[1..]);
         return leave_silent(end, 1 + VALUE_WIDTH, remainder);
     }
     out[0] = 3;
-    copy(&nodes[from..end], remainder);
-    Stepped::Fed(Step::new(end, 1, 1 + VALUE_WIDTH, 1))
+    copy(&level.bytes[..end], remainder);
+    Some(Step {
+        end,
+        sent: 1,
+        kept: end,
+        size: 1,
+    })
 }
 
-// Silent sends nothing of the type that it carries, which stands behind its kind byte, and stays.
+// Silent sends nothing of the type that it carries, which is behind its kind byte, and stays.
+#[tactic(auto, using(reading::proofs::TypeViews::size_is))]
 pub fn feed_silent(
-    nodes: &[u8],
-    from: usize,
+    silent: NodeFront<'_>,
     out: &mut [u8],
     remainder: &mut [u8],
     given: &mut [u8],
-) -> Stepped
-    requires { CarryingDue 1 nodes.now from out.old remainder.old given.old }
-    ensures { SilentFed nodes.now from out.old remainder.old given.old out.new remainder.new given.new result }
+) -> Option<Step>
+    requires is_silent { node_kind (node silent) ≡ 1 }
+    requires leaf_rooms { LeafRooms out.old remainder.old given.old }
+    ensures { SilentAnswers (node silent.entry) out.old remainder.old given.old out.new remainder.new given.new result }
 {
-    let at = from + 1;
-    match nullable_end(nodes, at) {
-        NullableEnd::Other => Stepped::Failed,
-        NullableEnd::At(end) => {
-            let size = end - at;
-            if given.len() < size {
-                return Stepped::Failed;
-            }
-            copy(&nodes[at..end], given);
-            write_silence(&nodes[at..end], out);
-            copy(&nodes[from..end], remainder);
-            Stepped::Fed(Step::new(end, size, 1 + size, size))
-        }
+    let carried = silent.carried();
+    if !carried.is_nullable() {
+        return None;
     }
+    let size = carried.size();
+    if given.len() < size {
+        return None;
+    }
+    let end = 1 + size;
+    copy(carried.bytes, given);
+    write_silence(carried, out);
+    copy(&silent.bytes[..end], remainder);
+    Some(Step {
+        end,
+        sent: size,
+        kept: end,
+        size,
+    })
 }
 
 // Left sends the first side.
 pub fn feed_left(
-    types: &[u8],
-    slice: &[u8],
-    input: Input,
-    end: usize,
+    input: Input<'_>,
     out: &mut [u8],
     remainder: &mut [u8],
     given: &mut [u8],
-) -> Stepped
-    requires { LeafDue types.now slice.now input out.old remainder.old given.old }
-    ensures { LeafFed left_side types.now slice.now input end out.old remainder.old given.old out.new remainder.new given.new result }
+) -> Option<Step>
+    requires { LeafRooms out.old remainder.old given.old }
+    ensures { NodeAnswers 1 (type input.entry) left_side (prefix input.entry) out.old remainder.old given.old out.new remainder.new given.new result }
 {
-    let at = input.ty.start;
-    if types[at] != 4 {
-        return Stepped::Failed;
+    match input.parts() {
+        Parts::Beside(side, _) => hand_on(5, side, out, remainder, given),
+        _ => None,
     }
-    let halves = halve(types, slice, input);
-    hand_on(5, types, slice, halves.first, end, out, remainder, given)
 }
 
 // Right sends the second side.
 pub fn feed_right(
-    types: &[u8],
-    slice: &[u8],
-    input: Input,
-    end: usize,
+    input: Input<'_>,
     out: &mut [u8],
     remainder: &mut [u8],
     given: &mut [u8],
-) -> Stepped
-    requires { LeafDue types.now slice.now input out.old remainder.old given.old }
-    ensures { LeafFed right_side types.now slice.now input end out.old remainder.old given.old out.new remainder.new given.new result }
+) -> Option<Step>
+    requires { LeafRooms out.old remainder.old given.old }
+    ensures { NodeAnswers 1 (type input.entry) right_side (prefix input.entry) out.old remainder.old given.old out.new remainder.new given.new result }
 {
-    let at = input.ty.start;
-    if types[at] != 4 {
-        return Stepped::Failed;
+    match input.parts() {
+        Parts::Beside(_, side) => hand_on(6, side, out, remainder, given),
+        _ => None,
     }
-    let halves = halve(types, slice, input);
-    hand_on(6, types, slice, halves.second, end, out, remainder, given)
 }
 
 // First sends what has come of the first part; after a crossing it stays silent with what that part leaves.
 pub fn feed_first(
-    types: &[u8],
-    slice: &[u8],
-    input: Input,
-    end: usize,
+    input: Input<'_>,
     out: &mut [u8],
     remainder: &mut [u8],
     given: &mut [u8],
-) -> Stepped
-    requires { LeafDue types.now slice.now input out.old remainder.old given.old }
-    ensures { LeafFed first types.now slice.now input end out.old remainder.old given.old out.new remainder.new given.new result }
+) -> Option<Step>
+    requires { LeafRooms out.old remainder.old given.old }
+    ensures { NodeAnswers 1 (type input.entry) first (prefix input.entry) out.old remainder.old given.old out.new remainder.new given.new result }
 {
-    let at = input.ty.start;
-    if types[at] != 3 {
-        return Stepped::Failed;
-    }
-    let start = input.prefix.start;
-    if slice[start] == 5 {
-        let part = coming_part(types, input);
-        return hand_on(7, types, slice, part, end, out, remainder, given);
-    }
-    let halves = halve(types, slice, input);
-    match hand_on(7, types, slice, halves.first, end, out, remainder, given) {
-        Stepped::Failed => Stepped::Failed,
-        Stepped::Fed(step) => {
+    match input.parts() {
+        Parts::Coming(part, _) => hand_on(7, part, out, remainder, given),
+        Parts::Crossed(part, _) => {
+            let step = hand_on(7, part, out, remainder, given)?;
             remainder[0] = 1;
-            let size = write_spent(slice, halves.first.prefix.start, &mut remainder[1..]);
-            Stepped::Fed(Step::new(end, step.sent, 1 + size, step.size))
+            let size = write_spent(part, &mut remainder[1..]);
+            Some(Step {
+                kept: 1 + size,
+                ..step
+            })
         }
+        _ => None,
     }
 }
 
 // Second while the first part is coming, of the type of the second part: it sends nothing of it.
+#[tactic(auto, using(reading::proofs::TypeViews::size_is))]
 fn feed_waiting(
-    types: &[u8],
-    place: TypePlace,
-    end: usize,
+    ty: TypeView<'_>,
     out: &mut [u8],
     remainder: &mut [u8],
     given: &mut [u8],
-) -> Stepped
-    requires { WaitingDue types.now place out.old remainder.old given.old }
-    ensures { Waits types.now place end out.old remainder.old given.old out.new remainder.new given.new result }
+) -> Option<Step>
+    requires { LeafRooms out.old remainder.old given.old }
+    ensures { Waits (tree ty.entry) out.old remainder.old given.old out.new remainder.new given.new result }
 {
-    let at = place.start;
-    let behind = place.end;
-    let size = behind - at;
+    let size = ty.size();
     if given.len() < size {
-        return Stepped::Failed;
+        return None;
     }
-    copy(&types[at..behind], given);
-    let sent = write_empty(types, at, out);
+    copy(ty.bytes, given);
+    let sent = write_empty(ty, out);
     remainder[0] = 8;
-    Stepped::Fed(Step::new(end, sent, 1, size))
+    Some(Step {
+        end: 1,
+        sent,
+        kept: 1,
+        size,
+    })
 }
 
 // Second sends nothing of the second part until the crossing, and then what comes of it.
 pub fn feed_second(
-    types: &[u8],
-    slice: &[u8],
-    input: Input,
-    end: usize,
+    input: Input<'_>,
     out: &mut [u8],
     remainder: &mut [u8],
     given: &mut [u8],
-) -> Stepped
-    requires { LeafDue types.now slice.now input out.old remainder.old given.old }
-    ensures { LeafFed second types.now slice.now input end out.old remainder.old given.old out.new remainder.new given.new result }
+) -> Option<Step>
+    requires { LeafRooms out.old remainder.old given.old }
+    ensures { NodeAnswers 1 (type input.entry) second (prefix input.entry) out.old remainder.old given.old out.new remainder.new given.new result }
 {
-    let at = input.ty.start;
-    if types[at] != 3 {
-        return Stepped::Failed;
+    match input.parts() {
+        Parts::Coming(_, part) => feed_waiting(part, out, remainder, given),
+        Parts::Crossed(_, part) => hand_on(0, part, out, remainder, given),
+        _ => None,
     }
-    let start = input.prefix.start;
-    if slice[start] == 5 {
-        let part = coming_part(types, input);
-        let place = TypePlace::new(part.ty.end, input.ty.end);
-        return feed_waiting(types, place, end, out, remainder, given);
-    }
-    let halves = halve(types, slice, input);
-    hand_on(0, types, slice, halves.second, end, out, remainder, given)
 }

@@ -1,62 +1,44 @@
--- `feed_first` meets its contract: it takes types of the kind 3 alone, and hands on the first part. After a crossing that is complete, and
--- what it leaves is written behind the kind byte of silent (`FirstSpent`).
+-- `feed_first` meets its contract: it takes sequences alone, and hands on the first part. After a crossing that is complete, and what it
+-- leaves is written behind the kind byte of silent (`FirstSpent`).
 use Rattle.std.proofs.Common.{refl, arith}
-use Rattle.stream.specs.Types.{type_limit}
-use Rattle.reading.specs.Inputs.Laws.{type_starts, prefix_starts}
-use Rattle.leaf_feeding.proofs.PartsFed.{first_takes, wrong_shape, coming_due, part_due, coming_answers, crossed_due, first_due}
-use Rattle.leaf_feeding.proofs.FirstSpent.{first_failed, spent_due, spent_small, spent_answers}
+use Rattle.stream.proofs.Types.Laws.{limit_is}
+use Rattle.node.specs.Nodes.{first, takes_first}
+use Rattle.node.specs.Nodes.Functions.{output_type}
+use Rattle.node.specs.Feeding.Functions.{sends, leaves}
+use Rattle.node.specs.PatchFiles.{node_bytes}
+use Rattle.reading.proofs.InputViews.{is_prefix}
+use Rattle.leaf_feeding.specs.Steps.Laws.{answers_alone}
+use Rattle.leaf_feeding.proofs.PartsFed.{first_fails}
+use Rattle.leaf_feeding.proofs.FirstSpent.{first_failed, spent_room, spent_small, spent_answers}
 use Rattle.leaf_feeding.proofs.feed_first.Goals as goal
 
-pub bounds-types-at : goal.bounds-types-at
-bounds-types-at c = type_starts c.requires.stands
+pub returns-in-Coming : goal.returns-in-Coming
+unfolding sends leaves output_type node_bytes
+returns-in-Coming c =
+    let made = c.in-Coming.ensures in
+    answers_alone made.0 made.1 takes_first (λ small. small) c.requires.rooms refl refl (c.hand_on.ensures first refl)
 
-pub returns-then-types-at-ne3 : goal.returns-then-types-at-ne3
-returns-then-types-at-ne3 c = record { each = λ due. wrong_shape due first_takes c.if-types-at-ne3.true }
+pub write_spent-size-requires-clause-room : goal.write_spent-size-requires-clause-room
+write_spent-size-requires-clause-room c =
+    spent_room c.in-Crossed.part c.in-Crossed.field-1 c.in-Crossed.ensures c.requires c.in_ok-step-in-Crossed.ensures refl
 
-pub bounds-slice-start : goal.bounds-slice-start
-bounds-slice-start c = prefix_starts c.requires.stands
-
-pub coming_part-part-requires : goal.coming_part-part-requires
-coming_part-part-requires c =
-    coming_due c.requires c.if-slice-start-eq5.true
-    (record { type_counted = omega (arith, type_starts c.requires.stands); prefix_counted = omega (arith, prefix_starts c.requires.stands) })
-
-pub hand_on-requires : goal.hand_on-requires
-hand_on-requires c = part_due c.requires c.if-slice-start-eq5.true c.coming_part-part.ensures
-
-pub returns-then-slice-start-eq5 : goal.returns-then-slice-start-eq5
-returns-then-slice-start-eq5 c =
-    record { each = λ due. coming_answers due c.if-slice-start-eq5.true c.coming_part-part.ensures c.hand_on.ensures }
-
-pub halve-halves-requires : goal.halve-halves-requires
-halve-halves-requires c = crossed_due c.requires c.if-types-at-ne3.false c.if-slice-start-eq5.false
-
-pub hand_on-requires-2 : goal.hand_on-requires-2
-hand_on-requires-2 c = first_due c.requires c.if-types-at-ne3.false c.if-slice-start-eq5.false c.halve-halves.ensures
-
-pub write_spent-size-requires : goal.write_spent-size-requires
-write_spent-size-requires c =
-    spent_due c.requires c.if-types-at-ne3.false c.if-slice-start-eq5.false c.halve-halves.ensures c.in-Fed.ensures refl
-
-pub overflow_add-size : goal.overflow_add-size
-unfolding type_limit
-overflow_add-size c =
+pub overflow_add-result : goal.overflow_add-result
+overflow_add-result c =
     omega (
       arith,
-      spent_small c.requires c.if-types-at-ne3.false c.if-slice-start-eq5.false c.halve-halves.ensures c.in-Fed.ensures refl
-          c.write_spent-size.ensures,
+      limit_is,
+      spent_small c.in-Crossed.part c.in-Crossed.field-1 c.in-Crossed.ensures c.requires c.in_ok-step-in-Crossed.ensures refl c.write_spent-size.ensures.size,
     )
 
-pub returns-in-Failed : goal.returns-in-Failed
-returns-in-Failed c =
-    record {
-      each = λ due. first_failed due c.if-types-at-ne3.false c.if-slice-start-eq5.false c.halve-halves.ensures c.in-Failed.ensures refl;
-    }
+pub returns-in_err-step-in-Crossed : goal.returns-in_err-step-in-Crossed
+returns-in_err-step-in-Crossed c =
+    rw c.from_residual.ensures
+    (first_failed c.in-Crossed.part c.in-Crossed.field-1 c.in-Crossed.ensures c.requires c.in_err-step-in-Crossed.ensures refl)
 
-pub returns-in-Fed : goal.returns-in-Fed
-returns-in-Fed c =
-    record {
-      each = λ due.
-          spent_answers due c.if-types-at-ne3.false c.if-slice-start-eq5.false c.halve-halves.ensures c.in-Fed.ensures refl
-          c.write_spent-size.ensures c.new.ensures;
-    }
+pub returns-in_ok-step-in-Crossed : goal.returns-in_ok-step-in-Crossed
+returns-in_ok-step-in-Crossed c =
+    spent_answers c.in-Crossed.part c.in-Crossed.field-1 c.in-Crossed.ensures c.requires c.in_ok-step-in-Crossed.ensures refl
+    c.write_spent-size.ensures.size c.write_spent-size.ensures.buffer
+
+pub returns-in_default : goal.returns-in_default
+returns-in_default c = first_fails c.parts.ensures (is_prefix c.args.input) c.in_default.not-Coming c.in_default.not-Crossed

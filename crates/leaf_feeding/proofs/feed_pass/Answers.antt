@@ -8,7 +8,4 @@ use Rattle.leaf_feeding.proofs.feed_pass.Goals as goal
 
 pub returns : goal.returns
 unfolding sends leaves node_bytes
-returns c =
-    record {
-      each = λ due. answers_alone refl refl takes_pass (λ small. small) due.room.rooms refl refl (c.hand_on.ensures.each due pass refl);
-    }
+returns c = answers_alone refl refl takes_pass (λ small. small) c.requires.rooms refl refl (c.hand_on.ensures pass refl)

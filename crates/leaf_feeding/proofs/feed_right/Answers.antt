@@ -1,19 +1,19 @@
--- `feed_right` meets its contract: it takes types of the kind 4 alone, and hands on the second side.
-use Rattle.reading.specs.Inputs.Laws.{type_starts}
-use Rattle.leaf_feeding.proofs.PartsFed.{right_takes, wrong_shape, sides_due, right_due, right_answers}
+-- `feed_right` meets its contract: it takes types of two sides alone, and hands on the second side.
+use Rattle.std.proofs.Common.{refl}
+use Rattle.node.specs.Nodes.{right_side, takes_right}
+use Rattle.node.specs.Nodes.Functions.{output_type}
+use Rattle.node.specs.Feeding.Functions.{sends, leaves}
+use Rattle.node.specs.PatchFiles.{node_bytes}
+use Rattle.reading.proofs.InputViews.{is_prefix}
+use Rattle.leaf_feeding.specs.Steps.Laws.{answers_alone}
+use Rattle.leaf_feeding.proofs.PartsFed.{right_fails}
 use Rattle.leaf_feeding.proofs.feed_right.Goals as goal
 
-pub bounds-types-at : goal.bounds-types-at
-bounds-types-at c = type_starts c.requires.stands
+pub returns-in-Beside : goal.returns-in-Beside
+unfolding sends leaves output_type node_bytes
+returns-in-Beside c =
+    let made = c.in-Beside.ensures in
+    answers_alone made.0 made.1 takes_right (λ small. small) c.requires.rooms refl refl (c.hand_on.ensures right_side refl)
 
-pub returns-then-types-at-ne4 : goal.returns-then-types-at-ne4
-returns-then-types-at-ne4 c = record { each = λ due. wrong_shape due right_takes c.if-types-at-ne4.true }
-
-pub halve-halves-requires : goal.halve-halves-requires
-halve-halves-requires c = sides_due c.requires c.if-types-at-ne4.false
-
-pub hand_on-requires : goal.hand_on-requires
-hand_on-requires c = right_due c.requires c.if-types-at-ne4.false c.halve-halves.ensures
-
-pub returns : goal.returns
-returns c = record { each = λ due. right_answers due c.if-types-at-ne4.false c.halve-halves.ensures c.hand_on.ensures }
+pub returns-in_default : goal.returns-in_default
+returns-in_default c = right_fails c.parts.ensures (is_prefix c.args.input) c.in_default.not-Beside

@@ -1,22 +1,13 @@
 -- The algebra of work bytes: what stands in front of them, and parts of them that are lent on and come back.
-use Rattle.std.specs.Prelude.{◌≡◌, refl, ℕ, ◌*◌, ◌-◌, ◌≤◌, ◌<◌, length, take, drop, set}
+use Rattle.std.specs.Prelude.{None, Option, Some, ◌≡◌, refl, ℕ, ◌*◌, ◌-◌, ◌≤◌, ◌<◌, length, take, drop, set}
 use Rattle.std.proofs.Common.{sym, ap, ◌∙◌, arith, length-append, take_at}
 use mathlib.Core.List.{List, [], ◌∷◌, ◌++◌, append_assoc}
 use Rattle.stream.specs.Types.{Ty, size, Small}
-use Rattle.stream.specs.Prefixes.{Prefix, IsPrefix, empty_prefix}
-use Rattle.stream.proofs.Prefixes.Laws.{empty_prefix_is_prefix}
+use Rattle.stream.specs.Prefixes.{Prefix, IsPrefix}
 use Rattle.stream.specs.Buffers.{at_front}
-use Rattle.stream.specs.TypeFiles.{type_bytes}
-use Rattle.stream.specs.SliceFiles.{prefix_bytes}
-use Rattle.stream.proofs.SliceFiles.Laws.{prefix_before}
-use Rattle.reading.specs.declared.types.TypePlace.{TypePlace}
-use Rattle.reading.specs.declared.prefixes.PrefixPlace.{PrefixPlace}
-use Rattle.reading.specs.TypeReads.{TypeAt, TypeIn}
-use Rattle.reading.specs.TypeReads.Laws.{type_before, type_width, bytes_at}
-use Rattle.reading.specs.SliceReads.{PrefixIn, prefix_width}
-use Rattle.reading.specs.SliceReads.Laws.{prefix_bytes_length, prefix_taken}
+use Rattle.reading.specs.TypeReads.Laws.{type_width}
+use Rattle.reading.specs.SliceReads.{prefix_width}
 use Rattle.reading.specs.Inputs.Laws.{width_within}
-use Rattle.writing.specs.Writing.{EmptyDue, EmptyWritten}
 use Rattle.writing.specs.Writing.Laws.{part, back, byte, front_length}
 use Rattle.writing.specs.Appending.Laws.{part_length, back_length}
 use Rattle.node.specs.Nodes.{Node, Takes, count}
@@ -29,8 +20,6 @@ use Rattle.node.proofs.Feeding.Laws.{preserved, leaves-count, leaves_fits}
 use Rattle.node.proofs.PatchFiles.Laws.{node_length}
 use Rattle.patch_reading.specs.PatchReads.{node_width}
 use Rattle.leaf_feeding.specs.declared.Step.{Step}
-use Rattle.leaf_feeding.specs.declared.Stepped.{Stepped}
-use Rattle.leaf_feeding.specs.declared.Stepped.TheVariants.{Fed, Failed}
 use Rattle.leaf_feeding.specs.Steps.{Leads, Steps, Answers, fed, failed, NodeAnswers, Rooms}
 use Rattle.stream.specs.Bounds.{twice_node_bytes}
 
@@ -71,30 +60,6 @@ module _ {e lent now : List ℕ} (leads : Leads e lent now) where
         long = back_length a now y (omega (arith, leads_inside, leads.long)) more.long ∙ leads.long;
       }
 
--- A type and a prefix that lead stand there, up to where they end.
-
-pub type_stands : {t : Ty} {lent now : List ℕ} → Leads (type_bytes t []) lent now → Small t → TypeIn now (record { start = 0; end = size t }) t
-type_stands {t} leads small =
-    record { stands = record { rest = leads.rest; here = leads.begins ∙ sym (type_before t leads.rest); small = small }; ends = omega arith }
-
-pub prefix_stands : {p : Prefix} {lent now : List ℕ} → Leads (prefix_bytes p []) lent now → PrefixIn now (record { start = 0; end = prefix_width p }) p
-prefix_stands {p} leads =
-    record { stands = record { rest = leads.rest; here = leads.begins ∙ sym (prefix_before p leads.rest) }; ends = omega arith }
-
--- A type and a prefix that are copied lead, where they have room.
-
-pub type_copied : {types : List ℕ} {place : TypePlace} {t : Ty} {lent now : List ℕ} → TypeIn types place t → size t ≤ length lent
-    → now ≡ at_front (take (place.end - place.start) (drop place.start types)) lent → Leads (type_bytes t []) lent now
-type_copied {types} {place} {t} {lent} type_in room copied =
-    let long : place.end - place.start ≡ size t = omega (arith, type_in.ends) in
-    front_leads (type_bytes t []) lent (rw (long, bytes_at type_in.stands) at copied) (omega (arith, type_width t))
-
-pub prefix_copied : {slice : List ℕ} {place : PrefixPlace} {p : Prefix} {lent now : List ℕ} → PrefixIn slice place p → prefix_width p ≤ length lent
-    → now ≡ at_front (take (place.end - place.start) (drop place.start slice)) lent → Leads (prefix_bytes p []) lent now
-prefix_copied {slice} {place} {p} {lent} prefix_in room copied =
-    let taken = prefix_taken (place.end - place.start) prefix_in.stands (omega (arith, prefix_in.ends)) in
-    front_leads (prefix_bytes p []) lent (rw taken at copied) (omega (arith, prefix_bytes_length p []))
-
 -- How many bytes the node left takes.
 pub left_width : {s t : Ty} {n : Node} {p : Prefix} → WellTyped s n t → IsPrefix s p → 2 * node_width (leaves s n p) ≤ twice_node_bytes (count n)
 left_width {s} {n = n} {p = p} typed h =
@@ -104,20 +69,6 @@ left_width {s} {n = n} {p = p} typed h =
 -- Where a type has room, each prefix of it has.
 pub prefix_room : {t : Ty} {p : Prefix} {out given : List ℕ} → Rooms out given → IsPrefix t p → size t ≤ length given → prefix_width p ≤ length out
 prefix_room rooms h room = omega (arith, rooms.for_output, width_within h)
-
--- So the empty prefix of a type that has room can be written, and then leads.
-module _ {types : List ℕ} {at : ℕ} {t : Ty} {out given : List ℕ} (stands : TypeAt types at t) (rooms : Rooms out given) (room : size t ≤ length given) where
-  pub empty_due : EmptyDue types at out
-  empty_due = record { type = t; stands = stands; room = prefix_room rooms (empty_prefix_is_prefix t) room }
-
-  module _ {out_after : List ℕ} {sent : ℕ} (written : EmptyWritten types at out out_after sent) where
-    pub empty_wide : sent ≡ prefix_width (empty_prefix t)
-    unfolding empty_due
-    empty_wide = (written.each empty_due).0
-
-    pub empty_leads : Leads (prefix_bytes (empty_prefix t) []) out out_after
-    unfolding empty_due
-    empty_leads = front_leads _ out (written.each empty_due).1 (omega (arith, prefix_bytes_length (empty_prefix t) [], empty_due.room))
 
 -- What an answer says.
 
@@ -132,16 +83,16 @@ module _ {end : ℕ} {o : Prefix} {n : Node} {out remainder given out_after rema
   type_inside {t} steps = omega (arith, leads_inside steps.type_given, type_width t)
 
   module _ {Gives : Ty → Type 0} where
-    pub was_fed : {step : Step} → Answers Gives end o n out remainder given out_after remainder_after given_after (Fed step)
+    pub was_fed : {step : Step} → Answers Gives end o n out remainder given out_after remainder_after given_after (Some step)
         → Gave Gives end o n out remainder given out_after remainder_after given_after step
     was_fed (fed gives steps) = record { type = _; gives = gives; steps = steps }
 
-    pub has_failed : Answers Gives end o n out remainder given out_after remainder_after given_after Failed
+    pub has_failed : Answers Gives end o n out remainder given out_after remainder_after given_after None
         → (t : Ty) → Gives t → size t ≤ length given → ⊥
     has_failed (failed none) = none
 
     -- The same answer where other words say which types may be given, and what is sent and left.
-    pub answers_as : {Others : Ty → Type 0} {u : Prefix} {m : Node} {answer : Stepped} → o ≡ u → n ≡ m
+    pub answers_as : {Others : Ty → Type 0} {u : Prefix} {m : Node} {answer : Option Step} → o ≡ u → n ≡ m
         → ((t : Ty) → Gives t → size t ≤ length given → Others t) → ((t : Ty) → Others t → Gives t)
         → Answers Gives end o n out remainder given out_after remainder_after given_after answer
         → Answers Others end u m out remainder given out_after remainder_after given_after answer
@@ -149,7 +100,7 @@ module _ {end : ℕ} {o : Prefix} {n : Node} {out remainder given out_after rema
     answers_as sent left there back (failed none) = failed (λ t other room. none t (back t other) room)
 
   -- A node without parts gives one type alone, if it takes s at all, and fits where that is small. What it is fed is told by its parts.
-  pub answers_alone : {s u t : Ty} {p q : Prefix} {m : Node} {answer : Stepped} → s ≡ u → p ≡ q → Takes u m t → (Small t → Fits u m)
+  pub answers_alone : {s u t : Ty} {p q : Prefix} {m : Node} {answer : Option Step} → s ≡ u → p ≡ q → Takes u m t → (Small t → Fits u m)
       → Rooms out given → o ≡ sends u m q → n ≡ leaves u m q
       → Answers (λ r. r ≡ t) end o n out remainder given out_after remainder_after given_after answer
       → NodeAnswers end s m p out remainder given out_after remainder_after given_after answer
