@@ -1,61 +1,27 @@
 -- Feeding both: each of its nodes gets the whole input, and what they answer together is what both answers.
-use mathlib.Core.Path.{◌≡◌, sym, ap}
-use mathlib.Core.List.{List}
-use Prim.Native.Nat.{ℕ, ◌+◌}
-use native.Mathlib.Omega.{arith}
-use lib.ListN.{get_or}
-use Rattle.reading.specs.declared.inputs.Input.{Input}
-use Rattle.node.specs.Nodes.{both}
+use Rattle.std.specs.Prelude.{Option, ◌≡◌, List, ℕ}
+use Rattle.std.proofs.Common.{sym, ap, arith}
+use Rattle.stream.specs.Types.{Ty}
+use Rattle.stream.specs.Prefixes.{Prefix}
+use Rattle.node.specs.Nodes.{Node, both}
+use Rattle.node.specs.Nodes.Kinds.{node_kind}
 use Rattle.node.specs.Feeding.Functions.{sends, leaves}
+use Rattle.patch_reading.specs.Fronts.{first_node, second_node}
 use Rattle.patch_reading.specs.PatchReads.{node_width}
-use Rattle.patch_reading.specs.PatchReads.Laws.{Parts as NodeParts, parts_at, both_forks}
-use Rattle.leaf_feeding.specs.declared.Stepped.{Stepped}
+use Rattle.patch_reading.proofs.NodeParts.{made_of}
+use Rattle.leaf_feeding.specs.declared.Step.{Step}
+use Rattle.leaf_feeding.specs.Steps.{NodeAnswers, Rooms}
 use Rattle.leaf_feeding.specs.Steps.Laws.{answers_as}
 use Rattle.feeding.specs.declared.Pair.TheVariants.{Beside}
-use Rattle.feeding.specs.declared.Parts.{Parts}
-use Rattle.feeding.specs.Feeds.{FeedDue, FeedsNode, FeedPartsDue, FeedsParts}
-use Rattle.feeding.proofs.Below.{both_count, parts_count}
+use Rattle.feeding.specs.Feeds.{PairAnswers}
 use Rattle.feeding.proofs.Typings.{both_parts, both_whole}
 
-module _ {types slice : List ℕ} {input : Input} {nodes : List ℕ} {from : ℕ} {out remainder given : List ℕ} (kind : get_or nodes from 0 ≡ 4)
-    {parts : Parts} (asks : parts ≡ record { pair = Beside; first = input; second = input }) where
-  abbrev nodes_at : (due : FeedDue types slice input nodes from out remainder given) → NodeParts both nodes from due.node
-  nodes_at due = parts_at both_forks kind due.node_at
-
-  pub both_due : FeedDue types slice input nodes from out remainder given
-      → FeedPartsDue types slice parts nodes (from + 1) out remainder given
-  both_due due =
-      let at = nodes_at due in
-      let counted = parts_count both_count at in
-      rw asks
-      (record {
-        first_type = due.type;
-        second_type = due.type;
-        first_node = at.first;
-        second_node = at.second;
-        first_prefix = due.prefix;
-        second_prefix = due.prefix;
-        first_stands = due.stands;
-        second_stands = due.stands;
-        first_at = at.first_at;
-        second_at = at.second_at;
-        few = omega (arith, due.few, counted);
-        rooms = due.rooms;
-        left_room = omega (arith, due.left_room, counted);
-      })
-
-  pub both_answers : {out_after remainder_after given_after : List ℕ} {answer : Stepped}
-      → FeedsParts types slice parts nodes (from + 1) out remainder given out_after remainder_after given_after answer
-      → FeedsNode types slice input nodes from out remainder given out_after remainder_after given_after answer
-  unfolding both_due sends leaves
-  both_answers feeds =
-      record {
-        each = λ due.
-            let at = nodes_at due in
-            let wide : from + node_width due.node ≡ from + 1 + node_width at.first + node_width at.second = omega (arith, at.wide) in
-            rw wide
-            (answers_as (sym (ap (λ n. sends due.type n due.prefix) at.made)) (sym (ap (λ n. leaves due.type n due.prefix) at.made))
-            (λ t typed room. rw at.made (both_whole typed (omega (arith, room, due.rooms.for_type))))
-            (λ t typed. both_parts (rw at.made at typed))
-            (rw asks at (feeds.each (both_due due))));
-      }
+pub both_answers : (n : Node) → node_kind n ≡ 4 → {s : Ty} (p : Prefix) {out remainder given out_after remainder_after given_after : List ℕ} {answer : Option Step}
+    → Rooms out given → PairAnswers Beside n s s p p out remainder given out_after remainder_after given_after answer
+    → NodeAnswers (node_width n) s n p out remainder given out_after remainder_after given_after answer
+unfolding sends leaves
+both_answers n four {s} p rooms answers =
+    let made : n ≡ both (first_node n) (second_node n) = made_of n four in
+    answers_as (sym (ap (λ k. sends s k p) made)) (sym (ap (λ k. leaves s k p) made))
+    (λ t typed room. rw made (both_whole typed (omega (arith, room, rooms.for_type))))
+    (λ t typed. both_parts (rw made at typed)) answers

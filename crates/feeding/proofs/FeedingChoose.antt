@@ -1,64 +1,105 @@
 -- Feeding choose: on either, by what is chosen. While nothing is, its own type is found, of which it sends the empty prefix, and its bytes
 -- are copied as they are.
-use mathlib.Core.Path.{◌≡◌, refl, sym, ap, ◌∙◌}
-use mathlib.Core.Bool.{false, true≢false}
-use mathlib.Core.List.{List, [], ◌++◌, append_assoc}
-use Prim.Native.Nat.{ℕ, ◌+◌, ◌-◌, ◌≤◌, ◌<◌}
-use native.Mathlib.Omega.{arith}
-use lib.ListN.{length, get_or, take, drop}
-use lib.Seq.{take_at, drop_at, length-take-le}
+use Rattle.std.specs.Prelude.{None, Ok, Option, Result, Some, ◌≡◌, refl, Bool, true, false, List, [], ◌++◌, ℕ, ◌-◌, ◌≤◌, ◌<◌, length, take, drop}
+use Rattle.std.specs.Result.{result_ok}
+use Rattle.std.specs.Cmp.Lexicographic.{pointwise}
+use Rattle.std.proofs.Common.{nat_eq, sym, ap, ◌∙◌, arith, append_assoc, take_at, drop_at, length-take-le}
+use Rattle.std.proofs.Math.Bool.{not, not-not}
 use Rattle.stream.specs.declared.Fault.{Fault}
-use Rattle.stream.specs.Types.{Ty, either, size, kind, same_type}
-use Rattle.stream.proofs.Types.Laws.{same_type-complete}
+use Rattle.stream.specs.Types.{Ty, either, size, kind, same_type, Small}
+use Rattle.stream.proofs.Types.Laws.{same_type_sound, same_type-complete}
 use Rattle.stream.specs.Buffers.{at_front}
-use Rattle.stream.specs.Prefixes.{Prefix, none_chosen, empty_prefix}
+use Rattle.stream.specs.Prefixes.{Prefix, none_chosen, empty_prefix, IsPrefix, of_none_chosen, of_first_chosen, of_second_chosen}
+use Rattle.stream.proofs.Prefixes.Laws.{empty_prefix_is_prefix}
 use Rattle.stream.specs.Prefixes.Kinds.{prefix_kind}
 use Rattle.stream.specs.TypeFiles.{type_bytes}
+use Rattle.stream.specs.SliceFiles.{prefix_bytes}
+use Rattle.stream.specs.TypeFiles.{type_of}
+use Rattle.stream.proofs.TypeFiles.Held as types
+use Rattle.stream.proofs.TypeFiles.Held.{type_width}
+use Rattle.reading.specs.SliceReads.{prefix_width}
+use Rattle.reading.specs.declared.types.TypeView.{TypeView}
 use Rattle.reading.specs.declared.inputs.Input.{Input}
-use Rattle.reading.specs.TypeReads.{TypeAt}
-use Rattle.reading.specs.TypeReads.Laws.{kind_at as type_kind_at, type_width}
-use Rattle.reading.specs.SliceReads.Laws.{kind_at}
-use Rattle.reading.specs.Inputs.{ChoiceDue as PartDue}
-use Rattle.reading.specs.Inputs.Laws.{Unchosen, is_unchosen, is_second_chosen}
-use Rattle.writing.specs.Writing.{EmptyDue, EmptyWritten}
+use Rattle.reading.specs.declared.inputs.Parts.{Parts}
+use Rattle.reading.specs.declared.inputs.Parts.TheVariants.{Leaf, Coming, Crossed, Beside, NoneChosen, FirstChosen, SecondChosen}
+use Rattle.reading.specs.InputViews.{MakeUp}
+use Rattle.writing.specs.Comparing.{compared}
 use Rattle.writing.specs.Writing.Laws.{part, back}
-use Rattle.node.specs.Nodes.{Node, choose, count, Takes, takes_choose}
+use Rattle.node.specs.Nodes.{Node, choose, Takes, takes_choose}
+use Rattle.node.specs.Nodes.Kinds.{node_kind}
 use Rattle.node.proofs.Nodes.Laws.{output_type_is, output_small}
 use Rattle.node.specs.Checking.{typing, WellTyped}
 use Rattle.node.proofs.Checking.Laws.{typing_sound}
 use Rattle.node.specs.Feeding.Functions.{sends, leaves}
 use Rattle.node.specs.PatchFiles.{node_bytes}
 use Rattle.node.proofs.PatchFiles.Laws.{node_length}
+use Rattle.patch_reading.specs.declared.fronts.NodeFront.{NodeFront}
+use Rattle.patch_reading.specs.Fronts.{node, first_node, second_node}
 use Rattle.patch_reading.specs.PatchReads.{node_width}
-use Rattle.patch_reading.specs.PatchReads.Laws.{Parts as NodeParts, parts_at, choose_forks, bytes_at, ends_inside}
+use Rattle.patch_reading.proofs.NodeParts.{made_of}
+use Rattle.patch_reading.proofs.NodeFronts.{inside, bytes_are}
 use Rattle.typing.specs.declared.Typed.{Typed}
-use Rattle.typing.specs.declared.Typed.TheVariants.{Gives, Failed as Refused}
-use Rattle.typing.specs.Typing.{TypingDue, TypesNode, Answers as TypingAnswers}
-use Rattle.typing.specs.Typing.Laws.{IsGiven, is_given, is_refused}
+use Rattle.typing.specs.Typing.{NodeTyped}
+use Rattle.typing.specs.Typing.Laws.{IsGiven, is_given}
 use Rattle.leaf_feeding.specs.declared.Step.{Step}
-use Rattle.leaf_feeding.specs.declared.Stepped.{Stepped}
-use Rattle.leaf_feeding.specs.declared.Stepped.TheVariants.{Fed, Failed}
 use Rattle.leaf_feeding.specs.Steps.{Leads, Steps, NodeAnswers, fed, failed}
-use Rattle.leaf_feeding.specs.Steps.Laws.{front_leads, type_stands, empty_due, empty_wide, empty_leads}
-use Rattle.feeding.specs.Feeds.{FeedDue, ChoiceDue}
-use Rattle.feeding.proofs.Below.{choose_count, parts_count}
-use Rattle.feeding.proofs.Typings.{only_type, untyped, ChooseTyped, choose_parts, choose_whole}
+use Rattle.leaf_feeding.specs.Steps.Laws.{front_leads, leads_taken, prefix_room}
+use Rattle.feeding.specs.Feeds.{NodeRooms}
+use Rattle.feeding.proofs.Typings.{one_size, no_type, ChooseTyped, choose_parts, choose_whole}
+use Rattle.feeding.proofs.FeedingParts.{width_is}
 
--- Choose takes either.
-takes_either : {s t : Ty} {n m : Node} → Takes s (choose n m) t → kind s ≡ 5
-takes_either (takes_choose d e) = refl
+module _ (n : Node) (fifteen : node_kind n ≡ 15) where
+  abbrev pub made : n ≡ choose (first_node n) (second_node n)
+  made = made_of n fifteen
 
--- The same typings under the names that a node and a type have.
-module _ {s t r : Ty} {n l m : Node} (node : n ≡ choose l m) (type : s ≡ either t r) where
-  whole_typed : {u : Ty} → ChooseTyped t r l m u → WellTyped s n u
-  whole_typed typed = rw (node, type) (choose_whole typed)
+  -- What the rules say of choose, by its parts, both ways.
 
-  parts_typed : {u : Ty} → WellTyped s n u → ChooseTyped t r l m u
-  parts_typed typed = choose_parts (rw (node, type) at typed)
+  pub in_choose : {s r t : Ty} → WellTyped (either s r) n t → ChooseTyped s r (first_node n) (second_node n) t
+  in_choose typed = choose_parts (rw made at typed)
 
--- Two types that differ are not both the one that choose gives.
-pub tell_apart : {t u whole : Ty} → same_type t u ≡ false → t ≡ whole → u ≡ whole → ⊥
-tell_apart {whole = whole} differ one other = true≢false (sym (same_type-complete whole) ∙ (rw (one, other) at differ))
+  pub of_choose : {s r t : Ty} → ChooseTyped s r (first_node n) (second_node n) t → WellTyped (either s r) n t
+  of_choose typed = rw made (choose_whole typed)
+
+-- On another type it fails: an input of either is of one of these.
+
+no_choice : {parts : Parts} {s r : Ty} {p : Prefix} → MakeUp parts (either s r) p → IsPrefix (either s r) p → (prefix_kind p ≡ 8 → ⊥)
+    → ((a : Input) (b : TypeView) → parts ≡ FirstChosen a b → ⊥) → ((a : Input) (b : TypeView) → parts ≡ SecondChosen a b → ⊥) → ⊥
+no_choice {parts = Leaf} cut of_none_chosen some first second = omega arith
+no_choice {parts = Leaf} cut (of_first_chosen h) some first second = omega arith
+no_choice {parts = Leaf} cut (of_second_chosen h) some first second = omega arith
+no_choice {parts = Coming a b} cut h some first second = omega (arith, ap kind cut.0)
+no_choice {parts = Crossed a b} cut h some first second = omega (arith, ap kind cut.0)
+no_choice {parts = Beside a b} cut h some first second = omega (arith, ap kind cut.0)
+no_choice {parts = NoneChosen a b} cut h some first second = some (ap prefix_kind cut.1)
+no_choice {parts = FirstChosen a b} cut h some first second = first a b refl
+no_choice {parts = SecondChosen a b} cut h some first second = second a b refl
+
+no_shape : {parts : Parts} {s t : Ty} {p : Prefix} {l m : Node} → MakeUp parts s p → IsPrefix s p → (prefix_kind p ≡ 8 → ⊥)
+    → ((a : Input) (b : TypeView) → parts ≡ FirstChosen a b → ⊥) → ((a : Input) (b : TypeView) → parts ≡ SecondChosen a b → ⊥)
+    → Takes s (choose l m) t → ⊥
+no_shape cut h some first second (takes_choose d e) = no_choice cut h some first second
+
+pub no_either : (n : Node) → node_kind n ≡ 15 → {parts : Parts} {s : Ty} {p : Prefix} → MakeUp parts s p → IsPrefix s p → (prefix_kind p ≡ 8 → ⊥)
+    → ((a : Input) (b : TypeView) → parts ≡ FirstChosen a b → ⊥) → ((a : Input) (b : TypeView) → parts ≡ SecondChosen a b → ⊥)
+    → {out remainder given out_after remainder_after given_after : List ℕ}
+    → NodeAnswers (node_width n) s n p out remainder given out_after remainder_after given_after None
+no_either n fifteen cut h some first second =
+    failed (λ t typed room. no_shape cut h some first second (rw (made n fifteen) at typed.types))
+
+-- Two types that are held and told apart by their bytes.
+module _ {first second : List ℕ} (t r : Ty) (small : Small t) (other : Small r) (is_first : first ≡ type_bytes t []) (is_second : second ≡ type_bytes r [])
+    {unlike : Bool} (told : unlike ≡ not (pointwise nat_eq first second)) where
+  same_is : same_type t r ≡ not unlike
+  same_is = sym ((compared (not unlike) (ap not told ∙ not-not _)).each t r small other is_first is_second)
+
+  pub types_agree : unlike ≡ false → t ≡ r
+  types_agree agree = same_type_sound t r (same_is ∙ ap not agree)
+
+  pub types_differ : {whole : Ty} → unlike ≡ true → t ≡ whole → r ≡ whole → ⊥
+  types_differ {whole} differ one two =
+      let same : same_type t r ≡ true = rw (one, two) (same_type-complete whole) in
+      let apart : same_type t r ≡ false = same_is ∙ ap not differ in
+      cc
 
 -- What leads a part that was lent on stands there when the part has come back.
 pub behind_taken : (a : ℕ) (x : List ℕ) {e y : List ℕ} {n : ℕ} → a ≤ length x → Leads e (part a x) y → n ≡ length e
@@ -72,174 +113,99 @@ behind_taken a x {e} {y} {n} inside leads long =
     ∙ take_at e (leads.rest ++ behind) n (sym long)
 
 -- What it sends and leaves while nothing is chosen.
-module _ {s t r : Ty} {n l m : Node} {p : Prefix} (node : n ≡ choose l m) (type : s ≡ either t r) (prefix : p ≡ none_chosen) where
-  unchosen_sends : {u : Ty} → Takes t l u → empty_prefix u ≡ sends s n p
-  unfolding sends
-  unchosen_sends takes = rw (node, type, prefix, output_type_is takes)
 
-  unchosen_leaves : n ≡ leaves s n p
-  unfolding leaves
-  unchosen_leaves = rw (prefix, node)
+sends_nothing : {s t : Ty} {l m : Node} → Takes s (choose l m) t → empty_prefix t ≡ sends s (choose l m) none_chosen
+unfolding sends
+sends_nothing (takes_choose d e) = ap empty_prefix (sym (output_type_is d))
 
-module _ {types slice : List ℕ} {input : Input} {nodes : List ℕ} {from : ℕ} {out remainder given : List ℕ} (byte : get_or nodes from 0 ≡ 15)
-    (due : FeedDue types slice input nodes from out remainder given) where
-  pub nodes_at : NodeParts choose nodes from due.node
-  nodes_at = parts_at choose_forks byte due.node_at
+unchosen_sends : {s t : Ty} {n l m : Node} → n ≡ choose l m → Takes s n t → empty_prefix t ≡ sends s n none_chosen
+unchosen_sends is takes = rw is (sends_nothing (rw is at takes))
 
-  pub counted : count due.node ≡ 1 + count nodes_at.first + count nodes_at.second
-  counted = omega (arith, parts_count choose_count nodes_at)
-
-  -- What it answers.
-  abbrev pub ChooseAnswer : (out_after remainder_after given_after : List ℕ) → Stepped → Type 0
-  ChooseAnswer = NodeAnswers (from + node_width due.node) due.type due.node due.prefix out remainder given
-
-  -- On another type it fails.
-  pub no_either : (get_or types input.ty.start 0 ≡ 5 → ⊥) → {out_after remainder_after given_after : List ℕ}
-      → ChooseAnswer out_after remainder_after given_after Failed
-  no_either other =
-      failed
-      (λ t typed room.
-      other (type_kind_at due.stands.type_in.stands ∙ takes_either {n = nodes_at.first} {m = nodes_at.second} (rw nodes_at.made at typed.types)))
-
-  -- Behind either stand 8, 9 or 10.
-  pub second_marked : get_or types input.ty.start 0 ≡ 5 → (get_or slice input.prefix.start 0 ≡ 8 → ⊥)
-      → (get_or slice input.prefix.start 0 ≡ 9 → ⊥) → get_or slice input.prefix.start 0 ≡ 10
-  second_marked five some other =
-      let mark = kind_at due.stands.prefix_in.stands in
-      let chosen = is_second_chosen due.stands.is_prefix (sym (type_kind_at due.stands.type_in.stands) ∙ five)
-      (λ e. some (mark ∙ e)) (λ e. other (mark ∙ e)) in
-      mark ∙ ap prefix_kind chosen.prefix_is
-
--- The same is asked whichever node, type and prefix stand there.
-abbrev pub asked_of : {k : ℕ} {types slice : List ℕ} {input : Input} {nodes : List ℕ} {from : ℕ} {out remainder given : List ℕ}
-    → ChoiceDue k types slice input nodes from out remainder given → FeedDue types slice input nodes from out remainder given
-    → ChoiceDue k types slice input nodes from out remainder given
-asked_of asked due = record { due = due; is_choose = asked.is_choose; is_either = asked.is_either; is_marked = asked.is_marked }
-
-module _ {k : ℕ} {types slice : List ℕ} {input : Input} {nodes : List ℕ} {from : ℕ} {out remainder given : List ℕ}
-    (asked : ChoiceDue k types slice input nodes from out remainder given) where
-  abbrev pub parts : NodeParts choose nodes from asked.due.node
-  parts = nodes_at asked.is_choose asked.due
-
-  abbrev pub Answer : (out_end remainder_end given_end : List ℕ) → Stepped → Type 0
-  Answer = ChooseAnswer asked.is_choose asked.due
-
-  -- What the rules say of choose, by its parts, both ways.
-
-  pub in_choose : {t r u : Ty} → asked.due.type ≡ either t r → WellTyped asked.due.type asked.due.node u
-      → ChooseTyped t r parts.first parts.second u
-  in_choose type typed = parts_typed parts.made type typed
-
-  pub of_choose : {t r u : Ty} → asked.due.type ≡ either t r → ChooseTyped t r parts.first parts.second u
-      → WellTyped asked.due.type asked.due.node u
-  of_choose type typed = whole_typed parts.made type typed
-
-  -- Where the parts stand is looked for.
-  pub part_due : PartDue types slice input
-  part_due =
-      let due = asked.due in
-      record {
-        type = due.type;
-        prefix = due.prefix;
-        stands = due.stands;
-        is_either = sym (type_kind_at due.stands.type_in.stands) ∙ asked.is_either;
-      }
+unchosen_leaves : (s : Ty) {n l m : Node} → n ≡ choose l m → n ≡ leaves s n none_chosen
+unfolding leaves
+unchosen_leaves s is = rw is refl
 
 -- No part is chosen.
-module _ {types slice : List ℕ} {input : Input} {nodes : List ℕ} {from : ℕ} {out remainder given : List ℕ}
-    (asked : ChoiceDue 8 types slice input nodes from out remainder given) where
-  abbrev due : FeedDue types slice input nodes from out remainder given
-  due = asked.due
+module _ (front : NodeFront) (fifteen : node_kind (node front) ≡ 15) (s : Ty) {out remainder given : List ℕ} (rooms : NodeRooms (node front) out remainder given) where
+  abbrev n : Node
+  n = node front
 
-  unchosen : Unchosen due.type due.prefix
-  unchosen = is_unchosen due.stands.is_prefix (sym (kind_at due.stands.prefix_in.stands) ∙ asked.is_marked)
+  abbrev Answer : (out_end remainder_end given_end : List ℕ) → Option Step → Type 0
+  Answer = NodeAnswers (node_width n) s n none_chosen out remainder given
 
-  -- Its own type is asked for.
-  pub whole_due : TypingDue types input.ty nodes from
-  whole_due = record { type = due.type; node = due.node; type_in = due.stands.type_in; node_at = due.node_at }
+  -- If it has no type, it fails.
+  pub whole_untyped : {given_after : List ℕ} {answer : Result Typed Fault} → NodeTyped s n given given_after answer → None ≡ result_ok answer
+      → {out_end remainder_end given_end : List ℕ} → Answer out_end remainder_end given_end None
+  whole_untyped answered none = failed (λ t typed room. no_type answered none typed)
 
-  module _ {given_after : List ℕ} {answer : Typed} (typed : TypesNode types input.ty nodes from given given_after answer) where
-    pub answered : TypingAnswers (from + node_width due.node) (typing due.type due.node) given given_after answer
-    unfolding whole_due
-    answered = typed.each whole_due
+  module _ {given_after : List ℕ} {told : Typed} (answered : NodeTyped s n given given_after (Ok told)) where
+    pub found : IsGiven (node_width n) told.end told.size (typing s n)
+    found = is_given _ _ answered.answers
 
-  -- If it has none, it fails.
-  pub whole_untyped : {given_after : List ℕ} {fault : Fault} → TypesNode types input.ty nodes from given given_after (Refused fault)
-      → {out_end remainder_end given_end : List ℕ} → Answer asked out_end remainder_end given_end Failed
-  whole_untyped typed = failed (λ t well fits. untyped (is_refused _ _ (answered typed).answers) well)
-
-  module _ {given_after : List ℕ} {end many : ℕ} (typed : TypesNode types input.ty nodes from given given_after (Gives end many)) where
-    found : IsGiven (from + node_width due.node) end many (typing due.type due.node)
-    found = is_given _ _ (answered typed).answers
-
-    well_typed : WellTyped due.type due.node found.type
-    well_typed = typing_sound _ _ _ due.node_at.carries found.given
+    well_typed : WellTyped s n found.type
+    well_typed = typing_sound _ _ _ front.front.carries found.given
 
     -- If there is no room for it, it fails.
-    pub no_room : length given_after < many → {out_end remainder_end given_end : List ℕ} → Answer asked out_end remainder_end given_end Failed
-    no_room short =
-        failed
-        (λ t well fits.
-        omega (
-          arith,
-          short,
-          fits,
-          (answered typed).long,
-          found.sized,
-          ap size (only_type well well_typed),
-        ))
+    pub no_room : length given_after < told.size → {out_end remainder_end given_end : List ℕ} → Answer out_end remainder_end given_end None
+    no_room short = failed (λ t typed room. omega (arith, short, room, answered.long, found.sized, one_size typed well_typed))
+
+    pub node_inside : told.end ≤ length front.bytes.now
+    node_inside = omega (arith, found.ends, inside front)
+
+    taken : take told.end front.bytes.now ≡ node_bytes n []
+    taken = rw found.ends (bytes_are front)
+
+    pub copy_room : length (take told.end front.bytes.now) ≤ length remainder
+    copy_room = omega (arith, ap length taken, rooms.left_room, node_length n [] front.front.carries)
 
     -- There is room.
-    module _ (fits : many ≤ length given_after) where
-      room : size found.type ≤ length given
-      room = omega (arith, fits, found.sized, (answered typed).long)
+    module _ (fits : told.size ≤ length given_after) where
+      roomy : size found.type ≤ length given
+      roomy = omega (arith, fits, found.sized, answered.long)
 
       type_leads : Leads (type_bytes found.type []) given given_after
       type_leads =
-          let inside : length (type_bytes found.type []) ≤ length given = omega (arith, room, type_width found.type) in
-          front_leads _ _ (((answered typed).writes _ found.given).in_front inside) inside
+          let wide : length (type_bytes found.type []) ≤ length given = omega (arith, roomy, type_width found.type) in
+          front_leads _ _ ((answered.writes _ found.given).in_front wide) wide
 
-      type_at : TypeAt given_after 0 found.type
-      type_at = (type_stands type_leads (output_small well_typed.types well_typed.fits)).stands
+      -- What was given is the type whose empty prefix is written.
+      type_held : types.Holds (take told.size given_after) found.type
+      type_held =
+          record {
+            bytes = leads_taken type_leads (found.sized ∙ sym (type_width found.type));
+            small = output_small well_typed.types well_typed.fits;
+          }
 
-      pub nothing_due : EmptyDue given_after 0 out
-      nothing_due = empty_due type_at due.rooms room
+      pub type_whole : type_bytes (type_of (take told.size given_after)) [] ≡ take told.size given_after
+      type_whole = types.is_whole type_held
 
-      pub node_ends : end ≤ length nodes
-      node_ends = omega (arith, found.ends, ends_inside due.node_at)
+      pub type_small : Small (type_of (take told.size given_after))
+      type_small = types.is_small type_held
 
-      pub node_forward : from ≤ end
-      node_forward = omega (arith, found.ends)
+      room : prefix_width (empty_prefix found.type) ≤ length out
+      room = prefix_room rooms.rooms (empty_prefix_is_prefix found.type) roomy
 
-      node_taken : take (end - from) (drop from nodes) ≡ node_bytes due.node []
-      node_taken =
-          let long : end - from ≡ node_width due.node = omega (arith, found.ends) in
-          rw long (bytes_at due.node_at)
+      pub nothing_room : prefix_width (empty_prefix (type_of (take told.size given_after))) ≤ length out
+      nothing_room = rw (types.has_tree type_held) room
 
-      node_room : node_width due.node ≤ length remainder
-      node_room = omega (arith, due.left_room, node_length due.node [] due.node_at.carries)
-
-      pub copy_room : length (take (end - from) (drop from nodes)) ≤ length remainder
-      copy_room = omega (arith, ap length node_taken, node_room)
-
-      pub waited : {sent : ℕ} {out_after remainder_after : List ℕ} {step : Step} → EmptyWritten given_after 0 out out_after sent
-          → remainder_after ≡ at_front (take (end - from) (drop from nodes)) remainder
-          → step ≡ record { end = end; sent = sent; kept = end - from; size = many }
-          → Answer asked out_after remainder_after given_after (Fed step)
-      waited {sent} {out_after} {remainder_after} written copied told =
-          let typed_parts = in_choose asked unchosen.type_is well_typed in
-          let sends_is = unchosen_sends (parts asked).made unchosen.type_is unchosen.prefix_is typed_parts.first_typed.types in
-          let leaves_is = unchosen_leaves (parts asked).made unchosen.type_is unchosen.prefix_is in
-          let node_leads : Leads (node_bytes due.node []) remainder remainder_after = rw (← node_taken) (front_leads _ remainder copied copy_room) in
-          let steps : Steps (from + node_width due.node) (empty_prefix found.type) due.node found.type
-          out remainder given out_after remainder_after given_after (record { end = end; sent = sent; kept = end - from; size = many })
+      pub waited : {sent : ℕ} {out_after remainder_after : List ℕ} → sent ≡ prefix_width (empty_prefix (type_of (take told.size given_after)))
+          → out_after ≡ at_front (prefix_bytes (empty_prefix (type_of (take told.size given_after))) []) out
+          → remainder_after ≡ at_front (take told.end front.bytes.now) remainder
+          → Answer out_after remainder_after given_after (Some (record { end = told.end; sent = sent; kept = told.end; size = told.size }))
+      waited {sent} {out_after} {remainder_after} wide written copied =
+          let empty_room : length (prefix_bytes (empty_prefix found.type) []) ≤ length out
+          = omega (arith, room, width_is (empty_prefix found.type)) in
+          let steps : Steps (node_width n) (empty_prefix found.type) n found.type
+          out remainder given out_after remainder_after given_after (record { end = told.end; sent = sent; kept = told.end; size = told.size })
           = record {
             ends = found.ends;
-            sent = empty_wide type_at due.rooms room written;
-            kept = omega (arith, found.ends);
+            sent = rw (types.has_tree type_held) at wide;
+            kept = found.ends;
             sized = found.sized;
-            output = empty_leads type_at due.rooms room written;
-            node_left = node_leads;
+            output = front_leads _ out (rw (types.has_tree type_held) at written) empty_room;
+            node_left = rw (← taken) (front_leads _ remainder copied copy_room);
             type_given = type_leads;
           } in
-          rw (told, ← sends_is, ← leaves_is) (fed well_typed steps)
+          let sends_is : empty_prefix found.type ≡ sends s n none_chosen = unchosen_sends (made n fifteen) well_typed.types in
+          let leaves_is : n ≡ leaves s n none_chosen = unchosen_leaves s (made n fifteen) in
+          rw (← sends_is, ← leaves_is) (fed well_typed steps)

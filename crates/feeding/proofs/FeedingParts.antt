@@ -1,46 +1,36 @@
--- Feeding two nodes in turn. Behind three kind bytes the first node is fed, and behind what it takes the second. Each call is asked what its
--- node is due. If one of them fails, its node has no type, or no room for it, and neither have both. Otherwise what they send, leave and
--- give stands one behind the other behind the kind bytes, and that is what the pair sends, leaves and gives; after a crossing the second
--- node's remainder goes over the first one's.
-use mathlib.Core.Path.{◌≡◌, refl, sym, ap, ◌∙◌}
-use mathlib.Core.List.{List, [], ◌∷◌, ◌++◌}
-use Prim.Native.Nat.{ℕ, ◌+◌, ◌*◌, ◌≤◌, ◌<◌}
-use native.Mathlib.Omega.{arith}
-use lib.ListN.{length, drop, set, length-append}
+-- Feeding two nodes in turn. Behind three kind bytes the first node is fed, and behind what it takes the second. If one of them fails, its
+-- node has no type, or no room for it, and neither have both. Otherwise what they send, leave and give stands one behind the other behind the
+-- kind bytes, and that is what the pair sends, leaves and gives; after a crossing the second node's remainder goes over the first one's.
+use Rattle.std.specs.Prelude.{None, Option, Some, Bool, true, false, ◌==◌, ◌≡◌, refl, List, [], ◌∷◌, ◌++◌, ℕ, suc, ◌+◌, ◌*◌, ◌≤◌, ◌<◌, length, set}
+use Rattle.std.proofs.Common.{sym, ap, ◌∙◌, arith, length-append, eqb-true}
+use Rattle.std.proofs.lemmas.Bool.{eqb-false}
 use Rattle.stream.specs.Types.{Ty, size}
-use Rattle.stream.specs.Bounds.{twice_node_bytes}
 use Rattle.stream.specs.Prefixes.{Prefix, IsPrefix}
 use Rattle.stream.specs.TypeFiles.{type_bytes}
 use Rattle.stream.specs.SliceFiles.{prefix_bytes}
 use Rattle.stream.proofs.SliceFiles.Laws.{prefix_before}
-use Rattle.reading.specs.TypeReads.Laws.{type_before, type_width}
+use Rattle.stream.proofs.TypeFiles.Held.{type_before, type_width}
 use Rattle.reading.specs.SliceReads.{prefix_width}
 use Rattle.reading.specs.SliceReads.Laws.{prefix_bytes_length}
 use Rattle.reading.specs.Inputs.Laws.{width_within}
 use Rattle.writing.specs.Writing.Laws.{part, back}
-use Rattle.writing.specs.Appending.Laws.{back_length}
 use Rattle.node.specs.Nodes.{Node, count}
+use Rattle.node.specs.Nodes.Kinds.{node_kind, node_arity}
 use Rattle.node.specs.Checking.{WellTyped}
 use Rattle.node.specs.Feeding.Functions.{sends, leaves}
 use Rattle.node.proofs.Feeding.Laws.{preserved}
 use Rattle.node.specs.PatchFiles.{node_bytes}
-use Rattle.patch_reading.specs.PatchReads.{node_width, NodeAt}
+use Rattle.patch_reading.specs.Fronts.{first_node, second_node}
+use Rattle.patch_reading.specs.PatchReads.{node_width}
 use Rattle.patch_reading.specs.PatchReads.Laws.{node_before}
+use Rattle.patch_reading.proofs.NodeParts.{forked, fork_width}
 use Rattle.leaf_feeding.specs.declared.Step.{Step}
-use Rattle.leaf_feeding.specs.declared.Stepped.{Stepped}
-use Rattle.leaf_feeding.specs.declared.Stepped.TheVariants.{Fed, Failed}
-use Rattle.leaf_feeding.specs.Steps.{Leads, Steps, Answers, fed, failed, Rooms}
+use Rattle.leaf_feeding.specs.Steps.{Leads, Steps, NodeAnswers, fed, failed}
 use Rattle.leaf_feeding.specs.Steps.Laws.{nothing_leads, byte_leads, leads_inside, leads_room, leads_on, left_width, Gave, was_fed, has_failed}
 use Rattle.feeding.specs.declared.Pair.{Pair}
 use Rattle.feeding.specs.declared.Pair.TheVariants.{Beside, Crossed}
-use Rattle.feeding.specs.declared.Parts.{Parts}
-use Rattle.feeding.specs.Feeds.{nodes_below, sent_kind, given_kind, kept_before, pair_sent, pair_left, pair_given, PairTyped, FeedDue, FeedsNode, FeedPartsDue}
-use Rattle.feeding.proofs.Below.{count_positive, below_one, below_two}
-use Rattle.feeding.proofs.Typings.{only_type}
-
--- A node gives types of one size at most.
-pub one_type : {s t u : Ty} {n : Node} → WellTyped s n t → WellTyped s n u → size t ≡ size u
-one_type a b = ap size (only_type a b)
+use Rattle.feeding.specs.Feeds.{sent_kind, given_kind, kept_before, pair_sent, pair_left, pair_given, NodeRooms, PairTyped, IsPair, PairAnswers}
+use Rattle.feeding.proofs.Typings.{one_size}
 
 -- How many bytes a prefix takes, by their list.
 pub width_is : (o : Prefix) → prefix_width o ≡ length (prefix_bytes o [])
@@ -60,8 +50,23 @@ pub written_on : {e f whole lent now y : List ℕ} {a n : ℕ} → Leads e lent 
 written_on {e} {f} leads first more second all =
     record { long = omega (arith, first, second, length-append e f, ap length all); leads = rw (← all) (leads_on leads first more) }
 
-pub taken_inside : {bytes lent now : List ℕ} {written : ℕ} → LeadsBy bytes lent now written → written ≤ length lent
-taken_inside by = omega (arith, by.long, leads_inside by.leads)
+-- So they have room, then and now.
+pub record Taken (lent now : List ℕ) (written : ℕ) : Type 0 where
+  pub had_room : written ≤ length lent
+  pub has_room : written ≤ length now
+
+pub taken : {bytes lent now : List ℕ} {written : ℕ} → LeadsBy bytes lent now written → Taken lent now written
+taken by =
+    let room = leads_inside by.leads in
+    record { had_room = omega (arith, by.long, room); has_room = omega (arith, by.long, room, by.leads.long) }
+
+-- Whether there is room for any byte.
+
+pub none_left : (s : List ℕ) {b : Bool} → b ≡ (length s == 0) → b ≡ true → length s ≡ 0
+none_left s told e = eqb-true (length s) 0 (sym told ∙ e)
+
+pub some_left : (s : List ℕ) {b : Bool} → b ≡ (length s == 0) → b ≡ false → 0 < length s
+some_left s told e = let other = eqb-false (length s) 0 (sym told ∙ e) in omega arith
 
 -- What is sent and given for both: a kind byte, and behind it the two.
 record Pairs (pair : Pair) : Type 0 where
@@ -109,369 +114,243 @@ stays Crossed many first =
       whole = λ m. refl;
     }
 
--- The stages of the code, each with what it has made known. None depends on which nodes stand there.
+pub two_parts : (pair : Pair) (n : Node) → IsPair pair n → node_arity (node_kind n) ≡ 2
+two_parts Beside n four = ap node_arity four
+two_parts Crossed n nine = ap node_arity nine
 
--- The three kind bytes are set.
-pub record Begun (pair : Pair) (given : List ℕ) : Type 0 where
-  pub sent_byte : ℕ
-  pub given_byte : ℕ
-  pub room : 0 < length given
-  pub sends_kind : sent_byte ≡ sent_kind pair
-  pub gives_kind : given_byte ≡ given_kind pair
+-- The three kind bytes are set, k, 4 and j.
+pub record Begun (pair : Pair) (n : Node) (s r : Ty) (p q : Prefix) (out remainder given : List ℕ) (k j : ℕ) : Type 0 where
+  pub is_pair : IsPair pair n
+  pub first_fits : IsPrefix s p
+  pub second_fits : IsPrefix r q
+  pub rooms : NodeRooms n out remainder given
+  pub sends_kind : k ≡ sent_kind pair
+  pub gives_kind : j ≡ given_kind pair
+  pub some : 0 < length given
 
--- The first node was fed behind them, with this answer, and the parts have come back.
-pub record FirstAnswered (types slice : List ℕ) (parts : Parts) (nodes : List ℕ) (from : ℕ) (out remainder given : List ℕ) (answer : Stepped) : Type 0 where
-  pub begun : Begun parts.pair given
-  pub out_part : List ℕ
-  pub remainder_part : List ℕ
-  pub given_part : List ℕ
-  pub out_long : length out_part ≡ length (part 1 (set out 0 begun.sent_byte))
-  pub remainder_long : length remainder_part ≡ length (part 1 (set remainder 0 4))
-  pub given_long : length given_part ≡ length (part 1 (set given 0 begun.given_byte))
-  pub feeds : FeedsNode types slice parts.first nodes from (part 1 (set out 0 begun.sent_byte)) (part 1 (set remainder 0 4))
-      (part 1 (set given 0 begun.given_byte)) out_part remainder_part given_part answer
+-- Before that there may be no room for a type.
+pub no_room : (pair : Pair) (n : Node) {s r : Ty} (p q : Prefix) {out remainder given out_end remainder_end given_end : List ℕ} → length given ≡ 0
+    → PairAnswers pair n s r p q out remainder given out_end remainder_end given_end None
+no_room pair n p q none = failed (λ t typed room. omega (arith, none, room, ap size typed.made, (pairs pair).sized typed.first typed.second))
 
-module _ {types slice : List ℕ} {parts : Parts} {nodes : List ℕ} {from : ℕ} {out remainder given : List ℕ} {answer : Stepped}
-    (first : FirstAnswered types slice parts nodes from out remainder given answer) where
-  abbrev pub out_then : List ℕ
-  out_then = back 1 (set out 0 first.begun.sent_byte) first.out_part
+module _ {pair : Pair} {n : Node} {s r : Ty} {p q : Prefix} {out remainder given : List ℕ} {k j : ℕ} (begun : Begun pair n s r p q out remainder given k j) where
+  abbrev l : Node
+  l = first_node n
 
-  abbrev pub remainder_then : List ℕ
-  remainder_then = back 1 (set remainder 0 4) first.remainder_part
+  abbrev m : Node
+  m = second_node n
 
-  abbrev pub given_then : List ℕ
-  given_then = back 1 (set given 0 first.begun.given_byte) first.given_part
+  counted : count n ≡ suc (count l + count m)
+  counted = (forked n (two_parts pair n begun.is_pair)).count
 
--- The first node has answered with a step, and it is known where the second node's remainder starts.
-pub record Halfway (types slice : List ℕ) (parts : Parts) (nodes : List ℕ) (from : ℕ) (out remainder given : List ℕ) : Type 0 where
-  pub step : Step
-  pub first : FirstAnswered types slice parts nodes from out remainder given (Fed step)
-  pub left : ℕ
-  pub restarts : left ≡ kept_before parts.pair step.kept
-
--- The second node was fed behind what the first has taken.
-pub record SecondAnswered (types slice : List ℕ) (parts : Parts) (nodes : List ℕ) (from : ℕ) (out remainder given : List ℕ) (answer : Stepped) : Type 0 where
-  pub half : Halfway types slice parts nodes from out remainder given
-  pub out_part : List ℕ
-  pub remainder_part : List ℕ
-  pub given_part : List ℕ
-  pub feeds : FeedsNode types slice parts.second nodes half.step.end (part (1 + half.step.sent) (out_then half.first))
-      (part half.left (remainder_then half.first)) (part (1 + half.step.size) (given_then half.first))
-      out_part remainder_part given_part answer
-
-module _ {types slice : List ℕ} {parts : Parts} {nodes : List ℕ} {from : ℕ} {out remainder given : List ℕ} {answer : Stepped}
-    (second : SecondAnswered types slice parts nodes from out remainder given answer) where
-  abbrev out_after : List ℕ
-  out_after = back (1 + second.half.step.sent) (out_then second.half.first) second.out_part
-
-  abbrev remainder_after : List ℕ
-  remainder_after = back second.half.left (remainder_then second.half.first) second.remainder_part
-
-  abbrev given_after : List ℕ
-  given_after = back (1 + second.half.step.size) (given_then second.half.first) second.given_part
-
-module _ {types slice : List ℕ} {parts : Parts} {nodes : List ℕ} {from : ℕ} {out remainder given : List ℕ}
-    (due : FeedPartsDue types slice parts nodes from out remainder given) where
-  abbrev pair : Pair
-  pair = parts.pair
+  wide : node_width n ≡ suc (node_width l + node_width m)
+  wide = fork_width n (two_parts pair n begun.is_pair)
 
   -- What each sends and leaves.
 
   abbrev first_sent : Prefix
-  first_sent = sends due.first_type due.first_node due.first_prefix
+  first_sent = sends s l p
 
   abbrev second_sent : Prefix
-  second_sent = sends due.second_type due.second_node due.second_prefix
+  second_sent = sends r m q
 
   abbrev first_left : Node
-  first_left = leaves due.first_type due.first_node due.first_prefix
+  first_left = leaves s l p
 
   abbrev second_left : Node
-  second_left = leaves due.second_type due.second_node due.second_prefix
+  second_left = leaves r m q
 
-  abbrev PartsAnswer : (out_end remainder_end given_end : List ℕ) → Stepped → Type 0
-  PartsAnswer =
-      Answers (PairTyped pair due.first_type due.second_type due.first_node due.second_node)
-      (from + node_width due.first_node + node_width due.second_node)
-      (pair_sent pair first_sent second_sent) (pair_left pair first_left second_left) out remainder given
+  abbrev Answer : (out_end remainder_end given_end : List ℕ) → Option Step → Type 0
+  Answer = PairAnswers pair n s r p q out remainder given
 
-  -- Each has fewer nodes than the two together.
+  abbrev out_now : List ℕ
+  out_now = set out 0 k
 
-  below_both : nodes_below 2 (drop from nodes) ≡ count due.first_node + count due.second_node
-  below_both = below_two due.first_at due.second_at (omega (arith, due.few)) (omega (arith, due.few))
+  abbrev left_now : List ℕ
+  left_now = set remainder 0 4
 
-  pub first_falls : nodes_below 1 (drop from nodes) < nodes_below 2 (drop from nodes)
-  first_falls = omega (arith, below_both, below_one due.first_at (omega (arith, due.few)), count_positive due.second_node)
+  abbrev given_now : List ℕ
+  given_now = set given 0 j
 
-  -- All have room for a byte, unless there is none for a type.
+  out_begun : Leads (sent_kind pair ∷ []) out out_now
+  out_begun = rw begun.sends_kind (byte_leads (sent_kind pair) (omega (arith, begun.some, begun.rooms.rooms.for_output)))
 
-  pub byte_remainder : 0 < length remainder
-  byte_remainder = omega (arith, due.left_room)
+  remainder_begun : Leads (4 ∷ []) remainder left_now
+  remainder_begun = byte_leads 4 (omega (arith, begun.rooms.left_room))
 
-  pub byte_out : 0 < length given → 0 < length out
-  byte_out room = omega (arith, due.rooms.for_output)
+  given_begun : Leads (given_kind pair ∷ []) given given_now
+  given_begun = rw begun.gives_kind (byte_leads (given_kind pair) begun.some)
 
-  pub no_room : {out_end remainder_end given_end : List ℕ} → length given ≡ 0 → PartsAnswer out_end remainder_end given_end Failed
-  no_room none = failed (λ t typed room. omega (arith, none, room, ap size typed.made, (pairs pair).sized typed.first typed.second))
+  pub first_rooms : NodeRooms l (part 1 out_now) (part 1 left_now) (part 1 given_now)
+  first_rooms =
+      record {
+        few = omega (arith, begun.rooms.few, counted);
+        rooms =
+            record {
+              for_type = omega (arith, begun.rooms.rooms.for_type, leads_room given_begun 1);
+              for_output = omega (arith, begun.some, begun.rooms.rooms.for_output, leads_room given_begun 1, leads_room out_begun 1);
+            };
+        left_room = omega (arith, begun.rooms.left_room, counted, leads_room remainder_begun 1);
+      }
 
-  remainder_begun : Leads (4 ∷ []) remainder (set remainder 0 4)
-  remainder_begun = byte_leads 4 byte_remainder
+  -- The first node was fed, and the parts have come back.
 
-  pub remainder_begins : 1 ≤ length (set remainder 0 4)
-  remainder_begins = omega (arith, byte_remainder, remainder_begun.long)
+  abbrev FirstAnswer : (one_out one_left one_given : List ℕ) → Option Step → Type 0
+  FirstAnswer = NodeAnswers (node_width l) s l p (part 1 out_now) (part 1 left_now) (part 1 given_now)
 
-  -- The kind bytes are set.
-  module _ (begun : Begun pair given) where
-    abbrev out_now : List ℕ
-    out_now = set out 0 begun.sent_byte
+  module _ {one_out one_left one_given : List ℕ} where
+    -- If it fails, both fail.
+    pub first_fails : FirstAnswer one_out one_left one_given None → {out_end remainder_end given_end : List ℕ} → Answer out_end remainder_end given_end None
+    first_fails first =
+        failed
+        (λ t typed fits.
+        has_failed first typed.first typed.first_typed
+        (omega (arith, fits, ap size typed.made, (pairs pair).sized typed.first typed.second, leads_room given_begun 1)))
 
-    abbrev given_now : List ℕ
-    given_now = set given 0 begun.given_byte
+    -- It has answered with a step.
+    module _ {step : Step} (first : FirstAnswer one_out one_left one_given (Some step)) where
+      pub gave : Gave (WellTyped s l) (node_width l) first_sent first_left (part 1 out_now) (part 1 left_now) (part 1 given_now) one_out one_left one_given step
+      gave = was_fed first
 
-    out_begun : Leads (sent_kind pair ∷ []) out out_now
-    out_begun = rw begun.sends_kind (byte_leads (sent_kind pair) (byte_out begun.room))
+      abbrev out_then : List ℕ
+      out_then = back 1 out_now one_out
 
-    given_begun : Leads (given_kind pair ∷ []) given given_now
-    given_begun = rw begun.gives_kind (byte_leads (given_kind pair) begun.room)
+      abbrev left_then : List ℕ
+      left_then = back 1 left_now one_left
 
-    pub out_begins : 1 ≤ length out_now
-    out_begins = omega (arith, byte_out begun.room, out_begun.long)
+      abbrev given_then : List ℕ
+      given_then = back 1 given_now one_given
 
-    pub given_begins : 1 ≤ length given_now
-    given_begins = omega (arith, begun.room, given_begun.long)
+      -- What stands in the work bytes once the first node is fed.
 
-    -- The first node is asked for what it is due.
+      output : LeadsBy (sent_kind pair ∷ prefix_bytes first_sent []) out out_then (1 + step.sent)
+      output = written_on out_begun refl gave.steps.output (gave.steps.sent ∙ width_is first_sent) refl
 
-    first_rooms : Rooms (part 1 out_now) (part 1 given_now)
-    first_rooms =
-        record {
-          for_type = omega (arith, due.rooms.for_type, leads_room given_begun 1);
-          for_output = omega (arith, begun.room, due.rooms.for_output, leads_room given_begun 1, leads_room out_begun 1);
-        }
+      node_left : LeadsBy (4 ∷ node_bytes first_left []) remainder left_then (1 + step.kept)
+      node_left = written_on remainder_begun refl gave.steps.node_left gave.steps.kept refl
 
-    pub first_due : FeedDue types slice parts.first nodes from (part 1 out_now) (part 1 (set remainder 0 4)) (part 1 given_now)
-    first_due =
-        record {
-          type = due.first_type;
-          node = due.first_node;
-          prefix = due.first_prefix;
-          stands = due.first_stands;
-          node_at = due.first_at;
-          few = omega (arith, due.few);
-          rooms = first_rooms;
-          left_room = omega (arith, due.left_room, leads_room remainder_begun 1);
-        }
+      type_given : LeadsBy (given_kind pair ∷ type_bytes gave.type []) given given_then (1 + step.size)
+      type_given = written_on given_begun refl gave.steps.type_given (gave.steps.sized ∙ sym (type_width gave.type)) refl
 
-  -- The first node has answered: all is as long as it was.
-  module _ {answer : Stepped} (first : FirstAnswered types slice parts nodes from out remainder given answer) where
-    pub out_back : length (out_then first) ≡ length out
-    out_back = back_length 1 (out_now first.begun) first.out_part (out_begins first.begun) first.out_long ∙ (out_begun first.begun).long
+      pub out_taken : Taken out out_then (1 + step.sent)
+      out_taken = taken output
 
-    pub remainder_back : length (remainder_then first) ≡ length remainder
-    remainder_back = back_length 1 (set remainder 0 4) first.remainder_part remainder_begins first.remainder_long ∙ remainder_begun.long
+      pub left_taken : Taken remainder left_then (1 + step.kept)
+      left_taken = taken node_left
 
-    pub given_back : length (given_then first) ≡ length given
-    given_back = back_length 1 (given_now first.begun) first.given_part (given_begins first.begun) first.given_long ∙ (given_begun first.begun).long
+      pub given_taken : Taken given given_then (1 + step.size)
+      given_taken = taken type_given
 
-  -- If it fails, both fail.
-  pub first_fails : FirstAnswered types slice parts nodes from out remainder given Failed → {out_end remainder_end given_end : List ℕ}
-      → PartsAnswer out_end remainder_end given_end Failed
-  unfolding first_due
-  first_fails first =
-      failed
-      (λ t typed fits.
-      has_failed (first.feeds.each (first_due first.begun)) typed.first typed.first_typed
-      (omega (arith, fits, ap size typed.made, (pairs pair).sized typed.first typed.second, leads_room (given_begun first.begun) 1)))
+      -- It is known where the second node's remainder starts.
+      module _ {left : ℕ} (restarts : left ≡ kept_before pair step.kept) where
+        kept : Stays pair first_left left remainder left_then
+        kept = rw restarts (stays pair step.kept node_left)
 
-  -- It has answered with a step.
-  module _ {step : Step} (first : FirstAnswered types slice parts nodes from out remainder given (Fed step)) where
-    gave : Gave (WellTyped due.first_type due.first_node) (from + node_width due.first_node) first_sent first_left
-        (part 1 (out_now first.begun)) (part 1 (set remainder 0 4)) (part 1 (given_now first.begun))
-        first.out_part first.remainder_part first.given_part step
-    unfolding first_due
-    gave = was_fed (first.feeds.each (first_due first.begun))
+        pub left_inside : left ≤ length left_then
+        left_inside = (taken kept.written).has_room
 
-    -- What stands in the work bytes once the first node is fed.
+        pub second_rooms : NodeRooms m (part (1 + step.sent) out_then) (part left left_then) (part (1 + step.size) given_then)
+        second_rooms =
+            record {
+              few = omega (arith, begun.rooms.few, counted);
+              rooms =
+                  record {
+                    for_type = omega (arith, begun.rooms.rooms.for_type, leads_room type_given.leads (1 + step.size));
+                    for_output =
+                        omega (
+                          arith,
+                          begun.rooms.rooms.for_output,
+                          given_taken,
+                          gave.steps.sent,
+                          gave.steps.sized,
+                          sent_within gave.gives begun.first_fits,
+                          leads_room output.leads (1 + step.sent),
+                          leads_room type_given.leads (1 + step.size),
+                        );
+                  };
+              left_room =
+                  omega (arith, begun.rooms.left_room, counted, kept.short, left_width gave.gives begun.first_fits, leads_room kept.written.leads left);
+            }
 
-    output : LeadsBy (sent_kind pair ∷ prefix_bytes first_sent []) out (out_then first) (1 + step.sent)
-    output = written_on (out_begun first.begun) refl gave.steps.output (gave.steps.sent ∙ width_is first_sent) refl
+        -- The second node was fed, on the parts behind.
 
-    node_left : LeadsBy (4 ∷ node_bytes first_left []) remainder (remainder_then first) (1 + step.kept)
-    node_left = written_on remainder_begun refl gave.steps.node_left gave.steps.kept refl
+        abbrev SecondAnswer : (two_out two_left two_given : List ℕ) → Option Step → Type 0
+        SecondAnswer =
+            NodeAnswers (node_width m) r m q (part (1 + step.sent) out_then) (part left left_then) (part (1 + step.size) given_then)
 
-    type_given : LeadsBy (given_kind pair ∷ type_bytes gave.type []) given (given_then first) (1 + step.size)
-    type_given =
-        written_on (given_begun first.begun) refl gave.steps.type_given (gave.steps.sized ∙ sym (type_width gave.type)) refl
-
-    -- The second node has fewer nodes too.
-    pub second_falls : nodes_below 1 (drop step.end nodes) < nodes_below 2 (drop from nodes)
-    second_falls =
-        let second_below : nodes_below 1 (drop step.end nodes) ≡ count due.second_node
-        = rw gave.steps.ends (below_one due.second_at (omega (arith, due.few))) in
-        omega (arith, below_both, second_below, count_positive due.first_node)
-
-    -- What the first node has taken has room.
-
-    pub out_taken : 1 + step.sent ≤ length out
-    out_taken = taken_inside output
-
-    pub remainder_taken : 1 + step.kept ≤ length remainder
-    remainder_taken = taken_inside node_left
-
-    pub given_taken : 1 + step.size ≤ length given
-    given_taken = taken_inside type_given
-
-    pub out_left : 1 + step.sent ≤ length (out_then first)
-    out_left = omega (arith, out_taken, out_back first)
-
-    pub given_left : 1 + step.size ≤ length (given_then first)
-    given_left = omega (arith, given_taken, given_back first)
-
-  -- The second node is asked for what it is due, on the parts behind.
-  module _ (half : Halfway types slice parts nodes from out remainder given) where
-    abbrev step : Step
-    step = half.step
-
-    kept : Stays pair first_left half.left remainder (remainder_then half.first)
-    kept = rw half.restarts (stays pair step.kept (node_left half.first))
-
-    pub remainder_left : half.left ≤ length (remainder_then half.first)
-    remainder_left = omega (arith, taken_inside kept.written, remainder_back half.first)
-
-    second_node_at : NodeAt nodes step.end due.second_node
-    second_node_at = rw (gave half.first).steps.ends due.second_at
-
-    second_rooms : Rooms (part (1 + step.sent) (out_then half.first)) (part (1 + step.size) (given_then half.first))
-    second_rooms =
-        record {
-          for_type = omega (arith, due.rooms.for_type, leads_room (type_given half.first).leads (1 + step.size));
-          for_output =
-              omega (
+        module _ {two_out two_left two_given : List ℕ} where
+          pub second_fails : SecondAnswer two_out two_left two_given None → {out_end remainder_end given_end : List ℕ} → Answer out_end remainder_end given_end None
+          second_fails second =
+              failed
+              (λ t typed fits.
+              has_failed second typed.second typed.second_typed
+              (omega (
                 arith,
-                due.rooms.for_output,
-                given_taken half.first,
-                (gave half.first).steps.sent,
-                (gave half.first).steps.sized,
-                sent_within (gave half.first).gives due.first_stands.is_prefix,
-                leads_room (output half.first).leads (1 + step.sent),
-                leads_room (type_given half.first).leads (1 + step.size),
-              );
-        }
+                fits,
+                ap size typed.made,
+                (pairs pair).sized typed.first typed.second,
+                one_size gave.gives typed.first_typed,
+                gave.steps.sized,
+                leads_room type_given.leads (1 + step.size),
+              )))
 
-    second_left_room : twice_node_bytes (count due.second_node) ≤ 2 * length (part half.left (remainder_then half.first))
-    second_left_room =
-        omega (
-          arith,
-          due.left_room,
-          kept.short,
-          left_width (gave half.first).gives due.first_stands.is_prefix,
-          leads_room kept.written.leads half.left,
-        )
+          -- Both have answered with a step.
+          module _ {rest : Step} (second : SecondAnswer two_out two_left two_given (Some rest)) where
+            pub gave_rest : Gave (WellTyped r m) (node_width m) second_sent second_left (part (1 + step.sent) out_then) (part left left_then)
+                (part (1 + step.size) given_then) two_out two_left two_given rest
+            gave_rest = was_fed second
 
-    pub second_due : FeedDue types slice parts.second nodes step.end (part (1 + step.sent) (out_then half.first))
-        (part half.left (remainder_then half.first)) (part (1 + step.size) (given_then half.first))
-    second_due =
-        record {
-          type = due.second_type;
-          node = due.second_node;
-          prefix = due.second_prefix;
-          stands = due.second_stands;
-          node_at = second_node_at;
-          few = omega (arith, due.few);
-          rooms = second_rooms;
-          left_room = second_left_room;
-        }
+            sent_both : LeadsBy (prefix_bytes (pair_sent pair first_sent second_sent) []) out (back (1 + step.sent) out_then two_out) (1 + step.sent + rest.sent)
+            sent_both =
+                written_on output.leads output.long gave_rest.steps.output (gave_rest.steps.sent ∙ width_is second_sent)
+                ((pairs pair).sent first_sent second_sent)
 
-  pub second_fails : SecondAnswered types slice parts nodes from out remainder given Failed → {out_end remainder_end given_end : List ℕ}
-      → PartsAnswer out_end remainder_end given_end Failed
-  unfolding second_due
-  second_fails second =
-      let first = second.half.first in
-      failed
-      (λ t typed fits.
-      has_failed (second.feeds.each (second_due second.half)) typed.second typed.second_typed
-      (omega (
-        arith,
-        fits,
-        ap size typed.made,
-        (pairs pair).sized typed.first typed.second,
-        one_type (gave first).gives typed.first_typed,
-        (gave first).steps.sized,
-        leads_room (type_given first).leads (1 + second.half.step.size),
-      )))
+            node_both : LeadsBy (node_bytes (pair_left pair first_left second_left) []) remainder (back left left_then two_left) (left + rest.kept)
+            node_both =
+                written_on kept.written.leads kept.written.long gave_rest.steps.node_left gave_rest.steps.kept (kept.whole second_left)
 
-  -- Both have answered with a step.
-  module _ {rest : Step} (second : SecondAnswered types slice parts nodes from out remainder given (Fed rest)) where
-    abbrev half : Halfway types slice parts nodes from out remainder given
-    half = second.half
+            abbrev both_given : Ty
+            both_given = pair_given pair gave.type gave_rest.type
 
-    gave_rest : Gave (WellTyped due.second_type due.second_node) (half.step.end + node_width due.second_node) second_sent second_left
-        (part (1 + half.step.sent) (out_then half.first)) (part half.left (remainder_then half.first))
-        (part (1 + half.step.size) (given_then half.first)) second.out_part second.remainder_part second.given_part rest
-    unfolding second_due
-    gave_rest = was_fed (second.feeds.each (second_due half))
+            type_both : LeadsBy (type_bytes both_given []) given (back (1 + step.size) given_then two_given) (1 + step.size + rest.size)
+            type_both =
+                written_on type_given.leads type_given.long gave_rest.steps.type_given
+                (gave_rest.steps.sized ∙ sym (type_width gave_rest.type)) ((pairs pair).given gave.type gave_rest.type)
 
-    -- What stands in the work bytes once both are fed.
+            pub out_full : 1 + step.sent + rest.sent ≤ length out
+            out_full = (taken sent_both).had_room
 
-    sent_both : LeadsBy (prefix_bytes (pair_sent pair first_sent second_sent) []) out (out_after second) (1 + half.step.sent + rest.sent)
-    sent_both =
-        written_on (output half.first).leads (output half.first).long gave_rest.steps.output
-        (gave_rest.steps.sent ∙ width_is second_sent) ((pairs pair).sent first_sent second_sent)
+            pub left_full : left + rest.kept ≤ length remainder
+            left_full = (taken node_both).had_room
 
-    node_both : LeadsBy (node_bytes (pair_left pair first_left second_left) []) remainder (remainder_after second) (half.left + rest.kept)
-    node_both =
-        written_on (kept half).written.leads (kept half).written.long gave_rest.steps.node_left gave_rest.steps.kept
-        ((kept half).whole second_left)
+            pub given_full : 1 + step.size + rest.size ≤ length given
+            given_full = (taken type_both).had_room
 
-    abbrev both_given : Ty
-    both_given = pair_given pair (gave half.first).type gave_rest.type
+            pub end_both : 1 + step.end + rest.end ≡ node_width n
+            end_both = omega (arith, gave.steps.ends, gave_rest.steps.ends, wide)
 
-    type_both : LeadsBy (type_bytes both_given []) given (given_after second) (1 + half.step.size + rest.size)
-    type_both =
-        written_on (type_given half.first).leads (type_given half.first).long gave_rest.steps.type_given
-        (gave_rest.steps.sized ∙ sym (type_width gave_rest.type)) ((pairs pair).given (gave half.first).type gave_rest.type)
+            abbrev after : Step
+            after =
+                record {
+                  end = 1 + step.end + rest.end;
+                  sent = 1 + step.sent + rest.sent;
+                  kept = left + rest.kept;
+                  size = 1 + step.size + rest.size;
+                }
 
-    -- What both have taken has room.
-
-    pub out_full : 1 + half.step.sent + rest.sent ≤ length out
-    out_full = taken_inside sent_both
-
-    pub remainder_full : half.left + rest.kept ≤ length remainder
-    remainder_full = taken_inside node_both
-
-    pub given_full : 1 + half.step.size + rest.size ≤ length given
-    given_full = taken_inside type_both
-
-    abbrev after : Step
-    after =
-        record {
-          end = rest.end;
-          sent = 1 + half.step.sent + rest.sent;
-          kept = half.left + rest.kept;
-          size = 1 + half.step.size + rest.size;
-        }
-
-    both_steps : Steps (from + node_width due.first_node + node_width due.second_node) (pair_sent pair first_sent second_sent)
-        (pair_left pair first_left second_left) both_given out remainder given (out_after second) (remainder_after second) (given_after second) after
-    both_steps =
-        record {
-          ends = omega (arith, gave_rest.steps.ends, (gave half.first).steps.ends);
-          sent = sent_both.long ∙ sym (width_is (pair_sent pair first_sent second_sent));
-          kept = node_both.long;
-          sized = type_both.long ∙ type_width both_given;
-          output = sent_both.leads;
-          node_left = node_both.leads;
-          type_given = type_both.leads;
-        }
-
-    pub both_fed : {result : Step} → result ≡ after → PartsAnswer (out_after second) (remainder_after second) (given_after second) (Fed result)
-    both_fed told =
-        let typed : PairTyped pair due.first_type due.second_type due.first_node due.second_node both_given
-        = record {
-          first = (gave half.first).type;
-          second = gave_rest.type;
-          first_typed = (gave half.first).gives;
-          second_typed = gave_rest.gives;
-          made = refl;
-        } in
-        rw told (fed {step = after} typed both_steps)
+            pub both_fed : Answer (back (1 + step.sent) out_then two_out) (back left left_then two_left) (back (1 + step.size) given_then two_given) (Some after)
+            both_fed =
+                let typed : PairTyped pair s r l m both_given
+                = record { first = gave.type; second = gave_rest.type; first_typed = gave.gives; second_typed = gave_rest.gives; made = refl } in
+                let steps : Steps (node_width n) (pair_sent pair first_sent second_sent) (pair_left pair first_left second_left) both_given
+                out remainder given (back (1 + step.sent) out_then two_out) (back left left_then two_left) (back (1 + step.size) given_then two_given) after
+                = record {
+                  ends = end_both;
+                  sent = sent_both.long ∙ sym (width_is (pair_sent pair first_sent second_sent));
+                  kept = node_both.long;
+                  sized = type_both.long ∙ type_width both_given;
+                  output = sent_both.leads;
+                  node_left = node_both.leads;
+                  type_given = type_both.leads;
+                } in
+                fed typed steps

@@ -1,15 +1,18 @@
 -- What the rules and limits say of a node with two parts, by its parts, both ways.
-use mathlib.Core.Path.{◌≡◌, refl, sym, ◌∙◌}
-use Prim.Native.Nat.{ℕ}
-use native.Mathlib.Omega.{arith}
+use Rattle.std.specs.Prelude.{Err, None, Ok, Result, Some, ◌≡◌, refl, List, ℕ}
+use Rattle.std.proofs.Common.{sym, ap, ◌∙◌}
+use Rattle.std.specs.Result.{result_ok}
 use Rattle.stream.specs.declared.Fault.{Fault}
-use Rattle.stream.specs.Types.{Ty, seq, either, Small}
+use Rattle.stream.specs.Types.{Ty, seq, either, size, Small}
 use Rattle.stream.specs.Reading.{refused}
 use Rattle.node.specs.Nodes.{Node, both, then, chain, choose, Takes, takes_both, takes_then, takes_chain, takes_choose}
 use Rattle.node.specs.Nodes.Functions.{Fits}
 use Rattle.node.proofs.Nodes.Laws.{output_type_is, output_small}
 use Rattle.node.specs.Checking.{typing, WellTyped}
 use Rattle.node.proofs.Checking.Laws.{typing-complete}
+use Rattle.typing.specs.declared.Typed.{Typed}
+use Rattle.typing.specs.Typing.{Answers as TypingAnswers}
+use Rattle.typing.specs.Typing.Laws.{is_refused}
 use Rattle.feeding.specs.declared.Pair.TheVariants.{Beside, Crossed}
 use Rattle.feeding.specs.Feeds.{PairTyped}
 
@@ -17,12 +20,27 @@ use Rattle.feeding.specs.Feeds.{PairTyped}
 pub only_type : {s t u : Ty} {n : Node} → WellTyped s n t → WellTyped s n u → t ≡ u
 only_type a b = sym (output_type_is a.types) ∙ output_type_is b.types
 
+pub one_size : {s t u : Ty} {n : Node} → WellTyped s n t → WellTyped s n u → size t ≡ size u
+one_size a b = ap size (only_type a b)
+
 -- A node that the second pass refuses gives none.
 pub untyped : {s t : Ty} {n : Node} {fault : Fault} → typing s n ≡ refused fault → WellTyped s n t → ⊥
 untyped refuses well =
     let accepts = typing-complete well.types well.fits in
-    let z : ◌≡◌ {A = ℕ} 0 1 = cc in
-    omega arith
+    cc
+
+-- What is known of an answer of the second pass whose fault is dropped: it has told of a type, or there is none.
+
+pub has_told : {answer : Result Typed Fault} {told : Typed} → Some told ≡ result_ok answer → answer ≡ Ok told
+has_told {answer = Ok other} e = cc
+has_told {answer = Err fault} e = cc
+
+pub no_type : {end : ℕ} {s t : Ty} {n : Node} {lent now : List ℕ} {answer : Result Typed Fault}
+    → TypingAnswers end (typing s n) lent now answer → None ≡ result_ok answer → WellTyped s n t → ⊥
+no_type {answer = Ok told} answered e = cc
+no_type {answer = Err fault} answered e = untyped (is_refused _ _ answered.answers)
+
+-- Of both and then, the types that their nodes give.
 
 pub both_parts : {s t : Ty} {n m : Node} → WellTyped s (both n m) t → PairTyped Beside s s n m t
 both_parts typed = go typed.types typed.fits

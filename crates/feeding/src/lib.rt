@@ -2,23 +2,31 @@
 // `given`, as in `leaf_feeding`; or it fails, which it does exactly if Check refuses the node.
 #![tactic(auto)]
 
-ghost use Rattle.std.specs.Prelude.{◌≡◌, ◌+◌, get_or};
+ghost use Rattle.std.specs.Prelude.{◌≡◌, ◌+◌};
 ghost use Rattle.std.proofs.Common.{Fits};
 ghost use Rattle.std.specs.Int.{w64};
-ghost use Rattle.feeding.specs.Feeds.{sent_kind, given_kind, kept_before, FeedDue, FeedsNode, ComingDue, ChoiceDue, FeedPartsDue, FeedsParts};
+ghost use Rattle.stream.specs.Types.{seq, either};
+ghost use Rattle.stream.specs.Prefixes.{in_first, none_chosen, first_chosen, second_chosen};
+ghost use Rattle.node.specs.Nodes.Kinds.{node_kind};
+ghost use Rattle.reading.specs.Views.{tree};
+ghost use Rattle.reading.specs.InputViews.{type, prefix};
+ghost use Rattle.patch_reading.specs.PatchReads.{node_width};
+ghost use Rattle.patch_reading.specs.Fronts.{node};
+ghost use Rattle.leaf_feeding.specs.Steps.{NodeAnswers};
+ghost use Rattle.feeding.specs.Feeds.{sent_kind, given_kind, kept_before, NodeRooms, IsPair, PairAnswers};
 
 use leaf_feeding::reordered::{
     feed_front, feed_mark, feed_regroup_left, feed_regroup_right, feed_spread,
 };
 use leaf_feeding::{
-    Step, Stepped, feed_cue, feed_first, feed_left, feed_level, feed_pass, feed_right, feed_second,
+    Step, feed_cue, feed_first, feed_left, feed_level, feed_pass, feed_right, feed_second,
     feed_silent,
 };
-use reading::inputs::{Input, chosen_part, coming_part, halve};
-use reading::prefixes::{MAX_SLICE_FILE, PrefixPlace};
-use reading::types::TypePlace;
-use typing::{Typed, type_choose, type_node};
-use writing::comparing::same_types;
+use patch_reading::fronts::NodeFront;
+use reading::inputs::{Input, Parts};
+use reading::prefixes::MAX_SLICE_FILE;
+use reading::types::TypeView;
+use typing::{type_choose, type_node};
 use writing::{copy, write_empty};
 
 // How two nodes that are fed in turn belong together: side by side, or as the two parts of a sequence of which the first was crossed.
@@ -28,465 +36,356 @@ pub enum Pair {
     Crossed,
 }
 
-// What two nodes are fed.
-#[derive(Clone, Copy)]
-pub struct Parts {
-    pub pair: Pair,
-    pub first: Input,
-    pub second: Input,
-}
-
-impl Parts {
-    // Only the places: that a type and a prefix of it stand at each is for whoever made it to know.
-    fn new(pair: Pair, first: Input, second: Input) -> Parts
-        ensures { result ≡ record { pair = pair; first = first; second = second } }
+impl Pair {
+    // The kind of what two nodes send together.
+    fn sent_kind(self) -> u8
+        ensures { result ≡ sent_kind self }
     {
-        Parts {
-            pair,
-            first,
-            second,
+        match self {
+            Pair::Beside => 7,
+            Pair::Crossed => 6,
+        }
+    }
+
+    // The kind of the type that they give.
+    fn given_kind(self) -> u8
+        ensures { result ≡ given_kind self }
+    {
+        match self {
+            Pair::Beside => 4,
+            Pair::Crossed => 3,
+        }
+    }
+
+    // Where the second node's remainder starts, if the first one's has `kept` bytes. After a crossing *then* is gone, and with it what
+    // is left of its first node: the second node's remainder goes over it.
+    fn kept_before(self, kept: usize) -> usize
+        requires { Fits w64 (1 + kept) }
+        ensures { result ≡ kept_before self kept }
+    {
+        match self {
+            Pair::Beside => 1 + kept,
+            Pair::Crossed => 0,
         }
     }
 }
 
-// The kind of what two nodes send together, and that of the type that they give.
-fn sent_kind(pair: Pair) -> u8
-    ensures { result ≡ sent_kind pair }
-{
-    match pair {
-        Pair::Beside => 7,
-        Pair::Crossed => 6,
-    }
-}
-
-fn given_kind(pair: Pair) -> u8
-    ensures { result ≡ given_kind pair }
-{
-    match pair {
-        Pair::Beside => 4,
-        Pair::Crossed => 3,
-    }
-}
-
-// Where the second node's remainder starts, if the first one's has `kept` bytes. After a crossing *then* is gone, and with it what is
-// left of its first node: the second node's remainder goes over it.
-fn kept_before(pair: Pair, kept: usize) -> usize
-    requires { Fits w64 (1 + kept) }
-    ensures { result ≡ kept_before pair kept }
-{
-    match pair {
-        Pair::Beside => 1 + kept,
-        Pair::Crossed => 0,
-    }
-}
-
-// Feeds the input to the node at `from`. A node is fed by its kind; a kind above 17 is refused where the patch is read, and does not
-// stand here.
+// Feeds the input to the node. A node is fed by its kind; a kind above 17 is refused where the patch is read, and no node has it.
 #[cycle(feed_each_node)]
 pub fn feed_node(
-    types: &[u8],
-    slice: &[u8],
-    input: Input,
-    nodes: &[u8],
-    from: usize,
+    front: NodeFront<'_>,
+    input: Input<'_>,
     out: &mut [u8],
     remainder: &mut [u8],
     given: &mut [u8],
-) -> Stepped
-    requires { FeedDue types.now slice.now input nodes.now from out.old remainder.old given.old }
-    ensures { FeedsNode types.now slice.now input nodes.now from out.old remainder.old given.old out.new remainder.new given.new result }
+) -> Option<Step>
+    requires { NodeRooms (node front) out.old remainder.old given.old }
+    ensures { NodeAnswers (node_width (node front.entry)) (type input.entry) (node front.entry) (prefix input.entry) out.old remainder.old given.old out.new remainder.new given.new result }
 {
-    let end = from + 1;
-    match nodes[from] {
-        0 => feed_pass(types, slice, input, end, out, remainder, given),
-        1 => feed_silent(nodes, from, out, remainder, given),
-        2 => feed_cue(slice, input.prefix, end, out, remainder, given),
-        3 => feed_level(slice, input.prefix, nodes, from, out, remainder, given),
-        4 => feed_both(types, slice, input, nodes, from, out, remainder, given),
-        5 => feed_left(types, slice, input, end, out, remainder, given),
-        6 => feed_right(types, slice, input, end, out, remainder, given),
-        7 => feed_first(types, slice, input, end, out, remainder, given),
-        8 => feed_second(types, slice, input, end, out, remainder, given),
-        9 => feed_then(types, slice, input, nodes, from, out, remainder, given),
-        10 => feed_chain(types, slice, input, nodes, from, out, remainder, given),
-        11 => feed_regroup_right(types, slice, input, end, out, remainder, given),
-        12 => feed_regroup_left(types, slice, input, end, out, remainder, given),
-        13 => feed_spread(types, slice, input, end, out, remainder, given),
-        14 => feed_front(types, slice, input, end, out, remainder, given),
-        15 => feed_choose(types, slice, input, nodes, from, out, remainder, given),
-        16 => feed_mark(types, slice, input, nodes, from, out, remainder, given),
-        17 => feed_mark(types, slice, input, nodes, from, out, remainder, given),
-        18..=255 => Stepped::Failed,
+    match front.kind() {
+        0 => feed_pass(input, out, remainder, given),
+        1 => feed_silent(front, out, remainder, given),
+        2 => feed_cue(input, out, remainder, given),
+        3 => feed_level(front, input, out, remainder, given),
+        4 => feed_both(front, input, out, remainder, given),
+        5 => feed_left(input, out, remainder, given),
+        6 => feed_right(input, out, remainder, given),
+        7 => feed_first(input, out, remainder, given),
+        8 => feed_second(input, out, remainder, given),
+        9 => feed_then(front, input, out, remainder, given),
+        10 => feed_chain(front, input, out, remainder, given),
+        11 => feed_regroup_right(input, out, remainder, given),
+        12 => feed_regroup_left(input, out, remainder, given),
+        13 => feed_spread(input, out, remainder, given),
+        14 => feed_front(input, out, remainder, given),
+        15 => feed_choose(front, input, out, remainder, given),
+        16..=17 => feed_mark(front, input, out, remainder, given),
+        18..=255 => None,
     }
 }
 
-// Feeds *both*: each of its nodes gets the whole input. A function of its own, so that its parts take no room in the frame of
-// `feed_node`, which stands on the stack once for each level of a patch.
+// Feeds *both*: each of its nodes gets the whole input. A function of its own, since the inputs that it hands on would be cleared at the entry
+// of `feed_node`, whatever the kind.
 #[cycle(feed_each_node)]
 fn feed_both(
-    types: &[u8],
-    slice: &[u8],
-    input: Input,
-    nodes: &[u8],
-    from: usize,
+    front: NodeFront<'_>,
+    input: Input<'_>,
     out: &mut [u8],
     remainder: &mut [u8],
     given: &mut [u8],
-) -> Stepped
-    requires feed_due { FeedDue types.now slice.now input nodes.now from out.old remainder.old given.old }
-    requires from_value { get_or nodes.now from 0 ≡ 4 }
-    ensures { FeedsNode types.now slice.now input nodes.now from out.old remainder.old given.old out.new remainder.new given.new result }
+) -> Option<Step>
+    requires is_both { node_kind (node front) ≡ 4 }
+    requires rooms { NodeRooms (node front) out.old remainder.old given.old }
+    ensures { NodeAnswers (node_width (node front.entry)) (type input.entry) (node front.entry) (prefix input.entry) out.old remainder.old given.old out.new remainder.new given.new result }
 {
-    let parts = Parts::new(Pair::Beside, input, input);
-    feed_parts(types, slice, parts, nodes, from + 1, out, remainder, given)
+    feed_parts(Pair::Beside, front, input, input, out, remainder, given)
 }
 
-// Feeds the two nodes at `from` in turn.
+// Feeds the two parts of the node in turn.
 #[cycle(feed_each_node)]
 fn feed_parts(
-    types: &[u8],
-    slice: &[u8],
-    parts: Parts,
-    nodes: &[u8],
-    from: usize,
+    pair: Pair,
+    front: NodeFront<'_>,
+    first: Input<'_>,
+    second: Input<'_>,
     out: &mut [u8],
     remainder: &mut [u8],
     given: &mut [u8],
-) -> Stepped
-    requires { FeedPartsDue types.now slice.now parts nodes.now from out.old remainder.old given.old }
-    ensures { FeedsParts types.now slice.now parts nodes.now from out.old remainder.old given.old out.new remainder.new given.new result }
+) -> Option<Step>
+    requires is_pair { IsPair pair (node front) }
+    requires rooms { NodeRooms (node front) out.old remainder.old given.old }
+    ensures { PairAnswers pair (node front.entry) (type first.entry) (type second.entry) (prefix first.entry) (prefix second.entry) out.old remainder.old given.old out.new remainder.new given.new result }
 {
-    if given.len() == 0 {
-        return Stepped::Failed;
+    if given.is_empty() {
+        return None;
     }
-    let pair = parts.pair;
-    out[0] = sent_kind(pair);
+    out[0] = pair.sent_kind();
     remainder[0] = 4;
-    given[0] = given_kind(pair);
-    let mut answer = feed_node(
-        types,
-        slice,
-        parts.first,
-        nodes,
-        from,
+    given[0] = pair.given_kind();
+    let one = feed_node(
+        front.first(),
+        first,
         &mut out[1..],
         &mut remainder[1..],
         &mut given[1..],
-    );
-    match answer {
-        Stepped::Failed => Stepped::Failed,
-        Stepped::Fed(step) => {
-            let sent = 1 + step.sent;
-            let size = 1 + step.size;
-            let kept = kept_before(pair, step.kept);
-            answer = feed_node(
-                types,
-                slice,
-                parts.second,
-                nodes,
-                step.end,
-                &mut out[sent..],
-                &mut remainder[kept..],
-                &mut given[size..],
-            );
-            match answer {
-                Stepped::Failed => Stepped::Failed,
-                Stepped::Fed(rest) => Stepped::Fed(Step::new(
-                    rest.end,
-                    sent + rest.sent,
-                    kept + rest.kept,
-                    size + rest.size,
-                )),
-            }
-        }
-    }
+    )?;
+    let end = 1 + one.end;
+    let sent = 1 + one.sent;
+    let size = 1 + one.size;
+    let kept = pair.kept_before(one.kept);
+    let other = feed_node(
+        front.second(end),
+        second,
+        &mut out[sent..],
+        &mut remainder[kept..],
+        &mut given[size..],
+    )?;
+    Some(Step {
+        end: end + other.end,
+        sent: sent + other.sent,
+        kept: kept + other.kept,
+        size: size + other.size,
+    })
 }
 
-// Feeds *then*: its first node alone while the first part is still coming, both nodes at the crossing.
+// Feeds *then*: both nodes at the crossing, its first node alone while the first part is still coming.
 #[cycle(feed_each_node)]
 fn feed_then(
-    types: &[u8],
-    slice: &[u8],
-    input: Input,
-    nodes: &[u8],
-    from: usize,
+    front: NodeFront<'_>,
+    input: Input<'_>,
     out: &mut [u8],
     remainder: &mut [u8],
     given: &mut [u8],
-) -> Stepped
-    requires feed_due { FeedDue types.now slice.now input nodes.now from out.old remainder.old given.old }
-    requires from_value { get_or nodes.now from 0 ≡ 9 }
-    ensures { FeedsNode types.now slice.now input nodes.now from out.old remainder.old given.old out.new remainder.new given.new result }
+) -> Option<Step>
+    requires is_then { node_kind (node front) ≡ 9 }
+    requires rooms { NodeRooms (node front) out.old remainder.old given.old }
+    ensures { NodeAnswers (node_width (node front.entry)) (type input.entry) (node front.entry) (prefix input.entry) out.old remainder.old given.old out.new remainder.new given.new result }
 {
-    let at = input.ty.start;
-    if types[at] != 3 {
-        return Stepped::Failed;
+    match input.parts() {
+        Parts::Crossed(first, second) => {
+            feed_parts(Pair::Crossed, front, first, second, out, remainder, given)
+        }
+        Parts::Coming(part, second) => feed_coming(front, part, second, out, remainder, given),
+        _ => None,
     }
-    let place = input.prefix.start;
-    if slice[place] == 5 {
-        return feed_coming(types, slice, input, nodes, from, out, remainder, given);
-    }
-    let halves = halve(types, slice, input);
-    let parts = Parts::new(Pair::Crossed, halves.first, halves.second);
-    feed_parts(types, slice, parts, nodes, from + 1, out, remainder, given)
 }
 
 // Feeds *then* while the first part is still coming. The second node stays as it is; its type is given all the same.
 #[cycle(feed_each_node)]
 fn feed_coming(
-    types: &[u8],
-    slice: &[u8],
-    input: Input,
-    nodes: &[u8],
-    from: usize,
+    front: NodeFront<'_>,
+    part: Input<'_>,
+    second: TypeView<'_>,
     out: &mut [u8],
     remainder: &mut [u8],
     given: &mut [u8],
-) -> Stepped
-    requires { ComingDue types.now slice.now input nodes.now from out.old remainder.old given.old }
-    ensures { FeedsNode types.now slice.now input nodes.now from out.old remainder.old given.old out.new remainder.new given.new result }
+) -> Option<Step>
+    requires is_then { node_kind (node front) ≡ 9 }
+    requires rooms { NodeRooms (node front) out.old remainder.old given.old }
+    ensures { NodeAnswers (node_width (node front.entry)) (seq (type part.entry) (tree second.entry)) (node front.entry) (in_first (prefix part.entry)) out.old remainder.old given.old out.new remainder.new given.new result }
 {
-    if given.len() == 0 {
-        return Stepped::Failed;
+    if given.is_empty() {
+        return None;
     }
     out[0] = 5;
     remainder[0] = 9;
     given[0] = 3;
-    let part = coming_part(types, input);
-    match feed_node(
-        types,
-        slice,
+    let step = feed_node(
+        front.first(),
         part,
-        nodes,
-        from + 1,
         &mut out[1..],
         &mut remainder[1..],
         &mut given[1..],
-    ) {
-        Stepped::Failed => Stepped::Failed,
-        Stepped::Fed(step) => {
-            let second = TypePlace::new(part.ty.end, input.ty.end);
-            let next = step.end;
-            let size = 1 + step.size;
-            match type_node(types, second, nodes, next, &mut given[size..]) {
-                Typed::Failed(_) => Stepped::Failed,
-                Typed::Gives(end, other) => {
-                    if given.len() - size < other {
-                        return Stepped::Failed;
-                    }
-                    let kept = 1 + step.kept;
-                    copy(&nodes[next..end], &mut remainder[kept..]);
-                    Stepped::Fed(Step::new(end, 1 + step.sent, kept + (end - next), size + other))
-                }
-            }
-        }
+    )?;
+    let end = 1 + step.end;
+    let size = 1 + step.size;
+    let waiting = front.second(end);
+    let typed = type_node(second, waiting, &mut given[size..]).ok()?;
+    if given.len() - size < typed.size {
+        return None;
     }
+    let kept = 1 + step.kept;
+    copy(&waiting.bytes[..typed.end], &mut remainder[kept..]);
+    Some(Step {
+        end: end + typed.end,
+        sent: 1 + step.sent,
+        kept: kept + typed.end,
+        size: size + typed.size,
+    })
 }
 
 // Feeds *chain*: the second node takes what the first sends, of the type that the first gives.
 #[cycle(feed_each_node)]
 fn feed_chain(
-    types: &[u8],
-    slice: &[u8],
-    input: Input,
-    nodes: &[u8],
-    from: usize,
+    front: NodeFront<'_>,
+    input: Input<'_>,
     out: &mut [u8],
     remainder: &mut [u8],
     given: &mut [u8],
-) -> Stepped
-    requires feed_due { FeedDue types.now slice.now input nodes.now from out.old remainder.old given.old }
-    requires from_value { get_or nodes.now from 0 ≡ 10 }
-    ensures { FeedsNode types.now slice.now input nodes.now from out.old remainder.old given.old out.new remainder.new given.new result }
+) -> Option<Step>
+    requires is_chain { node_kind (node front) ≡ 10 }
+    requires rooms { NodeRooms (node front) out.old remainder.old given.old }
+    ensures { NodeAnswers (node_width (node front.entry)) (type input.entry) (node front.entry) (prefix input.entry) out.old remainder.old given.old out.new remainder.new given.new result }
 {
     let mut between = [0u8; MAX_SLICE_FILE];
     let mut middle = [0u8; 255];
     remainder[0] = 10;
-    let mut answer = feed_node(
-        types,
-        slice,
+    let step = feed_node(
+        front.first(),
         input,
-        nodes,
-        from + 1,
         &mut between,
         &mut remainder[1..],
         &mut middle,
-    );
-    match answer {
-        Stepped::Failed => Stepped::Failed,
-        Stepped::Fed(step) => {
-            let sent = Input::new(TypePlace::new(0, step.size), PrefixPlace::new(0, step.sent));
-            let kept = 1 + step.kept;
-            answer = feed_node(
-                &middle,
-                &between,
-                sent,
-                nodes,
-                step.end,
-                out,
-                &mut remainder[kept..],
-                given,
-            );
-            match answer {
-                Stepped::Failed => Stepped::Failed,
-                Stepped::Fed(rest) => Stepped::Fed(Step::new(
-                    rest.end,
-                    rest.sent,
-                    kept + rest.kept,
-                    rest.size,
-                )),
-            }
-        }
-    }
+    )?;
+    let sent = Input {
+        ty: TypeView {
+            bytes: &middle[..step.size],
+        },
+        slice: &between[..step.sent],
+    };
+    let end = 1 + step.end;
+    let kept = 1 + step.kept;
+    let rest = feed_node(front.second(end), sent, out, &mut remainder[kept..], given)?;
+    Some(Step {
+        end: end + rest.end,
+        kept: kept + rest.kept,
+        ..rest
+    })
 }
 
 // Feeds *choose*: until one part is chosen it waits, and then the chosen part's node is fed alone.
 #[cycle(feed_each_node)]
 fn feed_choose(
-    types: &[u8],
-    slice: &[u8],
-    input: Input,
-    nodes: &[u8],
-    from: usize,
+    front: NodeFront<'_>,
+    input: Input<'_>,
     out: &mut [u8],
     remainder: &mut [u8],
     given: &mut [u8],
-) -> Stepped
-    requires feed_due { FeedDue types.now slice.now input nodes.now from out.old remainder.old given.old }
-    requires from_value { get_or nodes.now from 0 ≡ 15 }
-    ensures { FeedsNode types.now slice.now input nodes.now from out.old remainder.old given.old out.new remainder.new given.new result }
+) -> Option<Step>
+    requires is_choose { node_kind (node front) ≡ 15 }
+    requires rooms { NodeRooms (node front) out.old remainder.old given.old }
+    ensures { NodeAnswers (node_width (node front.entry)) (type input.entry) (node front.entry) (prefix input.entry) out.old remainder.old given.old out.new remainder.new given.new result }
 {
-    let at = input.ty.start;
-    if types[at] != 5 {
-        return Stepped::Failed;
+    match input.kind() {
+        8 => feed_unchosen(front, input.ty, out, remainder, given),
+        _ => match input.parts() {
+            Parts::FirstChosen(part, other) => feed_first_chosen(
+                front, part, other, out, remainder, given,
+            ),
+            Parts::SecondChosen(part, other) => feed_second_chosen(
+                front, part, other, out, remainder, given,
+            ),
+            _ => None,
+        },
     }
-    let place = input.prefix.start;
-    if slice[place] == 8 {
-        return feed_unchosen(types, slice, input, nodes, from, out, remainder, given);
-    }
-    if slice[place] == 9 {
-        return feed_first_chosen(types, slice, input, nodes, from, out, remainder, given);
-    }
-    feed_second_chosen(types, slice, input, nodes, from, out, remainder, given)
 }
 
-// Feeds *choose* while no part is chosen: it sends nothing of the type that both its nodes give, and stays as it is.
+// Feeds *choose* while no part is chosen: it sends nothing of the type that both its nodes give, and stays as it is. Not taken
+// into `feed_node`, whose frame is on the stack once for each level.
+#[inline(never)]
 fn feed_unchosen(
-    types: &[u8],
-    slice: &[u8],
-    input: Input,
-    nodes: &[u8],
-    from: usize,
+    front: NodeFront<'_>,
+    ty: TypeView<'_>,
     out: &mut [u8],
     remainder: &mut [u8],
     given: &mut [u8],
-) -> Stepped
-    requires { ChoiceDue 8 types.now slice.now input nodes.now from out.old remainder.old given.old }
-    ensures { FeedsNode types.now slice.now input nodes.now from out.old remainder.old given.old out.new remainder.new given.new result }
+) -> Option<Step>
+    requires is_choose { node_kind (node front) ≡ 15 }
+    requires rooms { NodeRooms (node front) out.old remainder.old given.old }
+    ensures { NodeAnswers (node_width (node front.entry)) (tree ty.entry) (node front.entry) none_chosen out.old remainder.old given.old out.new remainder.new given.new result }
 {
-    match type_choose(types, input.ty, nodes, from, given) {
-        Typed::Failed(_) => Stepped::Failed,
-        Typed::Gives(end, size) => {
-            if given.len() < size {
-                return Stepped::Failed;
-            }
-            let sent = write_empty(given, 0, out);
-            copy(&nodes[from..end], remainder);
-            Stepped::Fed(Step::new(end, sent, end - from, size))
-        }
+    let typed = type_choose(ty, front, given).ok()?;
+    let size = typed.size;
+    if given.len() < size {
+        return None;
     }
+    let whole = TypeView {
+        bytes: &given[..size],
+    };
+    let sent = write_empty(whole, out);
+    copy(&front.bytes[..typed.end], remainder);
+    Some(Step {
+        end: typed.end,
+        sent,
+        kept: typed.end,
+        size,
+    })
 }
 
 // Feeds the first node of *choose*, which is left alone. The second node has to give the same type: it is written behind what is left
 // of the first, where the second node itself would have had room.
 #[cycle(feed_each_node)]
 fn feed_first_chosen(
-    types: &[u8],
-    slice: &[u8],
-    input: Input,
-    nodes: &[u8],
-    from: usize,
+    front: NodeFront<'_>,
+    part: Input<'_>,
+    other: TypeView<'_>,
     out: &mut [u8],
     remainder: &mut [u8],
     given: &mut [u8],
-) -> Stepped
-    requires { ChoiceDue 9 types.now slice.now input nodes.now from out.old remainder.old given.old }
-    ensures { FeedsNode types.now slice.now input nodes.now from out.old remainder.old given.old out.new remainder.new given.new result }
+) -> Option<Step>
+    requires is_choose { node_kind (node front) ≡ 15 }
+    requires rooms { NodeRooms (node front) out.old remainder.old given.old }
+    ensures { NodeAnswers (node_width (node front.entry)) (either (type part.entry) (tree other.entry)) (node front.entry) (first_chosen (prefix part.entry)) out.old remainder.old given.old out.new remainder.new given.new result }
 {
-    let choice = chosen_part(types, slice, input);
-    match feed_node(
-        types,
-        slice,
-        choice.part,
-        nodes,
-        from + 1,
-        out,
-        remainder,
-        given,
-    ) {
-        Stepped::Failed => Stepped::Failed,
-        Stepped::Fed(step) => {
-            let kept = step.kept;
-            match type_node(types, choice.other, nodes, step.end, &mut remainder[kept..]) {
-                Typed::Failed(_) => Stepped::Failed,
-                Typed::Gives(end, other) => {
-                    let size = step.size;
-                    let stop = kept + other;
-                    if !same_types(&given[..size], &remainder[kept..stop]) {
-                        return Stepped::Failed;
-                    }
-                    Stepped::Fed(Step::new(end, step.sent, kept, size))
-                }
-            }
-        }
+    let step = feed_node(front.first(), part, out, remainder, given)?;
+    let end = 1 + step.end;
+    let kept = step.kept;
+    let typed = type_node(other, front.second(end), &mut remainder[kept..]).ok()?;
+    let stop = kept + typed.size;
+    if given[..step.size] != remainder[kept..stop] {
+        return None;
     }
+    Some(Step {
+        end: end + typed.end,
+        ..step
+    })
 }
 
 // Feeds the second node of *choose*, which is left alone. Where it begins is known once the first node is typed, whose type is written at
 // the end of the room for what is left, where the first node itself would have had room.
 #[cycle(feed_each_node)]
 fn feed_second_chosen(
-    types: &[u8],
-    slice: &[u8],
-    input: Input,
-    nodes: &[u8],
-    from: usize,
+    front: NodeFront<'_>,
+    part: Input<'_>,
+    other: TypeView<'_>,
     out: &mut [u8],
     remainder: &mut [u8],
     given: &mut [u8],
-) -> Stepped
-    requires { ChoiceDue 10 types.now slice.now input nodes.now from out.old remainder.old given.old }
-    ensures { FeedsNode types.now slice.now input nodes.now from out.old remainder.old given.old out.new remainder.new given.new result }
+) -> Option<Step>
+    requires is_choose { node_kind (node front) ≡ 15 }
+    requires rooms { NodeRooms (node front) out.old remainder.old given.old }
+    ensures { NodeAnswers (node_width (node front.entry)) (either (tree other.entry) (type part.entry)) (node front.entry) (second_chosen (prefix part.entry)) out.old remainder.old given.old out.new remainder.new given.new result }
 {
-    let choice = chosen_part(types, slice, input);
-    let spare = remainder.len() - TypePlace::MAX_NODES;
-    match type_node(
-        types,
-        choice.other,
-        nodes,
-        from + 1,
-        &mut remainder[spare..],
-    ) {
-        Typed::Failed(_) => Stepped::Failed,
-        Typed::Gives(next, other) => match feed_node(
-            types,
-            slice,
-            choice.part,
-            nodes,
-            next,
-            out,
-            &mut remainder[..spare],
-            given,
-        ) {
-            Stepped::Failed => Stepped::Failed,
-            Stepped::Fed(step) => {
-                let size = step.size;
-                let stop = spare + other;
-                if !same_types(&given[..size], &remainder[spare..stop]) {
-                    return Stepped::Failed;
-                }
-                Stepped::Fed(step)
-            }
-        },
+    let spare = remainder.len() - TypeView::MAX_NODES;
+    let typed = type_node(other, front.first(), &mut remainder[spare..]).ok()?;
+    let end = 1 + typed.end;
+    let step = feed_node(front.second(end), part, out, &mut remainder[..spare], given)?;
+    let stop = spare + typed.size;
+    if given[..step.size] != remainder[spare..stop] {
+        return None;
     }
+    Some(Step {
+        end: end + step.end,
+        ..step
+    })
 }

@@ -1,36 +1,50 @@
 -- `feed_unchosen` meets its contract: the type that choose gives is found as Check finds it; if it has room, so has its empty prefix, and the
 -- node's own bytes have room by what is due.
-use Rattle.std.proofs.Common.{arith}
-use Rattle.feeding.proofs.FeedingChoose.{asked_of, whole_untyped, no_room, nothing_due, node_ends, node_forward, copy_room, waited}
+use Rattle.std.proofs.Common.{sym, length-take-le}
+use Rattle.std.specs.Prelude.{Ok}
+use Rattle.reading.specs.Views.{tree}
+use Rattle.patch_reading.specs.Fronts.{node}
+use Rattle.typing.specs.Typing.{NodeTyped}
+use Rattle.feeding.proofs.FeedingChoose.{whole_untyped, no_room, type_whole, type_small, nothing_room, node_inside, copy_room, waited}
+use Rattle.feeding.proofs.Typings.{has_told}
+use Rattle.feeding.proofs.feed_unchosen.Goals.{In_ok-typed}
 use Rattle.feeding.proofs.feed_unchosen.Goals as goal
 
+typed : (c : In_ok-typed) → NodeTyped (tree c.args.ty) (node c.args.front) c.args.given.now c.type_choose.new.out (Ok c.in_ok-typed.typed)
+typed c = rw (has_told c.in_ok-typed.ensures.value) at c.type_choose.ensures
+
+pub returns-in_err-typed : goal.returns-in_err-typed
+returns-in_err-typed c =
+    rw c.from_residual.ensures
+    (whole_untyped c.args.front c.requires.is_choose (tree c.args.ty) c.requires.rooms c.type_choose.ensures c.in_err-typed.ensures.value)
+
 pub returns-then-given-size : goal.returns-then-given-size
-returns-then-given-size c = record { each = λ due. no_room (asked_of c.requires due) c.in-Gives.ensures c.if-given-size.true }
+returns-then-given-size c =
+    no_room c.args.front c.requires.is_choose (tree c.args.ty) c.requires.rooms (typed (goal.at.returns-then-given-size c).In_ok-typed)
+    c.if-given-size.true
+
+pub invariant_of-whole : goal.invariant_of-whole
+invariant_of-whole c =
+    let told = typed (goal.at.invariant_of-whole c).In_ok-typed in
+    record {
+      whole = type_whole c.args.front c.requires.is_choose (tree c.args.ty) c.requires.rooms told c.if-given-size.false;
+      small = type_small c.args.front c.requires.is_choose (tree c.args.ty) c.requires.rooms told c.if-given-size.false;
+    }
 
 pub write_empty-sent-requires : goal.write_empty-sent-requires
-write_empty-sent-requires c = nothing_due c.requires c.in-Gives.ensures (omega arith)
-
-pub slice_bounds-copy-count : goal.slice_bounds-copy-count
-slice_bounds-copy-count c = node_forward c.requires c.in-Gives.ensures (omega arith)
-
-pub slice_bounds-copy-start : goal.slice_bounds-copy-start
-slice_bounds-copy-start c = slice_bounds-copy-count c
+write_empty-sent-requires c =
+    nothing_room c.args.front c.requires.is_choose (tree c.args.ty) c.requires.rooms (typed (goal.at.write_empty-sent-requires c).In_ok-typed)
+    c.if-given-size.false
 
 pub slice_bounds-copy-end : goal.slice_bounds-copy-end
-slice_bounds-copy-end c = node_ends c.requires c.in-Gives.ensures (omega arith)
+slice_bounds-copy-end c =
+    sym (length-take-le _ _ (node_inside c.args.front c.requires.is_choose (tree c.args.ty) c.requires.rooms (typed (goal.at.slice_bounds-copy-end c).In_ok-typed)))
 
 pub copy-requires : goal.copy-requires
-copy-requires c = copy_room c.requires c.in-Gives.ensures (omega arith)
+copy-requires c =
+    copy_room c.args.front c.requires.is_choose (tree c.args.ty) c.requires.rooms (typed (goal.at.copy-requires c).In_ok-typed)
 
-pub overflow_sub-end : goal.overflow_sub-end
-overflow_sub-end c = node_forward c.requires c.in-Gives.ensures (omega arith)
-
-pub returns-in-Failed : goal.returns-in-Failed
-returns-in-Failed c = record { each = λ due. whole_untyped (asked_of c.requires due) c.in-Failed.ensures }
-
-pub returns-else-given-size : goal.returns-else-given-size
-returns-else-given-size c =
-    record {
-      each = λ due.
-          waited (asked_of c.requires due) c.in-Gives.ensures (omega arith) c.write_empty-sent.ensures c.copy.ensures c.new.ensures;
-    }
+pub returns : goal.returns
+returns c =
+    waited c.args.front c.requires.is_choose (tree c.args.ty) c.requires.rooms (typed (goal.at.returns c).In_ok-typed) c.if-given-size.false
+    c.write_empty-sent.ensures.width c.write_empty-sent.ensures.buffer c.copy.ensures
