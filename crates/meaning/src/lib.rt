@@ -1,12 +1,14 @@
-// What an operation answers, as the caller is told it, and what it answers to a refusal. The meaning itself is definitions, in
+// What an operation answers, and how a caller in another language is told it. The meaning itself is definitions, in
 // specs/.
 #![tactic(auto)]
 
 ghost use Rattle.std.specs.Prelude.{◌≡◌};
-ghost use Rattle.stream.specs.Reading.{refused};
-ghost use Rattle.meaning.specs.Answers.{written, admitted, fed};
+ghost use Rattle.meaning.specs.Told.{told, told_taken, told_delivered};
 
-use stream::{Fault, number_of};
+use stream::Fault;
+
+// "Accepted is 0."
+const ACCEPTED: u32 = 0;
 
 // Check, Left, Join and Longest: document 01's number, and how many bytes stand at the front of the lent buffer.
 #[repr(C)]
@@ -16,14 +18,19 @@ pub struct Written {
     pub written: usize,
 }
 
-impl Written {
-    #[tactic(auto, unfolding(crate::specs::Answers::written))]
-    pub fn refused(fault: Fault) -> Written
-        ensures { result ≡ written (refused fault) }
-    {
-        Written {
-            number: number_of(fault),
-            written: 0,
+impl From<Result<usize, Fault>> for Written {
+    ghost from_gives = { λ answer w. w ≡ told answer };
+
+    fn from(answer: Result<usize, Fault>) -> Written {
+        match answer {
+            Ok(written) => Written {
+                number: ACCEPTED,
+                written,
+            },
+            Err(fault) => Written {
+                number: fault.into(),
+                written: 0,
+            },
         }
     }
 }
@@ -37,15 +44,28 @@ pub struct Admitted {
     pub arrived: u32,
 }
 
-impl Admitted {
-    #[tactic(auto, unfolding(crate::specs::Answers::admitted))]
-    pub fn refused(fault: Fault) -> Admitted
-        ensures { result ≡ admitted (refused fault) }
-    {
-        Admitted {
-            number: number_of(fault),
-            complete: 0,
-            arrived: 0,
+// What Admit finds of a slice that it accepts.
+#[derive(Clone, Copy)]
+pub struct Taken {
+    pub complete: bool,
+    pub arrived: u32,
+}
+
+impl From<Result<Taken, Fault>> for Admitted {
+    ghost from_gives = { λ answer a. a ≡ told_taken answer };
+
+    fn from(answer: Result<Taken, Fault>) -> Admitted {
+        match answer {
+            Ok(taken) => Admitted {
+                number: ACCEPTED,
+                complete: taken.complete as u32,
+                arrived: taken.arrived,
+            },
+            Err(fault) => Admitted {
+                number: fault.into(),
+                complete: 0,
+                arrived: 0,
+            },
         }
     }
 }
@@ -62,17 +82,34 @@ pub struct Fed {
     pub sent: u32,
 }
 
-impl Fed {
-    #[tactic(auto, unfolding(crate::specs::Answers::fed))]
-    pub fn refused(fault: Fault) -> Fed
-        ensures { result ≡ fed (refused fault) }
-    {
-        Fed {
-            number: number_of(fault),
-            output: 0,
-            patch: 0,
-            arrived: 0,
-            sent: 0,
+// What Feed comes to where it is not refused.
+#[derive(Clone, Copy)]
+pub struct Delivered {
+    pub output: usize,
+    pub patch: usize,
+    pub arrived: u32,
+    pub sent: u32,
+}
+
+impl From<Result<Delivered, Fault>> for Fed {
+    ghost from_gives = { λ answer f. f ≡ told_delivered answer };
+
+    fn from(answer: Result<Delivered, Fault>) -> Fed {
+        match answer {
+            Ok(delivered) => Fed {
+                number: ACCEPTED,
+                output: delivered.output,
+                patch: delivered.patch,
+                arrived: delivered.arrived,
+                sent: delivered.sent,
+            },
+            Err(fault) => Fed {
+                number: fault.into(),
+                output: 0,
+                patch: 0,
+                arrived: 0,
+                sent: 0,
+            },
         }
     }
 }
