@@ -1,57 +1,47 @@
 -- What Check comes to, by its two passes, and what it has to write.
-use mathlib.Core.Path.{◌≡◌, sym, ◌∙◌}
+use mathlib.Core.Path.{◌≡◌, refl, sym}
 use mathlib.Core.List.{List}
-use Prim.Native.Nat.{ℕ, ◌+◌, ◌≤◌}
-use native.Mathlib.Omega.{arith}
+use Prim.Native.Nat.{ℕ}
 use lib.ListN.{length}
+use Rattle.std.specs.Prelude.{Err, Ok}
 use Rattle.stream.specs.declared.Fault.{Fault}
 use Rattle.stream.specs.Types.{Ty}
 use Rattle.stream.specs.Reading.{accepted, refused}
 use Rattle.stream.specs.TypeFiles.{type_file_bytes}
-use Rattle.writing.specs.Writing.Standing.{type_file-size, TypeHeld, type_held}
-use Rattle.node.specs.Checking.{typing}
+use Rattle.reading.specs.Views.{tree}
 use Rattle.node.specs.PatchFiles.{first_pass, second_pass, patch_file}
-use Rattle.patch_reading.specs.declared.PatchPlace.{PatchPlace}
+use Rattle.patch_reading.specs.declared.patches.PatchView.{PatchView}
+use Rattle.patch_reading.specs.Fronts.{node}
+use Rattle.patch_reading.specs.PatchViews.{patch}
+use Rattle.typing.specs.Typing.{NodeTyped}
+use Rattle.typing.proofs.Given.{gave, was_refused, size_inside, given_held}
 use Rattle.typing.specs.declared.Typed.{Typed}
-use Rattle.typing.specs.declared.Typed.TheVariants.{Gives, Failed}
-use Rattle.patch_reading.specs.PatchReads.{AcceptedPatch}
-use Rattle.typing.specs.Typing.{TypingDue, Answers}
-use Rattle.typing.specs.Typing.Laws.{IsGiven, is_given, is_refused, typing_small}
 use Rattle.meaning.specs.Answers.{check}
+use Rattle.wosthile.proofs.Keeping.{InFront, in_front}
 
--- What the second pass is asked, of a patch that was read.
-abbrev pub typing_due : {file : List ℕ} {place : PatchPlace} → AcceptedPatch file place → TypingDue file place.input file place.nodes
-typing_due read = record { type = read.patch.input; node = read.patch.node; type_in = read.type_in; node_at = read.node_at }
-
-pub not_read : (file : List ℕ) {e : Fault} → first_pass file ≡ refused e → check file ≡ refused e
+pub not_read : (file : List ℕ) {e : Fault} → refused e ≡ first_pass file → check file ≡ refused e
 unfolding check patch_file
-not_read file h = rw h
+not_read file h = rw (← h)
 
--- A type of `many` nodes is given, and is held by the work array `given`.
+-- A type is given, and stands at the front of the work array `given`.
 pub record TypeGiven (file given : List ℕ) (many : ℕ) : Type 0 where
   pub output : Ty
   pub is_typed : check file ≡ accepted (type_file_bytes output)
-  pub held : TypeHeld output given many
-  pub long : length (type_file_bytes output) ≡ 2 + many
+  pub here : InFront output given many
 
-module _ {file : List ℕ} {place : PatchPlace} (read : AcceptedPatch file place) {end_due : ℕ} {lent given : List ℕ} {answer : Typed}
-    (answers : Answers end_due (typing read.patch.input read.patch.node) lent given answer) where
-  pub not_typed : {e : Fault} → answer ≡ Failed e → check file ≡ refused e
+module _ (file : List ℕ) (v : PatchView) (read : accepted (patch v) ≡ first_pass file) {lent given : List ℕ} where
+  pub not_typed : {e : Fault} → NodeTyped (tree v.input) (node v.node) lent given (Err e) → check file ≡ refused e
   unfolding check patch_file second_pass
-  not_typed h = rw (read.is_accepted, is_refused end_due _ (sym h ∙ answers.answers))
+  not_typed told = rw (← read, (was_refused v.node refl told).outcome)
 
   -- The work array has room for every type within the limit.
-  pub type_given : {end many : ℕ} → 255 ≤ length lent → answer ≡ Gives end many → TypeGiven file given many
+  pub type_given : {typed : Typed} → NodeTyped (tree v.input) (node v.node) lent given (Ok typed) → 255 ≡ length lent
+      → TypeGiven file given typed.size
   unfolding check patch_file second_pass
-  type_given {end} {many} room h = go (is_given end_due (typing read.patch.input read.patch.node) (sym h ∙ answers.answers))
-    where
-      go : IsGiven end_due end many (typing read.patch.input read.patch.node) → TypeGiven file given many
-      go gives =
-          let t = gives.type in
-          let small = typing_small _ _ read.node_at.carries gives.given in
-          record {
-            output = t;
-            is_typed = rw (read.is_accepted, gives.given);
-            held = type_held t small room (answers.writes t gives.given) many gives.sized;
-            long = omega (arith, gives.sized, type_file-size t);
-          }
+  type_given told long =
+      let g = gave v.node refl told in
+      record {
+        output = g.type;
+        is_typed = rw (← read, g.outcome);
+        here = in_front (size_inside g (sym long)) (given_held g (sym long));
+      }

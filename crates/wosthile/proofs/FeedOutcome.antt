@@ -2,248 +2,256 @@
 use mathlib.Core.Path.{◌≡◌, refl, sym, ap, ◌∙◌}
 use mathlib.Core.Bool.{Bool, true, false}
 use mathlib.Core.List.{List, []}
-use Prim.Native.Nat.{ℕ, ◌+◌, ◌*◌, ◌-◌, ◌≤◌, ◌<◌}
+use Prim.Native.Nat.{ℕ, ◌*◌, ◌≤◌, ◌<◌}
 use native.Mathlib.Omega.{arith}
 use lib.ListN.{length, take}
 use lib.Seq.{length-take-le}
+use Rattle.std.specs.Prelude.{None, Option, Some, Result, Ok, Err}
+use Rattle.std.proofs.Common.{subst}
 use Rattle.stream.specs.declared.Fault.{Fault}
 use Rattle.stream.specs.declared.Fault.TheVariants.{TotalTooLarge}
-use Rattle.stream.specs.Types.{Ty, size}
+use Rattle.stream.specs.Types.{Ty}
 use Rattle.stream.proofs.Types.Laws.{limit_is}
-use Rattle.stream.specs.Prefixes.{Prefix, arrivals, derivative}
+use Rattle.stream.specs.Prefixes.{Prefix, IsPrefix, arrivals, derivative}
 use Rattle.stream.proofs.Prefixes.Laws.{derivative-size}
-use Rattle.stream.specs.Reading.{Result, accepted, refused}
+use Rattle.stream.specs.Reading.{Result as Outcome, accepted, refused, go_on, require}
+use Rattle.stream.proofs.TypeFiles.Held.{Holds, has_tree}
 use Rattle.stream.specs.SliceFiles.{prefix_bytes, slice_file, slice_file_bytes}
-use Rattle.reading.specs.declared.prefixes.PrefixPlace.{PrefixPlace}
-use Rattle.reading.specs.declared.inputs.Input.{Input}
-use Rattle.reading.specs.Inputs.{InputAt}
+use Rattle.stream.proofs.SliceFiles.Held.{Holds as HoldsPrefix}
+use Rattle.stream.specs.Bounds.{slice_file_limit, twice_node_bytes, node_bytes_limit}
 use Rattle.reading.specs.TypeReads.Laws.{type_width}
-use Rattle.reading.specs.SliceReads.{PrefixIn}
 use Rattle.reading.specs.SliceReads.Laws.{prefix_bytes_length}
+use Rattle.stream.specs.TypeFiles.{type_bytes, type_of}
+use Rattle.reading.specs.InputViews.{type, prefix}
+use Rattle.reading.proofs.InputViews.{is_prefix}
 use Rattle.node.specs.Totals.{held}
-use Rattle.node.specs.Nodes.{Node, Patch, count, node_limit}
+use Rattle.node.specs.Nodes.{Patch, count, node_limit}
 use Rattle.node.proofs.Nodes.Laws.{output_small}
 use Rattle.node.specs.Feeding.Functions.{sends, leaves, patch_left}
+use Rattle.node.proofs.Feeding.Laws.{preserved}
 use Rattle.node.specs.Checking.{typing, WellTyped}
 use Rattle.node.proofs.Checking.Laws.{typing_sound, typing-complete}
-use Rattle.node.specs.PatchFiles.{node_bytes, patch_file_bytes, first_pass, second_pass, patch_file}
-use Rattle.patch_reading.specs.declared.PatchPlace.{PatchPlace}
+use Rattle.node.specs.PatchFiles.{Checked, node_bytes, patch_file_bytes, first_pass, second_pass, patch_file}
 use Rattle.patch_reading.specs.PatchReads.Laws.{count_within}
-use Rattle.patch_reading.specs.PatchReads.{node_width, AcceptedPatch}
+use Rattle.patch_reading.specs.PatchReads.{node_width}
+use Rattle.patch_reading.specs.Found.{totals_of}
+use Rattle.patch_reading.specs.PatchViews.{patch}
+use Rattle.patch_reading.proofs.PatchFacts.{few, node_wide}
 use Rattle.leaf_feeding.specs.declared.Step.{Step}
-use Rattle.leaf_feeding.specs.declared.Stepped.{Stepped as StepAnswer}
-use Rattle.leaf_feeding.specs.declared.Stepped.TheVariants.{Fed as Stepped, Failed}
-use Rattle.leaf_feeding.specs.Steps.{NodeAnswers, Rooms}
-use Rattle.leaf_feeding.specs.Steps.Laws.{leads_inside, leads_taken, prefix_stands, left_width, was_fed, has_failed}
-use Rattle.feeding.specs.Feeds.{FeedDue}
+use Rattle.leaf_feeding.specs.Steps.{NodeAnswers}
+use Rattle.leaf_feeding.specs.Steps.Laws.{leads_inside, leads_taken, left_width, was_fed, has_failed}
+use Rattle.feeding.specs.Feeds.{NodeRooms}
 use Rattle.meaning.specs.declared.Fed.{Fed}
-use Rattle.meaning.specs.Answers.{FedFiles, takes_slice, feed, with_room, fed as told, after, fed_files}
+use Rattle.meaning.specs.declared.Delivered.{Delivered}
+use Rattle.meaning.specs.Answers.{FedFiles, takes_slice, feed, with_room, fed, after, fed_files}
+use Rattle.meaning.specs.Told.{told_delivered}
 use Rattle.meaning.specs.Promises.{FeedPromise}
-use Rattle.wosthile.specs.FeedReads.{FeedRead, Refuses, first_fault}
-use Rattle.wosthile.specs.PatchWriting.{BothDue, FeedsFiles, BothWritten}
-use Rattle.wosthile.specs.TotalsLeft.{Sums, CountsAdded}
-use Rattle.stream.specs.Bounds.{slice_file_limit, twice_node_bytes, node_bytes_limit}
+use Rattle.wosthile.specs.declared.Feeding.{Feeding}
+use Rattle.wosthile.specs.Delivering.{first_fault, fed_by, Delivers}
+use Rattle.wosthile.specs.PatchWriting.{BothDue, BothWritten}
+use Rattle.wosthile.specs.TotalsLeft.{counted, Sums}
+use Rattle.wosthile.proofs.Keeping.{InFront, in_front}
+use Rattle.wosthile.proofs.TotalsAdded.{is_held, has_passed}
 
--- A refusal keeps Feed's promise, and so do files that are due.
-module _ {patch slice : List ℕ} where
-  pub refused_keeps : (output patch_lent : List ℕ) (e : Fault) → feed patch slice ≡ refused e
-      → FeedPromise patch slice output patch_lent (told (refused e)) output patch_lent
-  unfolding with_room told after
-  refused_keeps output patch_lent e h = record { answers = rw h; output_buffer = rw h; patch_buffer = rw h }
+pub refusal_delivers : {outcome : Outcome FedFiles} (output patch_lent : List ℕ) (e : Fault) {answer : Result Delivered Fault} → answer ≡ Err e
+    → outcome ≡ refused e → Delivers outcome output patch_lent (told_delivered answer) output patch_lent
+unfolding with_room fed after
+refusal_delivers output patch_lent e told_is h = rw told_is (record { answers = rw h; output_buffer = rw h; patch_buffer = rw h })
 
-  pub files_keep : {files : FedFiles} {output patch_lent output_after patch_after : List ℕ} {answer : Fed} → feed patch slice ≡ accepted files
-      → FeedsFiles files output patch_lent answer output_after patch_after → FeedPromise patch slice output patch_lent answer output_after patch_after
-  files_keep h fed = record { answers = rw h fed.answers; output_buffer = rw h fed.output_buffer; patch_buffer = rw h fed.patch_buffer }
+-- What both readers find is what Feed comes to.
+
+pub as_promised : {file slice : List ℕ} {outcome : Outcome FedFiles} {output patch_lent output_after patch_after : List ℕ} {answer : Fed}
+    → feed file slice ≡ outcome → Delivers outcome output patch_lent answer output_after patch_after
+    → FeedPromise file slice output patch_lent answer output_after patch_after
+as_promised h told = record { answers = rw h told.answers; output_buffer = rw h told.output_buffer; patch_buffer = rw h told.patch_buffer }
+
+pub patch_unread : (file slice : List ℕ) {e : Fault} → refused e ≡ first_pass file → feed file slice ≡ refused e
+unfolding feed patch_file
+patch_unread file slice h = rw (← h)
+
+-- The patch is typed.
+abbrev typed_as : Patch → Outcome Ty → Outcome Checked
+typed_as a g = go_on g (λ t. accepted (record { patch = a; output = t }))
+
+module _ (file slice : List ℕ) {a : Patch} (read : accepted a ≡ first_pass file) where
+  pub slice_unread : {e : Fault} → slice_file a.input slice ≡ refused e → feed file slice ≡ refused (first_fault (typing a.input a.node) e)
+  unfolding feed patch_file second_pass takes_slice
+  slice_unread {e} h = rw (← read) (go (typing a.input a.node))
+    where
+      go : (g : Outcome Ty)
+          → go_on (typed_as a g) (λ c. go_on (takes_slice c.patch slice) (λ p. accepted (fed_files c.patch p))) ≡ refused (first_fault g e)
+      go (accepted t) = rw h
+      go (refused first) = refl
+
+  pub both_read : {p : Prefix} → slice_file a.input slice ≡ accepted p → feed file slice ≡ fed_by a p
+  unfolding feed patch_file second_pass takes_slice fed_by
+  both_read {p} h = rw (← read) (go (typing a.input a.node))
+    where
+      within : (b : Bool) → go_on (require b TotalTooLarge (accepted p)) (λ q. accepted (fed_files a q)) ≡ require b TotalTooLarge (accepted (fed_files a p))
+      within true = refl
+      within false = refl
+
+      go : (g : Outcome Ty)
+          → go_on (typed_as a g) (λ c. go_on (takes_slice c.patch slice) (λ q. accepted (fed_files c.patch q)))
+          ≡ go_on g (λ t. require (held (patch_left a p).totals) TotalTooLarge (accepted (fed_files a p)))
+      go (accepted t) = rw h (within (held (patch_left a p).totals))
+      go (refused first) = refl
 
 -- The counts told are those of the files.
 counts_are : {sent input nodes totals output patch_lent output_after patch_after : List ℕ} {came went arrived gone : ℕ} {answer : Fed}
     → came ≡ arrived → went ≡ gone → (due : BothDue sent input nodes totals)
     → BothWritten sent input nodes totals came went output patch_lent answer output_after patch_after
-    → FeedsFiles (record { output = slice_file_bytes due.output; patch = patch_file_bytes due.patch; arrived = arrived; sent = gone })
+    → Delivers (accepted (record { output = slice_file_bytes due.output; patch = patch_file_bytes due.patch; arrived = arrived; sent = gone }))
     output patch_lent answer output_after patch_after
 counts_are a b due wrote = rw (a, b) at (wrote.each due)
 
--- A patch that is not read, or not typed, and a slice that is not read.
+module _ (read : Feeding) where
+  abbrev a : Patch
+  a = patch read.patch
 
-pub patch_unread : (patch slice : List ℕ) {e : Fault} → first_pass patch ≡ refused e → feed patch slice ≡ refused e
-unfolding feed patch_file
-patch_unread patch slice h = rw h
+  abbrev p : Prefix
+  p = prefix read.slice
 
-module _ {patch : List ℕ} {place : PatchPlace} (read : AcceptedPatch patch place) (slice : List ℕ) where
-  pub patch_untyped : {e : Fault} → typing read.patch.input read.patch.node ≡ refused e → feed patch slice ≡ refused e
-  unfolding feed patch_file second_pass
-  patch_untyped h = rw (read.is_accepted, h)
+  same_type : type read.slice ≡ a.input
+  same_type = ap type_of read.of_type
 
-  pub slice_unread : {output : Ty} {e : Fault} → typing read.patch.input read.patch.node ≡ accepted output
-      → slice_file read.patch.input slice ≡ refused e → feed patch slice ≡ refused e
-  unfolding feed patch_file second_pass takes_slice
-  slice_unread h k = rw (read.is_accepted, h, k)
+  of_input : IsPrefix a.input p
+  of_input = subst (λ (t : Ty). IsPrefix t p) same_type (is_prefix read.slice)
 
-  -- What is refused with the first fault of the second pass, or else with another: that is Feed's number, if the other is where the patch is
-  -- typed.
-  pub refuses_keep : {fault : Fault} {answer : Fed} (output patch_lent : List ℕ) → Refuses patch place fault answer
-      → ((t : Ty) → typing read.patch.input read.patch.node ≡ accepted t → feed patch slice ≡ refused fault)
-      → FeedPromise patch slice output patch_lent answer output patch_lent
-  refuses_keep {fault} output patch_lent refuses typed = rw (refuses.each read) (go (typing read.patch.input read.patch.node) refl)
-    where
-      go : (g : Result Ty) → typing read.patch.input read.patch.node ≡ g
-          → FeedPromise patch slice output patch_lent (told (refused (first_fault g fault))) output patch_lent
-      go (accepted t) h = refused_keeps output patch_lent fault (typed t h)
-      go (refused first) h = refused_keeps output patch_lent first (patch_untyped h)
-
-module _ {patch : List ℕ} {place : PatchPlace} {slice left : List ℕ} {arrived : ℕ} (due : FeedRead patch place slice arrived left) where
-  abbrev input : Ty
-  input = due.read.patch.input
-
-  abbrev node : Node
-  node = due.read.patch.node
-
-  abbrev prefix : Prefix
-  prefix = due.taken.prefix
-
-  pub few : count node ≤ 63
+  few_nodes : count a.node ≤ 63
   unfolding node_limit
-  few = due.read.few
+  few_nodes = few read.patch
 
   -- Up to 15 nodes leave at most 2,055 bytes, and all of them 8,223.
 
-  pub few_room : length patch - 8 - 2 - place.nodes < 16 → twice_node_bytes (count node) ≤ 2 * 2055
-  few_room short = omega (arith, due.read.long, count_within node)
+  pub few_room : length read.patch.node.bytes.now < 16 → twice_node_bytes (count a.node) ≤ 2 * 2055
+  few_room short = omega (arith, node_wide read.patch, count_within a.node)
 
-  pub nodes_room : twice_node_bytes (count node) ≤ 2 * node_bytes_limit
-  nodes_room = omega (arith, few)
+  pub nodes_room : twice_node_bytes (count a.node) ≤ 2 * node_bytes_limit
+  nodes_room = omega (arith, few_nodes)
 
-  left_sized : length left ≡ size (derivative input prefix)
-  left_sized = ap length due.left_is ∙ type_width (derivative input prefix)
+  -- The work arrays have room for every type and every prefix.
+  pub step_rooms : {sent nodes given : List ℕ} → slice_file_limit ≡ length sent → twice_node_bytes (count a.node) ≤ 2 * length nodes
+      → 255 ≡ length given → NodeRooms a.node sent nodes given
+  step_rooms s n g =
+      record { few = few read.patch; rooms = record { for_type = omega (arith, g, limit_is); for_output = omega (arith, s, g) }; left_room = n }
 
-  pub small_left : length left ≤ 255
-  small_left = omega (arith, left_sized, derivative-size due.taken.is_prefix, due.read.type_in.stands.small, limit_is)
+  pub left_small : length read.left.now ≤ 255
+  left_small =
+      let long = ap length read.left_is ∙ type_width (derivative a.input p) in
+      omega (arith, long, derivative-size of_input, read.patch.input.small, limit_is)
 
-  pub step_rooms : {sent given : List ℕ} → slice_file_limit ≡ length sent → 255 ≡ length given → Rooms sent given
-  step_rooms a b = record { for_type = omega (arith, b, limit_is); for_output = omega (arith, a, b) }
+  -- What the step answers, on the type that the patch takes.
+  on_input : {sent nodes given sent_after nodes_after given_after : List ℕ} {answer : Option Step}
+      → NodeAnswers (node_width a.node) (type read.slice) a.node p sent nodes given sent_after nodes_after given_after answer
+      → NodeAnswers (node_width a.node) a.input a.node p sent nodes given sent_after nodes_after given_after answer
+  on_input {sent} {nodes} {given} {sent_after} {nodes_after} {given_after} {answer} answers =
+      subst (λ (t : Ty). NodeAnswers (node_width a.node) t a.node p sent nodes given sent_after nodes_after given_after answer) same_type answers
 
-  -- What the step is asked: the whole slice is the prefix, behind its count, and the work arrays have room for every type and every prefix.
-  module _ {span : PrefixPlace} {whole : Input} (span_is : span ≡ record { start = 2; end = length slice })
-      (whole_is : whole ≡ record { ty = place.input; prefix = span }) where
-    pub stands : InputAt patch slice whole input prefix
-    stands =
-        rw (whole_is, span_is)
-        (record {
-          type_in = due.read.type_in;
-          prefix_in = record { stands = due.taken.stands; ends = due.taken.fills };
-          is_prefix = due.taken.is_prefix;
-        })
+  module _ {sent nodes given sent_after nodes_after given_after : List ℕ} {answer : Option Step} (long : 255 ≡ length given)
+      (answers : NodeAnswers (node_width a.node) (type read.slice) a.node p sent nodes given sent_after nodes_after given_after answer) where
+    -- It has failed: then Check's second pass refuses the patch, for there was room for every type.
+    pub step_failed : (fault : Fault) → answer ≡ None → fed_by a p ≡ refused (first_fault (typing a.input a.node) fault)
+    unfolding fed_by
+    step_failed fault failed = go (typing a.input a.node) refl
+      where
+        go : (g : Outcome Ty) → typing a.input a.node ≡ g
+            → go_on g (λ t. require (held (patch_left a p).totals) TotalTooLarge (accepted (fed_files a p))) ≡ refused (first_fault g fault)
+        go (accepted t) e =
+            let well = typing_sound a.input a.node t read.patch.node.front.carries e in
+            absurd (has_failed (rw failed at (on_input answers)) t well (omega (arith, long, output_small well.types well.fits, limit_is)))
+        go (refused first) e = refl
 
-    abbrev pub feed_due : (sent nodes given : List ℕ) → slice_file_limit ≡ length sent → twice_node_bytes (count node) ≤ 2 * length nodes
-        → 255 ≡ length given → FeedDue patch slice whole patch place.nodes sent nodes given
-    feed_due sent nodes given a b c =
-        record {
-          type = input;
-          node = node;
-          prefix = prefix;
-          stands = stands;
-          node_at = due.read.node_at;
-          few = due.read.few;
-          rooms = step_rooms a c;
-          left_room = b;
-        }
-
-  -- The step has failed: then Check's second pass refuses the patch, for there was room for every type.
-  pub step_failed : {sent nodes given sent_after nodes_after given_after : List ℕ} {answer : StepAnswer} → 255 ≡ length given
-      → NodeAnswers (place.nodes + node_width node) input node prefix sent nodes given sent_after nodes_after given_after answer
-      → answer ≡ Failed → (t : Ty) → typing input node ≡ accepted t → {e : Fault} → feed patch slice ≡ refused e
-  step_failed long answers failed t typed =
-      let well = typing_sound input node t due.read.node_at.carries typed in
-      absurd (has_failed (rw failed at answers) t well (omega (arith, long, output_small well.types well.fits, limit_is)))
-
-  -- The step is done: what is sent and the node left stand in front of the work arrays, and how long both files are.
+  -- It is done: what is sent, the node left and the type given stand in front of the work arrays.
 
   abbrev next : Patch
-  next = patch_left due.read.patch prefix
+  next = patch_left a p
 
-  abbrev pub files : FedFiles
-  files = fed_files due.read.patch prefix
+  abbrev pub output : Prefix
+  output = sends a.input a.node p
 
-  pub record Done (sent nodes : List ℕ) (step : Step) : Type 0 where
-    pub output : Ty
-    pub typed : WellTyped input node output
-    pub sent_small : step.sent ≤ slice_file_limit
-    pub nodes_small : step.kept ≤ node_bytes_limit
+  pub record Done (sent nodes given : List ℕ) (step : Step) : Type 0 where
+    pub type : Ty
+    pub typed : WellTyped a.input a.node type
+    pub type_here : InFront type given step.size
     pub sent_inside : step.sent ≤ length sent
+    pub sent_small : step.sent ≤ slice_file_limit
+    pub sent_held : HoldsPrefix (type_of (take step.size given)) (take step.sent sent) output
     pub nodes_inside : step.kept ≤ length nodes
-    pub sent_stands : PrefixIn sent (record { start = 0; end = step.sent }) (sends input node prefix)
-    pub sent_taken : take step.sent sent ≡ prefix_bytes (sends input node prefix) []
-    pub nodes_taken : take step.kept nodes ≡ node_bytes (leaves input node prefix) []
+    pub nodes_small : step.kept ≤ node_bytes_limit
+    pub nodes_taken : take step.kept nodes ≡ node_bytes (leaves a.input a.node p) []
 
-  pub done : {sent nodes given sent_after nodes_after given_after : List ℕ} {answer : StepAnswer} {step : Step} → slice_file_limit ≡ length sent
-      → NodeAnswers (place.nodes + node_width node) input node prefix sent nodes given sent_after nodes_after given_after answer
-      → answer ≡ Stepped step → Done sent_after nodes_after step
-  done {sent = sent} {sent_after = sent_after} {step = step} long answers fed =
-      let gave = was_fed (rw fed at answers) in
+  pub done : {sent nodes given sent_after nodes_after given_after : List ℕ} {answer : Option Step} {step : Step} → slice_file_limit ≡ length sent
+      → NodeAnswers (node_width a.node) (type read.slice) a.node p sent nodes given sent_after nodes_after given_after answer
+      → answer ≡ Some step → Done sent_after nodes_after given_after step
+  done {sent} {nodes} {given} {sent_after} {nodes_after} {given_after} {answer} {step} long answers some =
+      let gave = was_fed (rw some at (on_input answers)) in
       let steps = gave.steps in
-      let sent_long : step.sent ≡ length (prefix_bytes (sends input node prefix) [])
-      = omega (arith, steps.sent, prefix_bytes_length (sends input node prefix) []) in
+      let typed = gave.gives in
+      let sent_long : step.sent ≡ length (prefix_bytes output [])
+      = omega (arith, steps.sent, prefix_bytes_length output []) in
+      let sized : step.size ≡ length (type_bytes gave.type []) = omega (arith, steps.sized, type_width gave.type) in
+      let holds : Holds (take step.size given_after) gave.type
+      = record { bytes = leads_taken steps.type_given sized; small = output_small typed.types typed.fits } in
       record {
-        output = _;
-        typed = gave.gives;
-        sent_small = omega (arith, long, sent_long, leads_inside steps.output);
-        nodes_small = omega (arith, steps.kept, left_width gave.gives due.taken.is_prefix, few);
+        type = gave.type;
+        typed = typed;
+        type_here = in_front (omega (arith, sized, leads_inside steps.type_given, steps.type_given.long)) holds;
         sent_inside = omega (arith, sent_long, leads_inside steps.output, steps.output.long);
+        sent_small = omega (arith, long, sent_long, leads_inside steps.output);
+        sent_held =
+            rw (has_tree holds)
+            (record { bytes = leads_taken steps.output sent_long; is = (preserved typed.types of_input).sent; small = holds.small });
         nodes_inside = omega (arith, steps.kept, leads_inside steps.node_left, steps.node_left.long);
-        sent_stands = rw steps.sent (prefix_stands steps.output);
-        sent_taken = leads_taken steps.output sent_long;
+        nodes_small = omega (arith, steps.kept, left_width typed of_input, few_nodes);
         nodes_taken = leads_taken steps.node_left steps.kept;
       }
 
-  module _ {sent nodes : List ℕ} {step : Step} (is_done : Done sent nodes step) where
-    -- What is sent stands in front of the work bytes, and ends where a slice can.
-    module _ {span : PrefixPlace} (span_is : span ≡ record { start = 0; end = step.sent }) where
-      pub sent_in : PrefixIn sent span (sends input node prefix)
-      sent_in = rw span_is is_done.sent_stands
-
-      pub sent_ends : span.end ≤ slice_file_limit
-      sent_ends = rw span_is is_done.sent_small
-
+  module _ {sent nodes given : List ℕ} {step : Step} (is_done : Done sent nodes given step) where
     -- Feed is accepted where the totals left are held, and refused with 31 where they are not.
 
-    pub feed_is : held next.totals ≡ true → feed patch slice ≡ accepted files
-    unfolding feed patch_file second_pass takes_slice
-    feed_is h = let typed = is_done.typed in rw (due.read.is_accepted, typing-complete typed.types typed.fits, due.taken.is_accepted, h)
+    fed_is : held next.totals ≡ true → fed_by a p ≡ accepted (fed_files a p)
+    unfolding fed_by
+    fed_is h = let typed = is_done.typed in rw (typing-complete typed.types typed.fits, h)
 
-    pub feed_passes : held next.totals ≡ false → feed patch slice ≡ refused TotalTooLarge
-    unfolding feed patch_file second_pass takes_slice
-    feed_passes h = let typed = is_done.typed in rw (due.read.is_accepted, typing-complete typed.types typed.fits, due.taken.is_accepted, h)
+    passes : held next.totals ≡ false → fed_by a p ≡ refused TotalTooLarge
+    unfolding fed_by
+    passes h = let typed = is_done.typed in rw (typing-complete typed.types typed.fits, h)
 
-    module _ {went : ℕ} {totals : List ℕ} {answer : Bool} (went_is : went ≡ arrivals (sends input node prefix)) (sums : CountsAdded patch arrived went totals answer) where
+    module _ {went : ℕ} {totals : List ℕ} {answer : Result (Unit {0}) Fault} (went_is : went ≡ arrivals output)
+        (sums : Sums (counted (totals_of read.patch.totals.now) read.arrived went) totals answer) where
       -- The totals that were added up are those of the patch left.
       pub totals_left : Sums next.totals totals answer
-      totals_left = rw (due.arrived_is, went_is) at (sums.each due.read.patch.totals due.read.held due.read.totals_at)
+      totals_left = rw (read.arrived_is, went_is) at sums
 
       -- What is sent and the parts of the patch left, on the work bytes.
-      abbrev pub both_due : answer ≡ true → BothDue (take step.sent sent) left (take step.kept nodes) totals
+      abbrev pub both_due : answer ≡ Ok tt → BothDue (take step.sent sent) read.left.now (take step.kept nodes) totals
       both_due fit =
           let sent_long : length (take step.sent sent) ≡ step.sent = length-take-le step.sent sent is_done.sent_inside in
           let nodes_long : length (take step.kept nodes) ≡ step.kept = length-take-le step.kept nodes is_done.nodes_inside in
           record {
-            output = sends input node prefix;
+            output = output;
             patch = next;
-            sent_is = is_done.sent_taken;
+            sent_is = is_done.sent_held.bytes;
             short = omega (arith, sent_long, is_done.sent_small);
             bytes =
                 record {
-                  input_is = due.left_is;
+                  input_is = read.left_is;
                   nodes_are = is_done.nodes_taken;
                   totals_are = totals_left.bytes fit;
-                  small = small_left;
+                  small = left_small;
                   countable = omega (arith, nodes_long, is_done.nodes_small);
                 };
           }
 
-      pub both_keep : {output patch_lent output_after patch_after : List ℕ} {told : Fed} → answer ≡ true
-          → BothWritten (take step.sent sent) left (take step.kept nodes) totals arrived went output patch_lent told output_after patch_after
-          → FeedPromise patch slice output patch_lent told output_after patch_after
-      both_keep fit wrote =
-          files_keep (feed_is (sym totals_left.told ∙ fit)) (counts_are due.arrived_is went_is (both_due fit) wrote)
+      pub both_told : {out lent out_after lent_after : List ℕ} {told : Fed} → answer ≡ Ok tt
+          → BothWritten (take step.sent sent) read.left.now (take step.kept nodes) totals read.arrived went out lent told out_after lent_after
+          → Delivers (fed_by a p) out lent told out_after lent_after
+      both_told fit wrote =
+          rw (fed_is (is_held next.totals totals_left.told fit)) (counts_are read.arrived_is went_is (both_due fit) wrote)
 
-      pub passed_keeps : (output patch_lent : List ℕ) → answer ≡ false → FeedPromise patch slice output patch_lent (told (refused TotalTooLarge)) output patch_lent
-      passed_keeps output patch_lent over = refused_keeps output patch_lent TotalTooLarge (feed_passes (sym totals_left.told ∙ over))
+      pub passed_told : (out lent : List ℕ) (e : Fault) {told : Result Delivered Fault} → told ≡ Err e → answer ≡ Err e
+          → Delivers (fed_by a p) out lent (told_delivered told) out lent
+      passed_told out lent e told_is over =
+          let passed = has_passed next.totals totals_left.told over in
+          refusal_delivers out lent e told_is (passes passed.0 ∙ ap refused (sym passed.1))

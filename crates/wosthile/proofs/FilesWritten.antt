@@ -5,25 +5,28 @@ use Prim.Native.Nat.{ℕ, ◌+◌, ◌≤◌, ◌<◌}
 use native.Mathlib.Omega.{arith}
 use lib.ListN.{length}
 use borrow.Author.Tests.{le-leb, lt-leb}
+use Rattle.std.specs.Prelude.{Ok, Err}
 use Rattle.stream.specs.declared.Fault.TheVariants.{NoRoom}
-use Rattle.stream.specs.Reading.{refused, section_bytes}
+use Rattle.stream.specs.Reading.{accepted, section_bytes}
 use Rattle.stream.proofs.Reading.Laws.{section_length}
 use Rattle.stream.specs.Buffers.{at_front}
 use Rattle.stream.specs.SliceFiles.{prefix_bytes, slice_file_bytes}
 use Rattle.node.proofs.Totals.Laws.{totals_length}
 use Rattle.node.specs.PatchFiles.{patch_file_bytes}
 use Rattle.node.proofs.PatchFiles.Laws.{patch_file-size}
-use Rattle.meaning.specs.Answers.{FedFiles, with_room, fed as told, after}
-use Rattle.wosthile.specs.PatchWriting.{PatchWriteDue, BothDue, FeedsFiles}
+use Rattle.meaning.specs.Answers.{FedFiles, with_room, fed, after}
+use Rattle.meaning.specs.Told.{told_delivered}
+use Rattle.wosthile.specs.Delivering.{Delivers}
+use Rattle.wosthile.specs.PatchWriting.{PatchWriteDue, BothDue}
 
 module _ (files : FedFiles) (output patch_lent : List ℕ) where
-  pub output_short : length output < length files.output → FeedsFiles files output patch_lent (told (refused NoRoom)) output patch_lent
-  unfolding with_room told after
+  pub output_short : length output < length files.output → Delivers (accepted files) output patch_lent (told_delivered (Err NoRoom)) output patch_lent
+  unfolding with_room fed after
   output_short s = record { answers = rw (lt-leb _ _ s); output_buffer = rw (lt-leb _ _ s); patch_buffer = rw (lt-leb _ _ s) }
 
   module _ (fits : length files.output ≤ length output) where
-    pub patch_short : length patch_lent < length files.patch → FeedsFiles files output patch_lent (told (refused NoRoom)) output patch_lent
-    unfolding with_room told after
+    pub patch_short : length patch_lent < length files.patch → Delivers (accepted files) output patch_lent (told_delivered (Err NoRoom)) output patch_lent
+    unfolding with_room fed after
     patch_short s =
         record {
           answers = rw (le-leb _ _ fits, lt-leb _ _ s);
@@ -33,8 +36,9 @@ module _ (files : FedFiles) (output patch_lent : List ℕ) where
 
     pub files_fit : length files.patch ≤ length patch_lent → {sent kept : ℕ} → sent ≡ length files.output → kept ≡ length files.patch
         → {output_after patch_after : List ℕ} → output_after ≡ at_front files.output output → patch_after ≡ at_front files.patch patch_lent
-        → FeedsFiles files output patch_lent (record { number = 0; output = sent; patch = kept; arrived = files.arrived; sent = files.sent }) output_after patch_after
-    unfolding with_room told after
+        → Delivers (accepted files) output patch_lent
+        (told_delivered (Ok (record { output = sent; patch = kept; arrived = files.arrived; sent = files.sent }))) output_after patch_after
+    unfolding with_room fed after
     files_fit s n m o l =
         record {
           answers = rw (le-leb _ _ fits, le-leb _ _ s, n, m);

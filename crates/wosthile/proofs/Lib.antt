@@ -4,4 +4,5 @@ mod FilesWritten
 pub mod Keeping
 pub mod Opening
 mod PatchWritten
+mod SliceRead
 mod TotalsAdded

@@ -7,11 +7,11 @@ use lib.ListN.{length}
 use Rattle.stream.specs.Reading.{section_bytes}
 use Rattle.stream.proofs.Reading.Laws.{section_length}
 use Rattle.stream.specs.Buffers.{at_front}
+use Rattle.writing.specs.Writing.{Begun}
+use Rattle.writing.specs.Writing.Laws.{part, back, goes_on, room_left}
 use Rattle.node.proofs.Totals.Laws.{totals_length}
 use Rattle.node.specs.Nodes.{Patch}
 use Rattle.node.specs.PatchFiles.{patch_file_bytes}
-use Rattle.writing.specs.Writing.{Begun}
-use Rattle.writing.specs.Writing.Laws.{part, back, goes_on, room_left}
 use Rattle.wosthile.specs.PatchWriting.{PatchBytes, PatchWriteDue, PatchWritten}
 
 -- What is behind a section stands behind it.

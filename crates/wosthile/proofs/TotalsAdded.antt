@@ -1,30 +1,24 @@
 -- Totals as they stand in a patch file, and the counts added to them.
 use mathlib.Core.Path.{◌≡◌, refl, sym, ap, ◌∙◌}
 use mathlib.Core.Bool.{Bool, true, false}
-use mathlib.Core.List.{List, [], ◌∷◌, ◌++◌, append-nil}
-use Prim.Native.Nat.{ℕ, ◌+◌, ◌-◌, ◌/◌, ◌%◌, ◌≤◌, ◌<◌}
-use native.Mathlib.Omega.{arith}
+use mathlib.Core.List.{List, [], ◌++◌, append-nil}
+use Prim.Native.Nat.{ℕ, ◌+◌, ◌/◌, ◌%◌, ◌≤◌, ◌<◌}
+use native.Mathlib.Omega.{arith, by_contra}
 use native.Mathlib.Nat.{add-zero}
 use lib.ListN.{length, get_or, drop, drop_of_length-le}
-use lib.Seq.{get_or-drop, drop-drop}
+use lib.Seq.{get_or-drop}
+use Rattle.std.specs.Prelude.{Option, Some, None, Result, Ok, Err, SomeIff, ok_or, cond, ◌^◌}
 use Rattle.stream.specs.Reading.{number_bytes}
 use Rattle.stream.proofs.Reading.Numbers.{number_behind, number_append, number_length}
 use Rattle.stream.specs.Buffers.{at_front}
-use Rattle.node.specs.Totals.{Totals, Held, held, total_limit, total_width, totals_bytes}
-use Rattle.node.proofs.Totals.Laws.{held_test}
+use Rattle.stream.specs.declared.Fault.{Fault}
+use Rattle.stream.specs.declared.Fault.TheVariants.{TotalTooLarge}
 use Rattle.writing.specs.Writing.{Begun}
 use Rattle.writing.specs.Writing.Laws.{part, back, goes_on}
-use Rattle.wosthile.specs.TotalsLeft.{total_in, CountsAdded}
-
--- A number as its four bytes.
-
-pub four_digits : (v : ℕ) → v ≤ 4294967295
-    → v / 16777216 ∷ v / 65536 % 256 ∷ v / 256 % 256 ∷ v % 256 ∷ [] ≡ number_bytes total_width v []
-unfolding number_bytes
-four_digits v h =
-    let first : v / 16777216 ≡ v / 256 / 256 / 256 % 256 = omega arith in
-    let second : v / 65536 % 256 ≡ v / 256 / 256 % 256 = omega arith in
-    λ i. first i ∷ second i ∷ v / 256 % 256 ∷ v % 256 ∷ []
+use Rattle.node.specs.Totals.{Totals, Held, held, total_limit, total_width, totals_bytes}
+use Rattle.node.proofs.Totals.Laws.{held_test, totals_length}
+use Rattle.patch_reading.specs.Found.{AreTotals, totals_of}
+use Rattle.wosthile.specs.TotalsLeft.{total_in, counted, adds, Sums}
 
 total_stands : (bytes : List ℕ) (at v : ℕ) (r : List ℕ) → drop at bytes ≡ number_bytes total_width v r → v ≤ total_limit → total_in bytes at ≡ v
 unfolding number_bytes total_limit
@@ -35,18 +29,25 @@ total_stands bytes at v r e h =
     let fourth : get_or bytes (at + 3) 0 ≡ v % 256 = sym (get_or-drop at bytes 3 0) ∙ ap (λ l. get_or l 3 0) e in
     omega (arith, first, second, third, fourth, h)
 
--- The totals of a patch file are its last bytes.
-module _ (patch : List ℕ) (c : Totals) (within : Held c) (stands : drop (length patch - 8) patch ≡ totals_bytes c []) where
-  came_stands : total_in patch (length patch - 8) ≡ c.arrived
-  unfolding totals_bytes
-  came_stands = total_stands patch (length patch - 8) c.arrived _ stands within.arrived
+-- The totals of a patch are its bytes.
+module _ {s : List ℕ} (are : AreTotals s) where
+  abbrev c : Totals
+  c = totals_of s
 
-  went_stands : total_in patch (length patch - 8 + 4) ≡ c.sent
+  within : Held c
+  within = (held_test c).0 are.1
+
+  pub totals_eight : length s ≡ 8
+  totals_eight = sym (ap length are.0) ∙ totals_length c []
+
+  came_stands : total_in s 0 ≡ c.arrived
+  unfolding totals_bytes
+  came_stands = total_stands s 0 c.arrived _ (sym are.0) within.arrived
+
+  went_stands : total_in s 4 ≡ c.sent
   unfolding totals_bytes
   went_stands =
-      total_stands patch (length patch - 8 + 4) c.sent []
-      (sym (drop-drop 4 (length patch - 8) patch) ∙ ap (drop 4) stands ∙ number_behind total_width c.arrived (number_bytes total_width c.sent []))
-      within.sent
+      total_stands s 4 c.sent [] (ap (drop 4) (sym are.0) ∙ number_behind total_width c.arrived (number_bytes total_width c.sent [])) within.sent
 
 not_held : (c : Totals) → (Held c → ⊥) → held c ≡ false
 not_held c passed = go (held c) refl
@@ -69,40 +70,66 @@ sums_written lent a b {now} long first {rest} more =
     ∙ append-nil (number_bytes total_width a [] ++ number_bytes total_width b [])
     ∙ sym (number_append total_width a [] (number_bytes total_width b []))
 
-never : {A : Type 0} → false ≡ true → A
-never e = let z : ◌≡◌ {A = ℕ} 0 1 = cc in absurd (omega arith)
+-- What the adder tells says whether the totals are held.
+
+pub is_held : (totals : Totals) {answer : Result (Unit {0}) Fault} → answer ≡ adds totals → answer ≡ Ok tt → held totals ≡ true
+unfolding adds
+is_held totals told fit = go (held totals) (sym fit ∙ told)
+  where
+    go : (b : Bool) → Ok (tt {0}) ≡ cond b (Ok tt) (Err TotalTooLarge) → b ≡ true
+    go true e = refl
+    go false e = let z : ◌≡◌ {A = ℕ} 0 1 = cc in absurd (omega arith)
+
+pub has_passed : (totals : Totals) {answer : Result (Unit {0}) Fault} {e : Fault} → answer ≡ adds totals → answer ≡ Err e
+    → (held totals ≡ false) × (e ≡ TotalTooLarge)
+unfolding adds
+has_passed totals {e = e} told over = go (held totals) (sym over ∙ told)
+  where
+    go : (b : Bool) → Err e ≡ cond b (Ok (tt {0})) (Err TotalTooLarge) → (b ≡ false) × (e ≡ TotalTooLarge)
+    go true z = let x : ◌≡◌ {A = ℕ} 0 1 = cc in absurd (omega arith)
+    go false z = (refl, cc)
+
+-- A sum that is made, and one that passes the limit.
+
+pub sum_made : {sum n : ℕ} (made : Option ℕ) {answer : Result ℕ Fault} → SomeIff made (sum < 2 ^ 32) sum → answer ≡ ok_or made TotalTooLarge
+    → answer ≡ Ok n → (n ≤ 4294967295) × (n ≡ sum)
+sum_made {sum} {n} made sums told ok = go made sums (sym ok ∙ told)
+  where
+    go : (o : Option ℕ) → SomeIff o (sum < 2 ^ 32) sum → Ok n ≡ ok_or o TotalTooLarge → (n ≤ 4294967295) × (n ≡ sum)
+    go (Some m) s e = let same : n ≡ m = cc in (omega (arith, s.0, s.1), same ∙ s.1)
+    go None s e = let z : ◌≡◌ {A = ℕ} 0 1 = cc in absurd (omega arith)
+
+pub sum_passed : {sum : ℕ} {fault : Fault} (made : Option ℕ) {answer : Result ℕ Fault} → SomeIff made (sum < 2 ^ 32) sum
+    → answer ≡ ok_or made TotalTooLarge → answer ≡ Err fault → (4294967295 < sum) × (fault ≡ TotalTooLarge)
+sum_passed {sum} {fault} made sums told err = go made sums (sym err ∙ told)
+  where
+    go : (o : Option ℕ) → SomeIff o (sum < 2 ^ 32) sum → Err fault ≡ ok_or o TotalTooLarge → (4294967295 < sum) × (fault ≡ TotalTooLarge)
+    go (Some m) s e = let z : ◌≡◌ {A = ℕ} 0 1 = cc in absurd (omega arith)
+    go None s e = (by_contra _ _ (λ few. s (omega (arith, few))), cc)
 
 -- What is told where a sum passes the limit, and where none does.
 
-module _ {patch written : List ℕ} {arrived sent came went : ℕ} (came_is : came ≡ total_in patch (length patch - 8))
-    (went_is : went ≡ total_in patch (length patch - 8 + 4)) where
-  pub arrived_passed : 4294967295 - came < arrived → CountsAdded patch arrived sent written false
-  unfolding total_limit
-  arrived_passed over = record {
-    each = λ c within stands. record {
-      told = sym (not_held _ (λ w. omega (arith, w.arrived, came_stands patch c within stands)));
-      bytes = λ e. never e;
-    };
-  }
+passed : {totals : Totals} {written : List ℕ} → (Held totals → ⊥) → Sums totals written (Err TotalTooLarge)
+unfolding adds
+passed over = record { told = rw (not_held _ over); bytes = λ e. let z : ◌≡◌ {A = ℕ} 0 1 = cc in absurd (omega arith) }
 
-  pub sent_passed : 4294967295 - went < sent → CountsAdded patch arrived sent written false
+module _ {s : List ℕ} (are : AreTotals s) {written : List ℕ} (arrived sent : ℕ) where
+  pub arrived_passed : 4294967295 < total_in s 0 + arrived → Sums (counted (totals_of s) arrived sent) written (Err TotalTooLarge)
   unfolding total_limit
-  sent_passed over = record {
-    each = λ c within stands. record {
-      told = sym (not_held _ (λ w. omega (arith, w.sent, went_stands patch c within stands)));
-      bytes = λ e. never e;
-    };
-  }
+  arrived_passed over = passed (λ w. omega (arith, w.arrived, came_stands are))
 
-  pub sums_held : arrived ≤ 4294967295 - came → sent ≤ 4294967295 - went → written ≡ totals_bytes (record { arrived = came + arrived; sent = went + sent }) []
-      → CountsAdded patch arrived sent written true
+  pub sent_passed : 4294967295 < total_in s 4 + sent → Sums (counted (totals_of s) arrived sent) written (Err TotalTooLarge)
   unfolding total_limit
-  sums_held a b is = record {
-    each = λ c within stands.
-        let x = came_is ∙ came_stands patch c within stands in
-        let y = went_is ∙ went_stands patch c within stands in
-        record {
-          told = sym ((held_test _).1 (record { arrived = omega (arith, x, within.arrived); sent = omega (arith, y, within.sent) }));
-          bytes = λ e. is ∙ (λ i. totals_bytes (record { arrived = x i + arrived; sent = y i + sent }) []);
-        };
-  }
+  sent_passed over = passed (λ w. omega (arith, w.sent, went_stands are))
+
+  pub sums_held : {came went : ℕ} → came ≡ total_in s 0 + arrived → came ≤ 4294967295 → went ≡ total_in s 4 + sent → went ≤ 4294967295
+      → written ≡ totals_bytes (record { arrived = came; sent = went }) [] → Sums (counted (totals_of s) arrived sent) written (Ok tt)
+  unfolding total_limit adds
+  sums_held {came} {went} came_is came_fits went_is went_fits is =
+      let next = counted (totals_of s) arrived sent in
+      let x : came ≡ next.arrived = came_is ∙ ap (λ n. n + arrived) (came_stands are) in
+      let y : went ≡ next.sent = went_is ∙ ap (λ n. n + sent) (went_stands are) in
+      record {
+        told = rw ((held_test next).1 (record { arrived = omega (arith, x); sent = omega (arith, y) }));
+        bytes = λ e. is ∙ (λ i. totals_bytes (record { arrived = x i; sent = y i }) []);
+      }

@@ -1,3 +1,3 @@
-pub mod FeedReads
+pub mod Delivering
 pub mod PatchWriting
 pub mod TotalsLeft

@@ -1,8 +1,10 @@
 -- What the writers of a patch file and of Feed's answers ask and promise: contracts inside the library, which no demand rests on.
-use Rattle.std.specs.Prelude.{◌≡◌, List, [], ℕ, ◌+◌, ◌≤◌, length}
+use Rattle.std.specs.Prelude.{Result, Ok, Err, ◌≡◌, List, [], ℕ, ◌+◌, ◌≤◌, ◌<◌, length}
+use Rattle.stream.specs.declared.Fault.{Fault}
+use Rattle.stream.specs.declared.Fault.TheVariants.{NoRoom}
 use Rattle.stream.specs.Bounds.{slice_file_limit, node_bytes_limit}
 use Rattle.stream.specs.Prefixes.{Prefix}
-use Rattle.stream.specs.Reading.{accepted}
+use Rattle.stream.specs.Reading.{accepted, section_bytes}
 use Rattle.stream.specs.Buffers.{at_front}
 use Rattle.stream.specs.TypeFiles.{type_bytes}
 use Rattle.stream.specs.SliceFiles.{prefix_bytes, slice_file_bytes}
@@ -10,7 +12,12 @@ use Rattle.node.specs.Totals.{totals_bytes}
 use Rattle.node.specs.Nodes.{Patch}
 use Rattle.node.specs.PatchFiles.{node_bytes, patch_file_bytes}
 use Rattle.meaning.specs.declared.Fed.{Fed}
-use Rattle.meaning.specs.Answers.{FedFiles, into_both, fed, after}
+use Rattle.wosthile.specs.Delivering.{Delivers}
+
+-- The file of a section is written, if it has room: how many bytes it has, or 20.
+pub record PutsFile (body lent : List ℕ) (answer : Result ℕ Fault) (lent_after : List ℕ) : Type 0 where
+  pub written : 2 + length body ≤ length lent → (answer ≡ Ok (2 + length body)) × (lent_after ≡ at_front (section_bytes body []) lent)
+  pub no_room : length lent < 2 + length body → (answer ≡ Err NoRoom) × (lent_after ≡ lent)
 
 -- All of `input` are the bytes of the patch's input type, all of `nodes` those of its node, and all of `totals` those of its totals.
 pub record PatchBytes (patch : Patch) (input nodes totals : List ℕ) : Type 0 where
@@ -36,14 +43,8 @@ pub record BothDue (sent input nodes totals : List ℕ) : Type 0 where
   pub short : length sent ≤ slice_file_limit
   pub bytes : PatchBytes patch input nodes totals
 
--- What a call answers and writes that is to write these files: what FeedPromise says of what is due.
-pub record FeedsFiles (files : FedFiles) (output_lent patch_lent : List ℕ) (answer : Fed) (output_after patch_after : List ℕ) : Type 0 where
-  pub answers : answer ≡ fed (into_both output_lent patch_lent (accepted files))
-  pub output_buffer : output_after ≡ after (λ w. w.output) (into_both output_lent patch_lent (accepted files)) output_lent
-  pub patch_buffer : patch_after ≡ after (λ w. w.patch) (into_both output_lent patch_lent (accepted files)) patch_lent
-
 pub record BothWritten (sent input nodes totals : List ℕ) (arrived went : ℕ) (output_lent patch_lent : List ℕ)
     (answer : Fed) (output_after patch_after : List ℕ) : Type 0 where
   pub each : (due : BothDue sent input nodes totals)
-      → FeedsFiles (record { output = slice_file_bytes due.output; patch = patch_file_bytes due.patch; arrived = arrived; sent = went })
+      → Delivers (accepted (record { output = slice_file_bytes due.output; patch = patch_file_bytes due.patch; arrived = arrived; sent = went }))
       output_lent patch_lent answer output_after patch_after

@@ -1,15 +1,11 @@
 // The totals of a patch: how many cues and levels arrived and were sent in all feeds that led to it.
-ghost use Rattle.std.specs.Prelude.{◌≡◌, [], ◌+◌, ◌≤◌, length};
-ghost use Rattle.stream.specs.Reading.{number_bytes};
-ghost use Rattle.stream.specs.Buffers.{at_front};
-ghost use Rattle.node.specs.Totals.{total_width};
-ghost use Rattle.wosthile.specs.TotalsLeft.{total_in, CountsAdded};
+ghost use Rattle.patch_reading.specs.Found.{AreTotals, totals_of};
+ghost use Rattle.std.specs.Prelude.{◌≡◌, ◌+◌, ◌≤◌, length};
+ghost use Rattle.wosthile.specs.TotalsLeft.{total_in, counted, Sums};
 
-use patch_reading::PatchPlace;
 use reading::sections::count_of;
-
-// "4,294,967,295", the most that four bytes hold.
-const MAX_TOTAL: u32 = 4294967295;
+use stream::Fault;
+use writing::numbers::put_number;
 
 // The number of the four bytes at `at`, the high one first.
 fn total_at(bytes: &[u8], at: usize) -> u32
@@ -21,33 +17,20 @@ fn total_at(bytes: &[u8], at: usize) -> u32
     (high * 65536 + low) as u32
 }
 
-// Writes a number as four bytes, the high one first.
-fn put_total(total: u32, out: &mut [u8])
-    requires { 4 ≤ length out.old }
-    ensures { out.new ≡ at_front (number_bytes total_width total []) out.old }
+// Writes the totals of the patch left, those of the patch and both counts, unless one of them passes "4,294,967,295", the most that four
+// bytes hold: then nothing is written.
+pub fn add_counts(totals: &[u8], arrived: u32, sent: u32, out: &mut [u8]) -> Result<(), Fault>
+    requires are_totals { AreTotals totals.now }
+    requires eight { length out.old ≡ 8 }
+    ensures { Sums (counted (totals_of totals.now) arrived sent) out.new result }
 {
-    out[0] = (total / 16777216) as u8;
-    out[1] = (total / 65536 % 256) as u8;
-    out[2] = (total / 256 % 256) as u8;
-    out[3] = (total % 256) as u8;
-}
-
-// Writes the totals of the patch left, those of `patch` and both counts. It says whether none of them passes the limit; if one does,
-// nothing is written.
-pub fn add_counts(patch: &[u8], arrived: u32, sent: u32, totals: &mut [u8]) -> bool
-    requires { (8 ≤ length patch.now) × (length totals.old ≡ 8) }
-    ensures { CountsAdded patch.now arrived sent totals.new result }
-{
-    let at = patch.len() - PatchPlace::TOTALS;
-    let came = total_at(patch, at);
-    let went = total_at(patch, at + 4);
-    if MAX_TOTAL - came < arrived {
-        return false;
-    }
-    if MAX_TOTAL - went < sent {
-        return false;
-    }
-    put_total(came + arrived, totals);
-    put_total(went + sent, &mut totals[4..]);
-    true
+    let came = total_at(totals, 0)
+        .checked_add(arrived)
+        .ok_or(Fault::TotalTooLarge)?;
+    let went = total_at(totals, 4)
+        .checked_add(sent)
+        .ok_or(Fault::TotalTooLarge)?;
+    put_number::<4>(came, out);
+    put_number::<4>(went, &mut out[4..]);
+    Ok(())
 }

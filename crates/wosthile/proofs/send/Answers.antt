@@ -1,75 +1,75 @@
 -- `send` meets its contract: the step writes what is sent and the node left on work bytes that have room for every answer. What is sent is
 -- counted, both counts are added to the totals, and if these are held all goes on to `write_both`; if the step fails, Check's second pass
 -- has a fault (`FeedOutcome`).
-use Rattle.std.proofs.Common.{◌≡◌, sym, arith}
+use Rattle.std.proofs.Common.{◌≡◌, refl, sym, ◌∙◌, ap, arith, rules}
 use Rattle.std.proofs.Math.Seq.{length-take-le}
+use Rattle.stream.proofs.TypeFiles.Held.{is_whole, is_small}
+use Rattle.stream.proofs.SliceFiles.Held.{is_whole as slice_whole, is_fit, has_prefix}
 use Rattle.stream.specs.Prefixes.{arrivals}
-use Rattle.node.specs.Feeding.Functions.{sends}
-use Rattle.wosthile.proofs.FeedOutcome.{refuses_keep, feed_due, step_failed, Done, done, sent_in, sent_ends, both_due, both_keep, passed_keeps}
-use Rattle.wosthile.proofs.send.Goals.{In-Fed, After-count_arrivals-went}
+use Rattle.stream.specs.Reading.{refused}
+use Rattle.wosthile.proofs.FeedOutcome.{refusal_delivers, step_rooms, step_failed, Done, done, output, both_due, both_told, passed_told}
+use Rattle.wosthile.proofs.send.Goals.{In-Some, After-arrivals-went}
 use Rattle.wosthile.proofs.send.Goals as goal
 
 -- What the step has done, once it has answered, and how much was sent.
 
-is_done : (c : In-Fed) → Done c.requires.reads c.feed_node.new.out c.feed_node.new.remainder c.in-Fed.step
-is_done c =
-    done c.requires.reads (omega arith)
-    (c.feed_node.ensures.each
-    (feed_due c.requires.reads c.new.ensures c.new-input.ensures _ _ _ (omega arith) c.requires.room (omega arith)))
-    c.in-Fed.is
+is_done : (c : In-Some) → Done c.args.read c.feed_node.new.out c.feed_node.new.remainder c.feed_node.new.given c.in-Some.step
+is_done c = done c.args.read (omega arith) c.feed_node.ensures c.in-Some.is
 
-went_is : (c : After-count_arrivals-went) → Done c.requires.reads c.feed_node.new.out c.feed_node.new.remainder c.in-Fed.step
-    → c.count_arrivals-went.result ≡ arrivals (sends c.requires.reads.read.patch.input c.requires.reads.read.patch.node c.requires.reads.taken.prefix)
-went_is c made = c.count_arrivals-went.ensures.each _ (sent_in c.requires.reads made c.new-in-Fed.ensures)
+went_is : (c : After-arrivals-went) → Done c.args.read c.feed_node.new.out c.feed_node.new.remainder c.feed_node.new.given c.in-Some.step
+    → c.arrivals-went.result ≡ arrivals (output c.args.read)
+went_is c made = c.arrivals-went.ensures ∙ ap arrivals (has_prefix made.sent_held)
 
 pub feed_node-requires : goal.feed_node-requires
-feed_node-requires c =
-    feed_due c.requires.reads c.new.ensures c.new-input.ensures _ _ _ (omega arith) c.requires.room (omega arith)
+feed_node-requires c = step_rooms c.args.read (omega arith) c.requires (omega arith)
 
-pub count_arrivals-went-requires : goal.count_arrivals-went-requires
-count_arrivals-went-requires c =
-    let made = is_done (goal.at.count_arrivals-went-requires c).In-Fed in
-    record {
-      some_prefix_in = record { prefix = _; here = sent_in c.requires.reads made c.new-in-Fed.ensures };
-      end_le_slice_file_limit = sent_ends c.requires.reads made c.new-in-Fed.ensures;
-    }
+pub slice_bounds-given-end : goal.slice_bounds-given-end
+slice_bounds-given-end c = (is_done (goal.at.slice_bounds-given-end c).In-Some).type_here.inside
+
+pub slice_bounds-output-end : goal.slice_bounds-output-end
+slice_bounds-output-end c = (is_done (goal.at.slice_bounds-output-end c).In-Some).type_here.long
+
+pub slice_bounds-output-end-2 : goal.slice_bounds-output-end-2
+slice_bounds-output-end-2 c = sym (length-take-le _ _ (is_done (goal.at.slice_bounds-output-end-2 c).In-Some).sent_inside)
 
 pub slice_bounds-sent-end : goal.slice_bounds-sent-end
-slice_bounds-sent-end c = (is_done (goal.at.slice_bounds-sent-end c).In-Fed).sent_inside
+slice_bounds-sent-end c = (is_done (goal.at.slice_bounds-sent-end c).In-Some).sent_inside
+
+pub invariant_of-output : goal.invariant_of-output
+invariant_of-output c =
+    let h = (is_done (goal.at.invariant_of-output c).In-Some).type_here.holds in
+    record { whole = is_whole h; small = is_small h }
+
+pub invariant_of-output-2 : goal.invariant_of-output-2
+invariant_of-output-2 c =
+    let h = (is_done (goal.at.invariant_of-output-2 c).In-Some).sent_held in
+    record { whole = slice_whole h; is_prefix = is_fit h }
 
 pub slice_bounds-write_both-end : goal.slice_bounds-write_both-end
-slice_bounds-write_both-end c = sym (length-take-le _ _ (is_done (goal.at.slice_bounds-write_both-end c).In-Fed).sent_inside)
+slice_bounds-write_both-end c = (is_done (goal.at.slice_bounds-write_both-end c).In-Some).nodes_inside
 
-pub slice_bounds-write_both-end-then-fit : goal.slice_bounds-write_both-end-then-fit
-slice_bounds-write_both-end-then-fit c = (is_done (goal.at.slice_bounds-write_both-end-then-fit c).In-Fed).nodes_inside
-
-pub slice_bounds-write_both-end-then-fit-2 : goal.slice_bounds-write_both-end-then-fit-2
-slice_bounds-write_both-end-then-fit-2 c =
-    sym (length-take-le _ _ (is_done (goal.at.slice_bounds-write_both-end-then-fit-2 c).In-Fed).nodes_inside)
+pub slice_bounds-write_both-end-2 : goal.slice_bounds-write_both-end-2
+slice_bounds-write_both-end-2 c = sym (length-take-le _ _ (is_done (goal.at.slice_bounds-write_both-end-2 c).In-Some).nodes_inside)
 
 pub write_both-requires : goal.write_both-requires
 write_both-requires c =
     let at = goal.at.write_both-requires c in
-    let made = is_done at.In-Fed in
-    both_due c.requires.reads made (went_is at.After-count_arrivals-went made) c.add_counts-fit.ensures c.if-fit.true
+    let made = is_done at.In-Some in
+    both_due c.args.read made (went_is at.After-arrivals-went made) c.add_counts.ensures c.in_ok-add_counts.was
 
-pub returns-then-fit : goal.returns-then-fit
-returns-then-fit c =
-    let at = goal.at.returns-then-fit c in
-    let made = is_done at.In-Fed in
-    both_keep c.requires.reads made (went_is at.After-count_arrivals-went made) c.add_counts-fit.ensures c.if-fit.true
-    c.write_both.ensures
+pub returns-in_default : goal.returns-in_default
+returns-in_default c =
+    refusal_delivers _ _ _ refl (step_failed c.args.read (omega arith) c.feed_node.ensures _ c.in_default.is ∙ ap refused (sym c.first_fault.ensures))
 
-pub returns-in-Failed : goal.returns-in-Failed
-returns-in-Failed c =
-    let answers = c.feed_node.ensures.each
-    (feed_due c.requires.reads c.new.ensures c.new-input.ensures _ _ _ (omega arith) c.requires.room (omega arith)) in
-    refuses_keep c.requires.reads.read _ _ _ c.refuse.ensures
-    (λ t typed. step_failed c.requires.reads (omega arith) answers c.in-Failed.is t typed)
+pub returns-in_err-add_counts : goal.returns-in_err-add_counts
+returns-in_err-add_counts c =
+    let at = goal.at.returns-in_err-add_counts c in
+    let made = is_done at.In-Some in
+    passed_told c.args.read made (went_is at.After-arrivals-went made) c.add_counts.ensures _ _
+    c.in_err-add_counts.field-0.0 (search rules) c.in_err-add_counts.was
 
-pub returns-else-fit : goal.returns-else-fit
-returns-else-fit c =
-    let at = goal.at.returns-else-fit c in
-    let made = is_done at.In-Fed in
-    rw c.refused.ensures
-    (passed_keeps c.requires.reads made (went_is at.After-count_arrivals-went made) c.add_counts-fit.ensures _ _ c.if-fit.false)
+pub returns : goal.returns
+returns c =
+    let at = goal.at.returns c in
+    let made = is_done at.In-Some in
+    both_told c.args.read made (went_is at.After-arrivals-went made) c.add_counts.ensures c.in_ok-add_counts.was c.write_both.ensures

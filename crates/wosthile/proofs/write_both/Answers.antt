@@ -5,12 +5,11 @@ use Rattle.wosthile.proofs.write_both.Goals as goal
 
 pub returns-then-out-output : goal.returns-then-out-output
 returns-then-out-output c =
-    rw c.refused.ensures (record { each = λ due. output_short _ _ _ (omega (arith, output_long due, c.if-out-output.true)) })
+    record { each = λ due. output_short _ _ _ (omega (arith, output_long due, c.if-out-output.true)) }
 
 pub returns-then-next-needed : goal.returns-then-next-needed
 returns-then-next-needed c =
-    rw c.refused-then-next-needed.ensures
-    (record { each = λ due. patch_short _ _ _ (omega (arith, output_long due)) (omega (arith, patch_long due)) })
+    record { each = λ due. patch_short _ _ _ (omega (arith, output_long due)) (omega (arith, patch_long due)) }
 
 pub returns : goal.returns
 returns c =
