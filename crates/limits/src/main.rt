@@ -4,8 +4,8 @@
 
 ghost use Rattle.std.specs.Prelude.{◌≡◌, ◌+◌, ◌*◌, ◌≤◌, length};
 
-use patch_reading::PatchPlace;
-use reading::types::TypePlace;
+use patch_reading::patches::PatchView;
+use reading::types::TypeView;
 use std::io;
 use wosthile::check;
 
@@ -18,12 +18,10 @@ fn put_tree(fork: u8, leaf: u8, pairs: usize, at: usize, file: &mut [u8]) -> usi
     let count = 2 * pairs + 1;
     file[at] = (count / 256) as u8;
     file[at + 1] = (count % 256) as u8;
-    let mut next = at + 2;
-    let last = next + 2 * pairs;
-    while next < last {
-        file[next] = fork;
-        file[next + 1] = leaf;
-        next += 2;
+    let last = at + 2 + 2 * pairs;
+    for pair in file[at + 2..last].chunks_exact_mut(2) {
+        pair[0] = fork;
+        pair[1] = leaf;
     }
     file[last] = leaf;
     last + 1
@@ -34,8 +32,8 @@ fn put_totals(at: usize, file: &mut [u8]) -> usize
     requires { (at + 10 ≤ length file.old) × (length file.old ≤ 65535) }
     ensures { result ≡ at + 10 }
 {
-    file[at + 1] = PatchPlace::TOTALS as u8;
-    at + 2 + PatchPlace::TOTALS
+    file[at + 1] = PatchView::TOTALS as u8;
+    at + 2 + PatchView::TOTALS
 }
 
 // One line: `case`, and Check's number for the patch of these two trees and totals of 0. The type is of cues side by side, the nodes are
@@ -52,7 +50,7 @@ fn print_answer(
     let nodes = put_tree(4, 1, type_pairs, 0, &mut file);
     let totals = put_tree(10, 0, node_pairs, nodes, &mut file);
     let end = put_totals(totals, &mut file);
-    let mut given = [0u8; TypePlace::MAX_FILE];
+    let mut given = [0u8; TypeView::MAX_FILE];
     let answer = check(&file[..end], &mut given);
     let number = answer.number;
     println!(rt; "{case}: {number}")

@@ -9,10 +9,10 @@ ghost use Rattle.transcript.specs.Playing.{is_stopped, Inside, Ready, TakesFile,
 ghost use Rattle.transcript.specs.declared.Stage.TheVariants.{Awaiting, Feeding};
 ghost use Rattle.stream.specs.Bounds.{slice_limit, slice_file_limit, patch_file_limit};
 
-use patch_reading::PatchPlace;
+use patch_reading::patches::PatchView;
 use reading::prefixes::MAX_SLICE_FILE;
-use reading::sections::{TreeEnd, count_of, section_end};
-use reading::types::TypePlace;
+use reading::sections::{count_of, section_end};
+use reading::types::TypeView;
 use wosthile::{check, feed};
 use writing::copy;
 
@@ -30,11 +30,7 @@ pub enum Stage {
 pub fn has_stopped(stage: Stage) -> bool
     ensures { result ≡ is_stopped stage }
 {
-    match stage {
-        Stage::Awaiting => false,
-        Stage::Feeding(_) => false,
-        Stage::Stopped => true,
-    }
+    matches!(stage, Stage::Stopped)
 }
 
 // What one file comes to: the stage, and how many bytes its line has.
@@ -55,12 +51,6 @@ pub struct Played {
 impl Line {
     // Two characters for each of 511 and 255 bytes, the number, two spaces and the line feed.
     pub const MAX: usize = 1536;
-
-    fn new(stage: Stage, written: usize) -> Line
-        ensures { result ≡ record { stage = stage; written = written } }
-    {
-        Line { stage, written }
-    }
 }
 
 // A digit in ASCII, of a number below 16.
@@ -77,12 +67,9 @@ fn put_hexadecimal(source: &[u8], out: &mut [u8])
     requires { 2 * length source.now ≤ length out.old }
     ensures { out.new ≡ at_front (hexadecimal source.now) out.old }
 {
-    let mut at = 0;
-    while at < source.len() {
-        let byte = source[at];
-        out[2 * at] = digit(byte / 16);
-        out[2 * at + 1] = digit(byte % 16);
-        at += 1;
+    for (at, byte) in source.iter().enumerate() {
+        out[2 * at] = digit(*byte / 16);
+        out[2 * at + 1] = digit(*byte % 16);
     }
 }
 
@@ -123,13 +110,19 @@ fn take_patch(file: &[u8], patch: &mut [u8], out: &mut [u8]) -> Line
     requires { Ready Awaiting patch.old out.old }
     ensures { TakesFile Awaiting patch.old file.now out.old result patch.new out.new }
 {
-    let mut given = [0u8; TypePlace::MAX_FILE];
+    let mut given = [0u8; TypeView::MAX_FILE];
     let checked = check(file, &mut given);
     if checked.number != 0 {
-        return Line::new(Stage::Stopped, put_number(checked.number, out));
+        return Line {
+            stage: Stage::Stopped,
+            written: put_number(checked.number, out),
+        };
     }
     copy(file, patch);
-    Line::new(Stage::Feeding(file.len()), 0)
+    Line {
+        stage: Stage::Feeding(file.len()),
+        written: 0,
+    }
 }
 
 // Feeds a slice to the patch, which stands in the first `size` bytes; the patch left takes its place. `output` and
@@ -147,14 +140,20 @@ fn feed_slice(
 {
     let fed = feed(&patch[..size], file, output, next);
     if fed.number != 0 {
-        return Line::new(Stage::Feeding(size), put_number(fed.number, out));
+        return Line {
+            stage: Stage::Feeding(size),
+            written: put_number(fed.number, out),
+        };
     }
     let sent = fed.output;
     let kept = fed.patch;
     let type_end = 2 + count_of(next[0], next[1]);
     let written = put_fed(&output[2..sent], &next[2..type_end], out);
     copy(&next[..kept], patch);
-    Line::new(Stage::Feeding(kept), written)
+    Line {
+        stage: Stage::Feeding(kept),
+        written,
+    }
 }
 
 // A file after the first, with work bytes that are long enough for every answer.
@@ -163,7 +162,7 @@ fn take_slice(file: &[u8], size: usize, patch: &mut [u8], out: &mut [u8]) -> Lin
     ensures { TakesFile (Feeding size) patch.old file.now out.old result patch.new out.new }
 {
     let mut output = [0u8; MAX_SLICE_FILE];
-    let mut next = [0u8; PatchPlace::MAX_FILE];
+    let mut next = [0u8; PatchView::MAX_FILE];
     feed_slice(file, size, patch, &mut output, &mut next, out)
 }
 
@@ -172,24 +171,19 @@ fn play_next(input: &[u8], stage: Stage, patch: &mut [u8], out: &mut [u8]) -> Pl
     requires { Ready stage patch.old out.old }
     ensures { PlaysNext stage patch.old input.now out.old result patch.new out.new }
 {
-    match section_end(input) {
-        TreeEnd::Failed(_) => Played {
-            stage,
-            taken: 0,
-            written: 0,
-        },
-        TreeEnd::At(end) => {
-            let file = &input[2..end];
-            match stage {
-                Stage::Awaiting => taken(end, take_patch(file, patch, out)),
-                Stage::Feeding(size) => taken(end, take_slice(file, size, patch, out)),
-                Stage::Stopped => Played {
-                    stage: Stage::Stopped,
-                    taken: 0,
-                    written: 0,
-                },
-            }
-        }
+    let nothing = Played {
+        stage,
+        taken: 0,
+        written: 0,
+    };
+    let Ok(end) = section_end(input) else {
+        return nothing;
+    };
+    let file = &input[2..end];
+    match stage {
+        Stage::Awaiting => taken(end, take_patch(file, patch, out)),
+        Stage::Feeding(size) => taken(end, take_slice(file, size, patch, out)),
+        Stage::Stopped => nothing,
     }
 }
 
@@ -197,9 +191,8 @@ fn play_next(input: &[u8], stage: Stage, patch: &mut [u8], out: &mut [u8]) -> Pl
 fn taken(end: usize, line: Line) -> Played
     ensures { result ≡ record { stage = line.stage; taken = end; written = line.written } }
 {
-    let stage = line.stage;
     Played {
-        stage,
+        stage: line.stage,
         taken: end,
         written: line.written,
     }
@@ -234,11 +227,6 @@ pub fn move_to_front(from: usize, held: usize, input: &mut [u8]) -> usize
     requires { (from ≤ held) × (held ≤ length input.old) }
     ensures { Begun (take (held - from) (drop from input.old)) input.old input.new result }
 {
-    let kept = held - from;
-    let mut at = 0;
-    while at < kept {
-        input[at] = input[from + at];
-        at += 1;
-    }
-    kept
+    input.copy_within(from..held, 0);
+    held - from
 }

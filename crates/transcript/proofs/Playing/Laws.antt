@@ -1,13 +1,11 @@
 -- What is true of playing.
-use Rattle.std.specs.Prelude.{◌≡◌, refl, Bool, true, false, List, [], ◌∷◌, ◌++◌, ℕ, suc, ◌+◌, ◌*◌, ◌-◌, ◌≤◌, leb, length, drop}
+use Rattle.std.specs.Prelude.{Err, Ok, Result, ◌≡◌, refl, Bool, true, false, List, [], ◌∷◌, ◌++◌, ℕ, suc, ◌+◌, ◌*◌, ◌-◌, ◌≤◌, leb, length, drop}
 use Rattle.std.proofs.Common.{sym, ap₂, ◌∙◌, true≢false, append_assoc, append-nil, arith, length-drop, drop-drop, leb-true, leb-false}
 use Rattle.std.proofs.Math.Path.{ap}
 use Rattle.std.proofs.Math.ListN.{take}
 use Rattle.stream.specs.declared.Fault.{Fault}
 use Rattle.stream.specs.declared.Fault.TheVariants.{CutShort, LeftOver}
 use Rattle.stream.specs.Reading.{Bytes, section}
-use Rattle.reading.specs.declared.sections.TreeEnd.{TreeEnd}
-use Rattle.reading.specs.declared.sections.TreeEnd.TheVariants.{At, Failed}
 use Rattle.reading.specs.Sections.{end_of, any_bytes}
 use Rattle.reading.specs.Sections.Laws.{section_ended, section_there}
 use Rattle.writing.specs.Writing.Laws.{part, back, part_is, goes_on, room_left}
@@ -21,7 +19,7 @@ use Rattle.transcript.specs.Playing.{state_of, is_stopped, Inside, TakesFile, Pl
 
 -- The file at the front of the input, where the reader of sections says that it ends; or there is none.
 
-abbrev pub ends : List ℕ → TreeEnd
+abbrev pub ends : List ℕ → Result ℕ Fault
 ends s = end_of (length s) (section CutShort LeftOver any_bytes s)
 
 pub record FirstFile (input : List ℕ) (end : ℕ) : Type 0 where
@@ -29,7 +27,7 @@ pub record FirstFile (input : List ℕ) (end : ℕ) : Type 0 where
   pub fits : end ≤ length input
   pub first : (more : List ℕ) → files (input ++ more) ≡ take (end - 2) (drop 2 input) ∷ files (drop end input ++ more)
 
-pub first_file : (input : List ℕ) (end : ℕ) → ends input ≡ At end → FirstFile input end
+pub first_file : (input : List ℕ) (end : ℕ) → ends input ≡ Ok end → FirstFile input end
 first_file [] end e = let s = section_ended any_bytes [] end e in absurd (omega (arith, s.place, s.fits))
 first_file (h ∷ []) end e = let s = section_ended any_bytes (h ∷ []) end e in absurd (omega (arith, s.place, s.fits))
 first_file (h ∷ l ∷ s) end e =
@@ -45,7 +43,7 @@ first_file (h ∷ l ∷ s) end e =
           ∙ ap₂ (λ a b. take a s ∷ files (drop b (h ∷ l ∷ s) ++ more)) body all;
     }
 
-pub no_file_first : (input : List ℕ) (e : Fault) → ends input ≡ Failed e → files input ≡ []
+pub no_file_first : (input : List ℕ) (e : Fault) → ends input ≡ Err e → files input ≡ []
 unfolding files_within files
 no_file_first [] e d = refl
 no_file_first (h ∷ []) e d = refl

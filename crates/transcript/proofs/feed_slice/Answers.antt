@@ -53,7 +53,7 @@ pub returns-then-fed-ne0 : goal.returns-then-fed-ne0
 returns-then-fed-ne0 c =
     let places = goal.at.returns-then-fed-ne0 c in
     let is = number_is places.After-feed-fed in
-    rw c.new.ensures (slice_refused _ _ _ _ (λ z. omega (arith, is)) (inside places.Start) (rw is at c.put_number.ensures))
+    slice_refused _ _ _ _ (λ z. omega (arith, is)) (inside places.Start) (rw is at c.put_number.ensures)
 
 -- The slice is accepted: what was sent, and where the type ends that is left.
 sent : (c : After-count_of-type_end)
@@ -120,7 +120,6 @@ pub returns : goal.returns
 returns c =
     let counted = (goal.at.returns c).After-count_of-type_end in
     let s = sent counted in
-    rw c.new-2.ensures
-    (slice_fed _ _ _ _ s.written s.sections s.is_fed c.requires.0.patch_room s.kept
+    slice_fed _ _ _ _ s.written s.sections s.is_fed c.requires.0.patch_room s.kept
     (c.copy.ensures ∙ ap (λ l. at_front l c.args.patch.now) (patch_field counted))
-    (rw (output_field counted, type_field counted) at c.put_fed-written.ensures))
+    (rw (output_field counted, type_field counted) at c.put_fed-written.ensures)

@@ -1,12 +1,8 @@
 -- `put_hexadecimal`: after `at` turns the digits of the first `at` bytes are written.
-use Rattle.std.proofs.Common.{◌≡◌, ◌*◌, ◌-◌, ◌≤◌, length, take}
+use Rattle.std.proofs.Common.{◌*◌, take}
 use Rattle.writing.specs.Writing.{Begun}
 use Rattle.transcript.specs.Transcripts.{hexadecimal}
 use Rattle.transcript.proofs.put_hexadecimal.Given as goal
 
 abbrev pub invariant-loop-at : goal.invariant-loop-at
-invariant-loop-at l =
-    record { inside : l.at ≤ length l.source; begun : Begun (hexadecimal (take l.at l.source)) l.initial.out l.out (2 * l.at); long : length l.out ≡ length l.initial.out }
-
-abbrev pub decreases-loop-at : goal.decreases-loop-at
-decreases-loop-at l = length l.source - l.at
+invariant-loop-at l = Begun (hexadecimal (take l.at l.source)) l.initial.out l.out (2 * l.at)

@@ -23,7 +23,7 @@ put_number-requires c = (
 pub returns-then-checked-ne0 : goal.returns-then-checked-ne0
 returns-then-checked-ne0 c =
     let is = number_is (goal.at.returns-then-checked-ne0 c).After-check-checked in
-    rw c.new.ensures (patch_refused _ _ _ (λ z. omega (arith, is)) (rw is at c.put_number.ensures))
+    patch_refused _ _ _ (λ z. omega (arith, is)) (rw is at c.put_number.ensures)
 
 accepted : (c : After-check-checked) → c.check-checked.result.number ≡ 0 → number_of (check c.args.file.now) ≡ 0
 accepted c none = sym (number_is c) ∙ none
@@ -37,4 +37,4 @@ copy-requires c = fits (goal.at.copy-requires c).After-check-checked (omega arit
 pub returns : goal.returns
 returns c =
     let checked = (goal.at.returns c).After-check-checked in
-    rw c.new-2.ensures (patch_kept _ _ _ (accepted checked (omega arith)) (fits checked (omega arith)) c.copy.ensures)
+    patch_kept _ _ _ (accepted checked (omega arith)) (fits checked (omega arith)) c.copy.ensures
