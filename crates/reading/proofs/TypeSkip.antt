@@ -1,17 +1,20 @@
 -- A type passed byte by byte: the types that are still to be passed, and how far they reach. Each kind byte makes way for
 -- the parts of its type.
 use mathlib.Core.Path.{◌≡◌, refl, sym, ap, ◌∙◌}
+use Rattle.std.specs.Prelude.{Some, None}
+use mathlib.Core.Bool.{Bool, true, false, ◌&&◌, and-true, and_assoc}
+use mathlib.Core.Logic.{◌⊎◌, ⊎_elim}
 use mathlib.Core.List.{List, [], ◌∷◌, ◌++◌}
 use Prim.Native.Nat.{ℕ, ◌+◌, ◌*◌, ◌/◌, ◌-◌, ◌≤◌, ◌<◌}
 use native.Mathlib.Omega.{arith}
 use lib.ListN.{length, get_or, drop, length-drop, length-append}
 use lib.Seq.{drop-cons, drop-drop}
-use Rattle.stream.specs.Types.{Ty, empty, cue, level, seq, par, either, size, type_limit, kind}
+use Rattle.stream.specs.Types.{Ty, empty, cue, level, seq, par, either, nullable, size, type_limit, kind}
 use Rattle.stream.proofs.Types.Laws.{size_positive}
 use Rattle.stream.specs.TypeFiles.{type_bytes}
 use Rattle.stream.proofs.TypeFiles.Laws.{type_length}
 use Rattle.stream.specs.Types.Kinds.{type_arity, type_parts, type_parts_many, sizes, size_by_parts}
-use Rattle.reading.specs.TypeReads.{TypeAt, SomeTypeAt, TypeEnds}
+use Rattle.reading.specs.TypeReads.{TypeAt, SomeTypeAt, TypeEnds, nullable_end, NullableEnds}
 use Rattle.reading.specs.TypeReads.Laws.{arity_paired, kind_at, same_type}
 
 -- The bytes of several types, and then r.
@@ -140,3 +143,73 @@ pair_passed {bytes} {at} {pairs} {end} passing wanted =
     = omega (arith, arity_paired (get_or bytes end 0), arity_paired (get_or bytes (end + 1) 0)) in
     let behind : end + 2 ≡ end + 1 + 1 = omega arith in
     rw (owed, behind) (passed (passed passing (omega arith)) (omega arith))
+
+-- Whether all of some types are nullable. One of kind 0 or 4 is if its parts are; another is not.
+abbrev all_nullable : List Ty → Bool
+all_nullable [] = true
+all_nullable (t ∷ ts) = nullable t && all_nullable ts
+
+all_nullable_append : (ts us : List Ty) → all_nullable (ts ++ us) ≡ (all_nullable ts && all_nullable us)
+all_nullable_append [] us = refl
+all_nullable_append (t ∷ ts) us =
+    ap (λ b. nullable t && b) (all_nullable_append ts us) ∙ sym (and_assoc (nullable t) (all_nullable ts) (all_nullable us))
+
+by_parts : (t : Ty) → (kind t ≡ 0) ⊎ (kind t ≡ 4) → nullable t ≡ all_nullable (type_parts t)
+unfolding nullable
+by_parts empty h = refl
+by_parts cue h = absurd (⊎_elim (λ e. omega arith) (λ e. omega arith) h)
+by_parts level h = absurd (⊎_elim (λ e. omega arith) (λ e. omega arith) h)
+by_parts (seq s t) h = absurd (⊎_elim (λ e. omega arith) (λ e. omega arith) h)
+by_parts (par s t) h = ap (λ b. nullable s && b) (sym (and-true (nullable t)))
+by_parts (either s t) h = absurd (⊎_elim (λ e. omega arith) (λ e. omega arith) h)
+
+not_nullable : (t : Ty) → (kind t ≡ 0 → ⊥) → (kind t ≡ 4 → ⊥) → nullable t ≡ false
+unfolding nullable
+not_nullable empty h k = absurd (h refl)
+not_nullable cue h k = refl
+not_nullable level h k = refl
+not_nullable (seq s t) h k = refl
+not_nullable (par s t) h k = absurd (k refl)
+not_nullable (either s t) h k = refl
+
+-- While only kinds 0 and 4 are passed, the type at `at` is nullable if the types still to be passed are.
+pub record Nullables (bytes : List ℕ) (at owed end : ℕ) : Type 0 where
+  pub passing : Passing bytes at owed end
+  pub same : (t : Ty) → TypeAt bytes at t → nullable t ≡ all_nullable passing.types
+
+pub begins : {bytes : List ℕ} {at : ℕ} → SomeTypeAt bytes at → Nullables bytes at 1 at
+unfolding starts
+begins some =
+    record { passing = starts some; same = λ t h. ap nullable (same_type h some.stands) ∙ sym (and-true (nullable some.type)) }
+
+module _ {bytes : List ℕ} {at owed end : ℕ} (nullables : Nullables bytes at owed end) where
+  pub all_passed : owed ≡ 0 → NullableEnds bytes at (Some end)
+  unfolding nullable_end
+  all_passed z =
+      record {
+        each = λ t h.
+            rw (nullables.same t h ∙ ap all_nullable (none nullables.passing z), ← (ends nullables.passing z).each t h);
+      }
+
+  module _ (wanted : 0 < owed) where
+    pub other_kind : (get_or bytes end 0 ≡ 0 → ⊥) → (get_or bytes end 0 ≡ 4 → ⊥) → NullableEnds bytes at None
+    unfolding nullable_end
+    other_kind h k =
+        let p = nullables.passing in
+        let e = kind_at (stands p wanted) in
+        let n = not_nullable (first p wanted) (λ z. h (e ∙ z)) (λ z. k (e ∙ z)) in
+        record { each = λ t s. rw (nullables.same t s ∙ ap all_nullable (split p wanted), n) }
+
+    pub nullable_kind : (get_or bytes end 0 ≡ 0) ⊎ (get_or bytes end 0 ≡ 4) → Nullables bytes at (owed - 1 + type_arity (get_or bytes end 0)) (end + 1)
+    unfolding passed
+    nullable_kind k =
+        let p = nullables.passing in
+        let n : nullable (first p wanted) ≡ all_nullable (type_parts (first p wanted)) = by_parts (first p wanted) (rw (kind_at (stands p wanted)) at k) in
+        record {
+          passing = passed p wanted;
+          same = λ t s.
+              nullables.same t s
+              ∙ ap all_nullable (split p wanted)
+              ∙ ap (λ b. b && all_nullable (others p wanted)) n
+              ∙ sym (all_nullable_append (type_parts (first p wanted)) (others p wanted));
+        }

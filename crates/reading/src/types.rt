@@ -6,7 +6,7 @@ ghost use Rattle.std.specs.List.{list_all};
 ghost use Rattle.reading.specs.Scans.{is_silent};
 ghost use Rattle.stream.specs.Types.Kinds.{type_arity};
 ghost use Rattle.reading.specs.Sections.{end_of};
-ghost use Rattle.reading.specs.TypeReads.{SomeTypeAt, TypeEnds};
+ghost use Rattle.reading.specs.TypeReads.{SomeTypeAt, TypeEnds, NullableEnds};
 
 use crate::prefixes::VALUE_WIDTH;
 use stream::Fault;
@@ -214,4 +214,23 @@ pub fn skip_type(types: &[u8], at: usize) -> usize
         end += 2;
     }
     end
+}
+
+// Where the type that stands at `at` ends if it is nullable, none if it is not, in one pass: only kinds 0 and 4 stand in one that is. What
+// stands behind the type is not looked at.
+pub fn nullable_end(types: &[u8], at: usize) -> Option<usize>
+    requires { SomeTypeAt types.now at }
+    ensures { NullableEnds types.now at result }
+{
+    let mut owed: usize = 1;
+    let mut end = at;
+    while 0 < owed {
+        let kind = types[end];
+        if kind != 0 && kind != 4 {
+            return None;
+        }
+        owed = owed - 1 + type_arity(kind);
+        end += 1;
+    }
+    Some(end)
 }
