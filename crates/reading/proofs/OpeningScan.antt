@@ -7,8 +7,7 @@ use Rattle.stream.specs.Prefixes.{Prefix, nothing, cue_awaited, cue_come, level_
 use Rattle.stream.specs.Prefixes.Functions.{complete, brings_nothing, opens}
 use Rattle.stream.specs.SliceFiles.{prefix_bytes}
 use Rattle.reading.specs.SliceReads.{is_unfinished, kind_brings_nothing}
-use Rattle.reading.specs.declared.inputs.Input.{Input}
-use Rattle.reading.specs.InputViews.{prefix}
+use Rattle.reading.specs.PrefixBytes.{OpensBy}
 use Rattle.reading.specs.Scans.{scan_opens}
 
 -- One byte after the other comes to its turn.
@@ -63,5 +62,5 @@ tells p = scanned false p [] ∙ go (brings_nothing p) (complete p)
     go true false = refl
     go false b = refl
 
-pub view_opens : (i : Input) → scan_opens false i.slice.now ≡ opens (prefix i)
-view_opens i = ap (scan_opens false) (sym i.whole) ∙ tells (prefix i)
+pub tells_all : {bytes : List ℕ} {answer : Bool} → answer ≡ scan_opens false bytes → OpensBy bytes answer
+tells_all told = record { each = λ p whole. told ∙ ap (scan_opens false) (sym whole) ∙ tells p }

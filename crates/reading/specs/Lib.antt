@@ -2,6 +2,7 @@ pub mod Places
 pub mod Sections
 pub mod TypeReads
 pub mod SliceReads
+pub mod PrefixBytes
 pub mod Nesting
 pub mod Inputs
 pub mod Views

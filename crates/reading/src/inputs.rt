@@ -5,7 +5,7 @@ ghost use Rattle.stream.specs.Prefixes.Functions.{fits};
 ghost use Rattle.reading.specs.Views.{tree};
 ghost use Rattle.reading.specs.PieceViews.{SomeBehind, CutBehind};
 
-use crate::prefixes::{VALUE_WIDTH, brings_nothing, is_unfinished, skip_prefix};
+use crate::prefixes::{count_arrivals, opens, skip_prefix};
 use crate::types::{Pieces, TypeView};
 
 // The bytes of a type, and of a prefix of it.
@@ -160,42 +160,21 @@ impl<'a> Input<'a> {
         }
     }
 
-    // Whether the prefix opens a node that waits: it brings something, or it is complete. In one that brings nothing each byte is a kind,
-    // and it is complete if none of them keeps it from that.
-    #[tactic(auto, using(crate::proofs::OpeningScan::view_opens, crate::proofs::OpeningScan::scan_step, crate::proofs::OpeningScan::scan_done))]
+    // Whether the prefix opens a node that waits.
+    #[inline(always)]
     pub fn opens(self) -> bool
         ensures { result ≡ opens (prefix self.entry) }
     {
-        let mut unfinished = false;
-        for kind in self.slice {
-            if !brings_nothing(*kind) {
-                return true;
-            }
-            unfinished |= is_unfinished(*kind);
-        }
-        !unfinished
+        opens(self.slice)
     }
 
-    // How many cues and levels came in the prefix. Each has a branch of its own: by `arrivals_of` and one branch for a level's value the
-    // compiler makes no branch at all, and every turn then waits for the kind that the turn before has loaded.
+    // How many cues and levels came in the prefix.
+    #[inline(always)]
     #[tactic(auto, using(crate::proofs::InputViews::slice_few))]
     pub fn arrivals(self) -> u32
         ensures { result ≡ arrivals (prefix self.entry) }
     {
-        let mut count: u32 = 0;
-        let mut next = 0;
-        let end = self.slice.len();
-        while next < end {
-            let kind = self.slice[next];
-            next += 1;
-            if kind == 2 {
-                count += 1;
-            } else if kind == 4 {
-                count += 1;
-                next += VALUE_WIDTH;
-            }
-        }
-        count
+        count_arrivals(self.slice)
     }
 
     // The pieces of a slice of (s, t), r, if s has come: 5 6 s t and 6 6 s t r.

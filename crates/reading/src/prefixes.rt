@@ -1,8 +1,10 @@
 // Slices as bytes: whether a file is a slice of a type, and what the operations have to know of one.
-ghost use Rattle.std.specs.Prelude.{◌≡◌, ◌+◌, ◌<◌};
+ghost use Rattle.std.specs.Prelude.{◌≡◌, ◌+◌, ◌≤◌, ◌<◌, length};
 ghost use Rattle.stream.specs.Types.{type_limit};
+ghost use Rattle.stream.specs.Bounds.{slice_file_limit};
 ghost use Rattle.stream.specs.Prefixes.Kinds.{prefix_arity, root_width, root_arrivals};
 ghost use Rattle.reading.specs.SliceReads.{type_kind_of, is_unfinished, kind_brings_nothing, belongs_at, first_complete, SomePrefixAt, PrefixEnds, first_known, crossed_known, both_known, SumsFit};
+ghost use Rattle.reading.specs.PrefixBytes.{SomePrefix, OpensBy, ArrivalsBy};
 
 // No slice file is longer: the count, a byte for each of 255 nodes, and two for each of at most 128 levels.
 pub const MAX_SLICE_FILE: usize = 513;
@@ -160,6 +162,46 @@ pub fn skip_prefix(slice: &[u8], place: usize) -> usize
         }
     }
     end
+}
+
+// Whether the prefix in these bytes opens a node that waits: it brings something, or it is complete. In one that brings nothing each byte
+// is a kind, and it is complete if none of them keeps it from that. Its type is not asked for; of bytes that are no prefix nothing is said.
+#[tactic(auto, using(crate::proofs::OpeningScan::tells_all, crate::proofs::OpeningScan::scan_step, crate::proofs::OpeningScan::scan_done))]
+pub fn opens(prefix: &[u8]) -> bool
+    ensures { OpensBy prefix.now result }
+{
+    let mut unfinished = false;
+    for kind in prefix {
+        if !brings_nothing(*kind) {
+            return true;
+        }
+        unfinished |= is_unfinished(*kind);
+    }
+    !unfinished
+}
+
+// How many cues and levels came in the prefix in these bytes, which are no more than a slice file has. Its type is not asked for. Each has a
+// branch of its own: by `arrivals_of` and one branch for a level's value the compiler makes no branch at all, and every turn then waits for
+// the kind that the turn before has loaded.
+pub fn count_arrivals(prefix: &[u8]) -> u32
+    requires some_prefix { SomePrefix prefix.now }
+    requires few { length prefix.now ≤ slice_file_limit }
+    ensures { ArrivalsBy prefix.now result }
+{
+    let mut count: u32 = 0;
+    let mut next = 0;
+    let end = prefix.len();
+    while next < end {
+        let kind = prefix[next];
+        next += 1;
+        if kind == 2 {
+            count += 1;
+        } else if kind == 4 {
+            count += 1;
+            next += VALUE_WIDTH;
+        }
+    }
+    count
 }
 
 // Of a sequence whose first part is still coming, from that part and from the size `second` of the second part's type.

@@ -1,7 +1,7 @@
 -- What all bytes tell is what the others tell.
 use Rattle.std.specs.Prelude.{◌≡◌, false, drop}
 use Rattle.reading.specs.Scans.{scan_opens}
-use Rattle.reading.proofs.inputs.Input.opens.Given as goal
+use Rattle.reading.proofs.prefixes.opens.Given as goal
 
 abbrev pub invariant-loop-kind : goal.invariant-loop-kind
-invariant-loop-kind l = scan_opens l.unfinished (drop l.kind-index l.self.slice.now) ≡ scan_opens false l.self.slice.now
+invariant-loop-kind l = scan_opens l.unfinished (drop l.kind-index l.prefix) ≡ scan_opens false l.prefix
