@@ -147,6 +147,15 @@ abbrev pub SumsFit : Known → Known → Type 0
 SumsFit first second =
     (first.remains + second.remains < type_limit) × (first.overlap + second.overlap < type_limit) × (first.arrived + second.arrived < type_limit)
 
+-- The same of a first part and of what became of the second: what is known of both, or the fault of the second. Of a fault nothing has to fit.
+abbrev pub known_after : (Known → Known → Known) → Known → Result Known Fault → Result Known Fault
+known_after both first (Ok second) = Ok (both first second)
+known_after both first (Err e) = Err e
+
+abbrev pub SumsFitIfKnown : Known → Result Known Fault → Type 0
+SumsFitIfKnown first (Ok second) = SumsFit first second
+SumsFitIfKnown first (Err e) = Unit {0}
+
 -- A prefix of what is owed, of at most `budget` nodes, at the front of some bytes.
 unfoldable pub read_owed : (budget : ℕ) → Owed → List ℕ → Reading Prefix
 read_owed budget o s = tree slice_over prefix_root budget o s
