@@ -189,14 +189,14 @@ fn walk_two<'t, 's>(
     let prefix = walk_prefix(ty.first(), &slice[1..], first, &mut left[start..])?;
     let other = ty.second_from(prefix.behind);
     if kind == 6 {
-        let mut second = walk_prefix(other, prefix.rest, complete, left)?;
-        second.known = crossed(prefix.known, second.known);
-        return Ok(second);
+        let second = walk_prefix(other, prefix.rest, complete, left)?;
+        let known = crossed(prefix.known, Ok(second.known))?;
+        return Ok(Walked { known, ..second });
     }
     let from = within(1 + prefix.known.remains, left.len());
-    let mut second = walk_prefix(other, prefix.rest, complete, &mut left[from..])?;
-    second.known = beside(prefix.known, second.known);
-    Ok(second)
+    let second = walk_prefix(other, prefix.rest, complete, &mut left[from..])?;
+    let known = beside(prefix.known, Ok(second.known))?;
+    Ok(Walked { known, ..second })
 }
 
 // Whether the bytes are the file of a prefix of the type; otherwise the first fault. Any bytes may be handed in.
