@@ -17,8 +17,9 @@ use Rattle.reading.specs.TypeReads.{TypeAt, SomeTypeAt, TypeEnds}
 use Rattle.reading.specs.TypeReads.Laws.{type_drop, kind_at, starts_inside}
 use Rattle.reading.specs.SliceReads.{prefix_width}
 use Rattle.reading.specs.SliceReads.Laws.{prefix_bytes_length, width_positive}
-use Rattle.reading.specs.declared.types.TypeView.{TypeView}
-use Rattle.reading.specs.Views.{tree}
+use Rattle.reading.specs.declared.fronts.TypeFront.{TypeFront}
+use Rattle.reading.specs.Fronts.{front_tree}
+use Rattle.reading.proofs.TypeFronts.{type_at}
 use Rattle.writing.specs.Writing.{empty_kind}
 use Rattle.writing.specs.Tasks.{Task, passed, written, type_of, several, sizes, sizes_many}
 use Rattle.writing.specs.Appending.Laws.{WrittenSoFar, nothing_written, written_on}
@@ -104,18 +105,19 @@ forked (seq s t) h = record { first = s; second = passed t; marks = refl; bytes 
 forked (par s t) h = record { first = s; second = written t; marks = refl; bytes = λ r. refl; owes = λ xs. refl; total = refl }
 forked (either s t) h = absurd (omega arith)
 
-module _ (v : TypeView) (lent now stack : List ℕ) (depth next count : ℕ) where
+module _ (v : TypeFront) (lent now stack : List ℕ) (depth next count : ℕ) where
   -- Where the loop is: the types still to be gone through stand at `next`, their marks lie on the stack, and the empty prefix of
-  -- the view's type is what has been written and what they still owe.
+  -- the front's type is what has been written and what they still owe.
   record Stage (tasks : List Task) : Type 0 where
-    room : prefix_width (empty_prefix (tree v)) ≤ length lent
-    here : drop next v.bytes.now ≡ several tasks []
+    room : prefix_width (empty_prefix (front_tree v)) ≤ length lent
+    rest : List ℕ
+    here : drop next v.bytes.now ≡ several tasks rest
     small : sizes tasks ≤ type_limit
     deep : depth ≡ length tasks
     marked : Marked stack tasks
     bytes : List ℕ
     so_far : WrittenSoFar bytes lent now count
-    whole : prefix_bytes (empty_prefix (tree v)) [] ≡ bytes ++ owing tasks
+    whole : prefix_bytes (empty_prefix (front_tree v)) [] ≡ bytes ++ owing tasks
 
   -- The same, whichever types are still to be gone through; `tall` is how many marks the stack holds.
   pub record Emptying : Type 0 where
@@ -131,16 +133,17 @@ module _ (v : TypeView) (lent now stack : List ℕ) (depth next count : ℕ) whe
     top : depth - 1 ≡ length others
     on_top : get_or stack (depth - 1) 0 ≡ mark task
 
--- At first there is the whole type, to be written.
-pub starts : (v : TypeView) {lent stack : List ℕ} → prefix_width (empty_prefix (tree v)) ≤ length lent → get_or stack 0 0 ≡ 1 → length stack ≡ 255
+-- At first there is the type at the front, to be written.
+pub starts : (v : TypeFront) {lent stack : List ℕ} → prefix_width (empty_prefix (front_tree v)) ≤ length lent → get_or stack 0 0 ≡ 1 → length stack ≡ 255
     → Emptying v lent lent stack 1 0 0
 starts v {lent} room top tall =
     record {
-      tasks = written (tree v) ∷ [];
+      tasks = written (front_tree v) ∷ [];
       stage =
           record {
             room = room;
-            here = sym v.whole;
+            rest = (type_at v).rest;
+            here = (type_at v).here;
             small = omega (arith, v.small);
             deep = refl;
             marked = (top, tt);
@@ -151,7 +154,7 @@ starts v {lent} room top tall =
       tall = tall;
     }
 
-module _ {v : TypeView} {lent now stack : List ℕ} {depth next count : ℕ} where
+module _ {v : TypeFront} {lent now stack : List ℕ} {depth next count : ℕ} where
   -- What is owed has room behind what has been written.
   room : (xs : List Task) → Stage v lent now stack depth next count xs → count + length (owing xs) ≤ length lent
   room xs stage =
@@ -159,21 +162,21 @@ module _ {v : TypeView} {lent now stack : List ℕ} {depth next count : ℕ} whe
         arith,
         ap length stage.whole,
         length-append stage.bytes (owing xs),
-        prefix_bytes_length (empty_prefix (tree v)) [],
+        prefix_bytes_length (empty_prefix (front_tree v)) [],
         stage.room,
         stage.so_far.long,
       )
 
   -- The first of the types stands at `next`.
   first_at : (x : Task) (xs : List Task) → Stage v lent now stack depth next count (x ∷ xs) → TypeAt v.bytes.now next (type_of x)
-  first_at x xs stage = record { rest = several xs []; here = stage.here; small = omega (arith, stage.small) }
+  first_at x xs stage = record { rest = several xs stage.rest; here = stage.here; small = omega (arith, stage.small) }
 
   -- Behind it stand the others.
   behind_first : (x : Task) (xs : List Task) (stage : Stage v lent now stack depth next count (x ∷ xs)) {end : ℕ} → TypeEnds v.bytes.now next end
-      → drop end v.bytes.now ≡ several xs []
+      → drop end v.bytes.now ≡ several xs stage.rest
   behind_first x xs stage found =
       rw (found.each (type_of x) (first_at x xs stage), ← drop-drop (size (type_of x)) next v.bytes.now, stage.here)
-      (type_drop (type_of x) (several xs []))
+      (type_drop (type_of x) (several xs stage.rest))
 
   -- The lent list is as long as it was.
   pub kept : Emptying v lent now stack depth next count → length now ≡ length lent
@@ -185,14 +188,14 @@ module _ {v : TypeView} {lent now stack : List ℕ} {depth next count : ℕ} whe
 
   -- All have been gone through.
   pub ends : Emptying v lent now stack depth next count → depth ≡ 0
-      → (count ≡ prefix_width (empty_prefix (tree v))) × (now ≡ at_front (prefix_bytes (empty_prefix (tree v)) []) lent)
+      → (count ≡ prefix_width (empty_prefix (front_tree v))) × (now ≡ at_front (prefix_bytes (empty_prefix (front_tree v)) []) lent)
   ends emptying none = go emptying.tasks emptying.stage
     where
       go : (xs : List Task) → Stage v lent now stack depth next count xs
-          → (count ≡ prefix_width (empty_prefix (tree v))) × (now ≡ at_front (prefix_bytes (empty_prefix (tree v)) []) lent)
+          → (count ≡ prefix_width (empty_prefix (front_tree v))) × (now ≡ at_front (prefix_bytes (empty_prefix (front_tree v)) []) lent)
       go [] stage =
-          let all : prefix_bytes (empty_prefix (tree v)) [] ≡ stage.bytes = stage.whole ∙ append-nil stage.bytes in (
-            omega (arith, stage.so_far.long, ap length all, prefix_bytes_length (empty_prefix (tree v)) []),
+          let all : prefix_bytes (empty_prefix (front_tree v)) [] ≡ stage.bytes = stage.whole ∙ append-nil stage.bytes in (
+            omega (arith, stage.so_far.long, ap length all, prefix_bytes_length (empty_prefix (front_tree v)) []),
             rw all (stage.so_far.holds.in_front (omega (arith, stage.so_far.long, room [] stage))),
           )
       go (x ∷ xs) stage = absurd (omega (arith, stage.deep))
@@ -236,6 +239,7 @@ module _ {v : TypeView} {lent now stack : List ℕ} {depth next count : ℕ} whe
               stage =
                   record {
                     room = stage.room;
+                    rest = stage.rest;
                     here = behind_first (passed t) f.others stage found;
                     small = omega (arith, stage.small);
                     deep = f.top;
@@ -282,7 +286,7 @@ module _ {v : TypeView} {lent now stack : List ℕ} {depth next count : ℕ} whe
           )
 
       -- That byte is written, and `tasks` are to be gone through then.
-      node : (tasks : List Task) {stack_after : List ℕ} {depth_after end : ℕ} → length stack_after ≡ 255 → drop end v.bytes.now ≡ several tasks []
+      node : (tasks : List Task) {stack_after : List ℕ} {depth_after end : ℕ} → length stack_after ≡ 255 → drop end v.bytes.now ≡ several tasks is_due.stage.rest
           → sizes tasks ≤ type_limit → depth_after ≡ length tasks → Marked stack_after tasks
           → owing (written is_due.type ∷ is_due.others) ≡ empty_kind (kind is_due.type) ∷ owing tasks
           → Emptying v lent (set now count (empty_kind (get_or v.bytes.now next 0))) stack_after depth_after end (count + 1)
@@ -294,6 +298,7 @@ module _ {v : TypeView} {lent now stack : List ℕ} {depth next count : ℕ} whe
             stage =
                 record {
                   room = stage.room;
+                  rest = stage.rest;
                   here = here;
                   small = small;
                   deep = deep;
@@ -344,7 +349,7 @@ module _ {v : TypeView} {lent now stack : List ℕ} {depth next count : ℕ} whe
             let stage = is_due.stage in
             let mark_is : many - 1 ≡ mark f.second = rw (counted, kind_is) f.marks in
             node (written f.first ∷ f.second ∷ xs) (simp length-set emptying.tall)
-            (rw (← drop-drop 1 next v.bytes.now, stage.here, f.bytes (several xs [])))
+            (rw (← drop-drop 1 next v.bytes.now, stage.here, f.bytes (several xs stage.rest)))
             (omega (arith, f.total, stage.small)) (omega (arith, is_due.top))
             (subst (λ (k : ℕ). Marked (set (set stack (depth - 1) k) (depth - 1 + 1) 1) (written f.first ∷ f.second ∷ xs)) (sym mark_is)
             (marked_two stack f.first f.second xs (depth - 1) is_due.top (omega (arith, stack_room, emptying.tall)) stage.marked.1))

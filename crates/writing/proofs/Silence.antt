@@ -1,19 +1,16 @@
 -- The bytes of a nullable type and those of its empty prefix, one for one: 0 gives way to 0, and 4 to 7.
-use mathlib.Core.Path.{◌≡◌, refl, sym, ap, ◌∙◌}
-use mathlib.Core.Bool.{true}
+use mathlib.Core.Path.{◌≡◌, refl, ap, ◌∙◌}
 use mathlib.Core.List.{List, [], ◌∷◌, ◌++◌, map, map-append}
 use Prim.Native.Nat.{ℕ, zero, suc, ◌+◌, ◌*◌, ◌/◌, ◌≤◌, ◌<◌}
 use native.Mathlib.Omega.{arith}
 use native.Mathlib.Numerals.{add-one}
 use lib.ListN.{length, get_or, take}
 use lib.Seq.{take-suc}
-use Rattle.stream.specs.Types.{Ty, Nullable, null_empty, null_par, nullable}
-use Rattle.stream.proofs.Types.Laws.{nullable_sound}
+use Rattle.stream.specs.Types.{Ty, Nullable, null_empty, null_par}
 use Rattle.stream.specs.Prefixes.{empty_prefix}
 use Rattle.stream.specs.TypeFiles.{type_bytes}
 use Rattle.stream.specs.SliceFiles.{prefix_bytes}
-use Rattle.reading.specs.declared.types.TypeView.{TypeView}
-use Rattle.reading.specs.Views.{tree}
+use Rattle.writing.specs.Writing.{SilenceDue}
 
 abbrev pub silence : ℕ → ℕ
 silence k = k / 4 * 7
@@ -39,12 +36,12 @@ low_type null_empty r low = low_cons 0 r (omega arith) low
 low_type (null_par {s} {t} h k) r low =
     low_cons 4 (type_bytes s (type_bytes t r)) (omega arith) (low_type h (type_bytes t r) (low_type k r low))
 
-module _ (v : TypeView) (is_nullable : nullable (tree v) ≡ true) where
-  pub stays_low : (i : ℕ) → get_or v.bytes.now i 0 ≤ 4
-  stays_low i = rw v.whole at (low_type (nullable_sound (tree v) is_nullable) [] (λ j. omega arith) i)
+module _ {source lent : List ℕ} (due : SilenceDue source lent) where
+  pub stays_low : (i : ℕ) → get_or source i 0 ≤ 4
+  stays_low i = rw due.bytes (low_type due.is_nullable [] (λ j. omega arith) i)
 
-  pub all_silent : map silence v.bytes.now ≡ prefix_bytes (empty_prefix (tree v)) []
-  all_silent = ap (map silence) (sym v.whole) ∙ silent_bytes (nullable_sound (tree v) is_nullable) []
+  pub all_silent : map silence source ≡ prefix_bytes (empty_prefix due.type) []
+  all_silent = ap (map silence) due.bytes ∙ silent_bytes due.is_nullable []
 
 -- One byte more.
 pub one_more : (source : List ℕ) (at : ℕ) → at < length source

@@ -7,21 +7,17 @@ use Prim.Native.Nat.{ℕ, suc, ◌+◌, ◌-◌, ◌≤◌, ◌<◌}
 use native.Mathlib.Omega.{arith}
 use lib.ListN.{length, get_or, set, length-append}
 use lib.Seq.{append_snoc}
-use Rattle.stream.specs.Types.{Ty, size, first_part, second_part}
+use Rattle.stream.specs.Types.{Ty, first_part, second_part}
 use Rattle.stream.proofs.Types.Laws.{size_positive}
 use Rattle.stream.specs.Buffers.{at_front}
 use Rattle.stream.specs.Prefixes.{Prefix, Complete, whole_nothing, whole_cue, whole_level, whole_crossed, whole_beside, whole_first_chosen, whole_second_chosen, derivative}
-use Rattle.stream.specs.Prefixes.Functions.{complete}
-use Rattle.stream.proofs.Prefixes.Laws.{complete_sound}
 use Rattle.stream.specs.TypeFiles.{type_bytes}
 use Rattle.stream.proofs.TypeFiles.Laws.{type_length}
 use Rattle.stream.specs.Prefixes.Kinds.{prefix_kind, prefix_arity, root_width}
 use Rattle.reading.specs.TypeReads.Laws.{type_width}
 use Rattle.reading.specs.SliceReads.{prefix_width, is_unfinished, PrefixAt, SomePrefixAt, PrefixEnds}
 use Rattle.reading.specs.SliceReads.Laws.{width_positive, root_positive, prefix_inside, kind_at, crossed_first_at, crossed_second_at, beside_first_at, beside_second_at, first_chosen_at, second_chosen_at}
-use Rattle.reading.specs.declared.inputs.Input.{Input}
-use Rattle.reading.specs.InputViews.{type, prefix}
-use Rattle.reading.proofs.InputViews.{prefix_in}
+use Rattle.writing.specs.Writing.{SpentDue, SpentWritten}
 use Rattle.writing.specs.Appending.Laws.{WrittenSoFar, nothing_written, written_on}
 use Rattle.writing.proofs.RoomBehind.{appended_byte}
 use Rattle.writing.proofs.PrefixKinds.{leaf-kind, kind_listed}
@@ -152,24 +148,20 @@ pub record Spending (slice lent whole now : List ℕ) (owed next written : ℕ) 
   so_far : WrittenSoFar bytes lent now written
   pending : Pending slice owed next left
 
--- All that the prefix leaves of its type.
-abbrev pub left_of : Input → Ty
-left_of i = derivative (type i) (prefix i)
+-- All that the prefix at the front leaves of its type.
+abbrev pub to_write : {slice lent : List ℕ} → SpentDue slice lent → List ℕ
+to_write due = type_bytes (derivative due.type due.prefix) []
 
-abbrev pub to_write : Input → List ℕ
-to_write i = type_bytes (left_of i) []
-
--- Before the loop nothing is written, and the whole prefix is owed.
-pub starts : (i : Input) {lent : List ℕ} → complete (prefix i) ≡ true → size (left_of i) ≤ length lent
-    → Spending i.slice.now lent (to_write i) lent 1 0 0
-starts i is_complete room =
+-- Before the loop nothing is written, and the prefix at the front is owed.
+pub starts : {slice lent : List ℕ} (due : SpentDue slice lent) → Spending slice lent (to_write due) lent 1 0 0
+starts due =
     record {
       bytes = [];
-      left = to_write i;
+      left = to_write due;
       all = refl;
-      room = omega (arith, type_width (left_of i), room);
+      room = omega (arith, type_width (derivative due.type due.prefix), due.room);
       so_far = nothing_written _;
-      pending = more (type i) (prefix_in i).stands (complete_sound (prefix i) is_complete) (none (prefix_inside (prefix_in i).stands));
+      pending = more due.type due.stands due.is_complete (none (prefix_inside due.stands));
     }
 
 module _ {slice lent whole now : List ℕ} {owed next written : ℕ} (spending : Spending slice lent whole now owed next written) where
@@ -254,7 +246,13 @@ module _ {slice lent whole now : List ℕ} {owed next written : ℕ} (spending :
     pub listed : get_or slice next 0 ≤ 10
     listed = (not_other spending.pending wanted).1
 
--- So after the loop the contract is met.
-pub spent : (i : Input) {lent now : List ℕ} {owed next written : ℕ} → Spending i.slice.now lent (to_write i) now owed next written → owed ≡ 0
-    → (written ≡ size (left_of i)) × (now ≡ at_front (to_write i) lent)
-spent i spending z = let done = finished spending z in (done.0 ∙ type_width (left_of i), done.1)
+-- So after the loop the contract is met, whichever prefix stood at the front.
+pub spent : {slice lent now : List ℕ} {owed next written : ℕ}
+    → ((due : SpentDue slice lent) → Spending slice lent (to_write due) now owed next written) → owed ≡ 0
+    → SpentWritten slice lent now written
+spent spending z =
+    record {
+      each = λ due.
+          let done = finished (spending due) z in
+          (done.0 ∙ type_width (derivative due.type due.prefix), done.1);
+    }

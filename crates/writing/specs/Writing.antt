@@ -84,3 +84,26 @@ pub record EmptyDue (types : List ℕ) (at : ℕ) (lent : List ℕ) : Type 0 whe
 pub record EmptyWritten (types : List ℕ) (at : ℕ) (lent lent_after : List ℕ) (written : ℕ) : Type 0 where
   pub each : (due : EmptyDue types at lent)
       → (written ≡ prefix_width (empty_prefix due.type)) × (lent_after ≡ at_front (prefix_bytes (empty_prefix due.type) []) lent)
+
+-- The empty prefix of a nullable type, which `source` holds and nothing else, is to be written on `lent`, which has room for it.
+pub record SilenceDue (source lent : List ℕ) : Type 0 where
+  pub type : Ty
+  pub is_nullable : Nullable type
+  pub bytes : source ≡ type_bytes type []
+  pub room : length source ≤ length lent
+
+pub record SilenceWritten (source lent lent_after : List ℕ) : Type 0 where
+  pub each : (due : SilenceDue source lent) → lent_after ≡ at_front (prefix_bytes (empty_prefix due.type) []) lent
+
+-- What the complete prefix at the front of `slice` leaves of a type is to be written on `lent`, which has room for it.
+pub record SpentDue (slice lent : List ℕ) : Type 0 where
+  pub type : Ty
+  pub prefix : Prefix
+  pub stands : PrefixAt slice 0 prefix
+  pub is_complete : Complete prefix
+  pub room : size (derivative type prefix) ≤ length lent
+
+pub record SpentWritten (slice lent lent_after : List ℕ) (written : ℕ) : Type 0 where
+  pub each : (due : SpentDue slice lent)
+      → (written ≡ size (derivative due.type due.prefix))
+      × (lent_after ≡ at_front (type_bytes (derivative due.type due.prefix) []) lent)

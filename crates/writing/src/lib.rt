@@ -2,26 +2,22 @@
 // write, with room that was measured before, and hands the later parts on.
 #![tactic(auto)]
 
-ghost use Rattle.std.specs.Prelude.{◌≡◌, true, ◌∷◌, [], ◌+◌, ◌-◌, ◌/◌, ◌%◌, ◌≤◌, length};
+ghost use Rattle.std.specs.Prelude.{◌≡◌, ◌∷◌, [], ◌+◌, ◌-◌, ◌/◌, ◌%◌, ◌≤◌, length};
 ghost use Rattle.std.proofs.Common.{Fits};
 ghost use Rattle.std.specs.Int.{w64};
 ghost use Rattle.stream.specs.Reading.{section_bytes};
 ghost use Rattle.stream.specs.Buffers.{at_front};
 ghost use Rattle.stream.specs.Prefixes.Kinds.{prefix_arity};
-ghost use Rattle.stream.specs.Types.{size, nullable};
-ghost use Rattle.stream.specs.TypeFiles.{type_bytes};
-ghost use Rattle.stream.specs.Prefixes.{empty_prefix, derivative};
-ghost use Rattle.stream.specs.Prefixes.Functions.{complete};
+ghost use Rattle.stream.specs.Prefixes.{empty_prefix};
 ghost use Rattle.stream.specs.SliceFiles.{prefix_bytes};
-ghost use Rattle.reading.specs.Views.{tree};
-ghost use Rattle.reading.specs.InputViews.{type, prefix};
+ghost use Rattle.reading.specs.Fronts.{front_tree};
 ghost use Rattle.reading.specs.SliceReads.{prefix_width};
-ghost use Rattle.writing.specs.Writing.{PrefixDue, PrefixWritten, LeafConcatDue, ConcatDue, ConcatWritten, JoinedFileDue, JoinedFileWritten, empty_kind};
+ghost use Rattle.writing.specs.Writing.{PrefixDue, PrefixWritten, LeafConcatDue, ConcatDue, ConcatWritten, JoinedFileDue, JoinedFileWritten, empty_kind, SilenceDue, SilenceWritten, SpentDue, SpentWritten};
 
 use crate::numbers::put_number;
-use reading::inputs::Input;
+use reading::fronts::TypeFront;
 use reading::prefixes::{is_unfinished, root_width, skip_prefix};
-use reading::types::{TypeView, skip_type};
+use reading::types::skip_type;
 
 pub mod appending;
 pub mod numbers;
@@ -224,13 +220,13 @@ fn empty_parts(kind: u8) -> u8
     }
 }
 
-// Writes the empty prefix of a type, and says how many bytes it has. `owed` has a mark for each type that is still to be gone through,
-// the last first: 1 if it is written, 0 if it is passed over. A stack of bytes, since calls as deep as a type can be would need more
-// stack than a patch has left at its deepest.
-pub fn write_empty(ty: TypeView<'_>, out: &mut [u8]) -> usize
-    requires { prefix_width (empty_prefix (tree ty)) ≤ length out.old }
-    ensures width { result ≡ prefix_width (empty_prefix (tree ty.entry)) }
-    ensures buffer { out.new ≡ at_front (prefix_bytes (empty_prefix (tree ty.entry)) []) out.old }
+// Writes the empty prefix of the type at the front, for which `out` has room, and says how many bytes it has. What is behind the type is
+// not read. `owed` has a mark for each type that is still to be gone through, the last first: 1 if it is written, 0 if it is passed over.
+// A stack of bytes, since calls as deep as a type can be would need more stack than a patch has left at its deepest.
+pub fn write_empty(ty: TypeFront<'_>, out: &mut [u8]) -> usize
+    requires { prefix_width (empty_prefix (front_tree ty)) ≤ length out.old }
+    ensures width { result ≡ prefix_width (empty_prefix (front_tree ty.entry)) }
+    ensures buffer { out.new ≡ at_front (prefix_bytes (empty_prefix (front_tree ty.entry)) []) out.old }
 {
     let types = ty.bytes;
     let mut owed = [1u8; 255];
@@ -263,28 +259,24 @@ pub fn write_empty(ty: TypeView<'_>, out: &mut [u8]) -> usize
     written
 }
 
-// Writes the empty prefix of a nullable type. Only 0 and 4 stand in the type, which give way to 0 and 7: no branch, so that a processor
-// does many bytes in one turn.
-pub fn write_silence(ty: TypeView<'_>, out: &mut [u8])
-    requires is_nullable { nullable (tree ty) ≡ true }
-    requires room { size (tree ty) ≤ length out.old }
-    ensures { out.new ≡ at_front (prefix_bytes (empty_prefix (tree ty.entry)) []) out.old }
+// Writes the empty prefix of the nullable type, of any size, whose bytes are all of `source`; `out` has room for as many. Only 0 and 4
+// stand in the type, which give way to 0 and 7: no branch, so that a processor does many bytes in one turn.
+pub fn write_silence(source: &[u8], out: &mut [u8])
+    requires { SilenceDue source.now out.old }
+    ensures { SilenceWritten source.now out.old out.new }
 {
-    for at in 0..ty.bytes.len() {
-        out[at] = ty.bytes[at] / 4 * 7;
+    for at in 0..source.len() {
+        out[at] = source[at] / 4 * 7;
     }
 }
 
-// Writes the type that a complete prefix leaves, and says how many nodes it has. What a complete prefix leaves is fixed by the prefix
-// alone: the type's bytes are not read. A first part that is still coming does not stand in it, nor a choice that is still to be made,
-// nor a kind above 10.
-pub fn write_spent(input: Input<'_>, out: &mut [u8]) -> usize
-    requires is_complete { complete (prefix input) ≡ true }
-    requires room { size (derivative (type input) (prefix input)) ≤ length out.old }
-    ensures size { result ≡ size (derivative (type input.entry) (prefix input.entry)) }
-    ensures buffer { out.new ≡ at_front (type_bytes (derivative (type input.entry) (prefix input.entry)) []) out.old }
+// Writes the type that the complete prefix at the front of `slice` leaves, for which `out` has room, and says how many nodes it has. What
+// a complete prefix leaves is fixed by the prefix alone: the type is not asked for. A first part that is still coming does not stand in
+// it, nor a choice that is still to be made, nor a kind above 10; what is behind the prefix is not read.
+pub fn write_spent(slice: &[u8], out: &mut [u8]) -> usize
+    requires { SpentDue slice.now out.old }
+    ensures { SpentWritten slice.now out.old out.new result }
 {
-    let slice = input.slice;
     let mut owed: usize = 1;
     let mut next: usize = 0;
     let mut written: usize = 0;

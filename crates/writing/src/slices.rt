@@ -199,9 +199,9 @@ fn walk_two<'t, 's>(
     Ok(Walked { known, ..second })
 }
 
-// Whether the bytes are the file of a prefix of the type; otherwise the first fault. Any bytes may be handed in.
-pub fn read_slice_file(ty: TypeView<'_>, file: &[u8], left: &mut [u8]) -> Result<Known, Fault>
-    ensures { SliceReadLeaving (tree ty.entry) file.now left.old left.new result }
+// Whether the bytes are the file of a prefix of the type at the front; otherwise the first fault. Any bytes may be handed in.
+pub fn read_slice_file(ty: TypeFront<'_>, file: &[u8], left: &mut [u8]) -> Result<Known, Fault>
+    ensures { SliceReadLeaving (front_tree ty.entry) file.now left.old left.new result }
 {
     let length = file.len();
     if length < 2 {
@@ -212,7 +212,7 @@ pub fn read_slice_file(ty: TypeView<'_>, file: &[u8], left: &mut [u8]) -> Result
         return Err(Fault::SliceCutShort);
     }
     let end = 2 + count;
-    let prefix = walk_prefix(TypeFront::of(ty), &file[2..end], false, left)?;
+    let prefix = walk_prefix(ty, &file[2..end], false, left)?;
     if !prefix.rest.is_empty() {
         return Err(Fault::SliceLeftOver);
     }

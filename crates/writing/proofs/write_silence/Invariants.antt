@@ -5,4 +5,4 @@ use Rattle.writing.proofs.Silence.{silence}
 use Rattle.writing.proofs.write_silence.Given as goal
 
 abbrev pub invariant-loop-at : goal.invariant-loop-at
-invariant-loop-at l = Begun (map silence (take l.at l.ty.bytes.now)) l.initial.out l.out l.at
+invariant-loop-at l = Begun (map silence (take l.at l.source)) l.initial.out l.out l.at

@@ -6,75 +6,75 @@ use Rattle.writing.proofs.SpentWalk.{starts, spent, fits, length_stays, within, 
 use Rattle.writing.proofs.write_spent.Goals as goal
 
 pub loop-owed-init : goal.loop-owed-init
-loop-owed-init c = starts c.args.input c.requires.is_complete c.requires.room
+loop-owed-init c = λ due. starts due
 
 pub bounds-slice-next : goal.bounds-slice-next
-bounds-slice-next c = inside c.loop-owed.invariant c.loop-owed-test.true
+bounds-slice-next c = inside (c.loop-owed.invariant c.requires) c.loop-owed-test.true
 
 -- A first part that is still coming does not stand there, nor a choice that is still to be made, nor a kind above 10.
 
 pub returns-in-5 : goal.returns-in-5
-returns-in-5 c = absurd (no_unfinished c.loop-owed.invariant c.loop-owed-test.true (ap is_unfinished c.in-5.is))
+returns-in-5 c = absurd (no_unfinished (c.loop-owed.invariant c.requires) c.loop-owed-test.true (ap is_unfinished c.in-5.is))
 
 pub returns-in-8 : goal.returns-in-8
-returns-in-8 c = absurd (no_unfinished c.loop-owed.invariant c.loop-owed-test.true (ap is_unfinished c.in-8.is))
+returns-in-8 c = absurd (no_unfinished (c.loop-owed.invariant c.requires) c.loop-owed-test.true (ap is_unfinished c.in-8.is))
 
 pub returns-in-11-to-255 : goal.returns-in-11-to-255
-returns-in-11-to-255 c = absurd (omega (arith, listed c.loop-owed.invariant c.loop-owed-test.true))
+returns-in-11-to-255 c = absurd (omega (arith, listed (c.loop-owed.invariant c.requires) c.loop-owed-test.true))
 
 -- A crossed prefix.
 
 pub skip_prefix-next-requires : goal.skip_prefix-next-requires
-skip_prefix-next-requires c = first_part_at c.loop-owed.invariant c.loop-owed-test.true c.in-6.is
+skip_prefix-next-requires c = first_part_at (c.loop-owed.invariant c.requires) c.loop-owed-test.true c.in-6.is
 
 pub loop-owed-smaller-in-6 : goal.loop-owed-smaller-in-6
 loop-owed-smaller-in-6 c =
-    let so_far = c.loop-owed.invariant in
+    let so_far = c.loop-owed.invariant c.requires in
     let test = c.loop-owed-test.true in
     omega (arith, inside so_far test, (crossed so_far test c.in-6.is c.skip_prefix-next.ensures).0)
 
 pub loop-owed-preserved-in-6 : goal.loop-owed-preserved-in-6
-loop-owed-preserved-in-6 c = (crossed c.loop-owed.invariant c.loop-owed-test.true c.in-6.is c.skip_prefix-next.ensures).1
+loop-owed-preserved-in-6 c = λ due. (crossed (c.loop-owed.invariant due) c.loop-owed-test.true c.in-6.is c.skip_prefix-next.ensures).1
 
 -- Two prefixes side by side.
 
 pub bounds-out-written : goal.bounds-out-written
-bounds-out-written c = let so_far = c.loop-owed.invariant in omega (arith, fits so_far, length_stays so_far)
+bounds-out-written c = let so_far = c.loop-owed.invariant c.requires in omega (arith, fits so_far, length_stays so_far)
 
 pub overflow_add-written : goal.overflow_add-written
-overflow_add-written c = omega (arith, fits c.loop-owed.invariant)
+overflow_add-written c = omega (arith, fits (c.loop-owed.invariant c.requires))
 
 pub overflow_add-owed : goal.overflow_add-owed
-overflow_add-owed c = omega (arith, fits c.loop-owed.invariant)
+overflow_add-owed c = omega (arith, fits (c.loop-owed.invariant c.requires))
 
 pub loop-owed-preserved-in-7 : goal.loop-owed-preserved-in-7
-loop-owed-preserved-in-7 c = forked c.loop-owed.invariant c.loop-owed-test.true c.in-7.is
+loop-owed-preserved-in-7 c = λ due. forked (c.loop-owed.invariant due) c.loop-owed-test.true c.in-7.is
 
 -- A leaf.
 
 pub bounds-out-written-in-0-to-4 : goal.bounds-out-written-in-0-to-4
-bounds-out-written-in-0-to-4 c = let so_far = c.loop-owed.invariant in omega (arith, fits so_far, length_stays so_far)
+bounds-out-written-in-0-to-4 c = let so_far = c.loop-owed.invariant c.requires in omega (arith, fits so_far, length_stays so_far)
 
 pub overflow_add-written-in-0-to-4 : goal.overflow_add-written-in-0-to-4
-overflow_add-written-in-0-to-4 c = omega (arith, fits c.loop-owed.invariant)
+overflow_add-written-in-0-to-4 c = omega (arith, fits (c.loop-owed.invariant c.requires))
 
 pub loop-owed-smaller-then-kind-lt5 : goal.loop-owed-smaller-then-kind-lt5
 loop-owed-smaller-then-kind-lt5 c =
-    let so_far = c.loop-owed.invariant in
+    let so_far = c.loop-owed.invariant c.requires in
     let test = c.loop-owed-test.true in
     omega (arith, inside so_far test, (leaf so_far test (omega arith) c.root_width-next.ensures).0)
 
 pub loop-owed-preserved-then-kind-lt5 : goal.loop-owed-preserved-then-kind-lt5
-loop-owed-preserved-then-kind-lt5 c = (leaf c.loop-owed.invariant c.loop-owed-test.true (omega arith) c.root_width-next.ensures).1
+loop-owed-preserved-then-kind-lt5 c = λ due. (leaf (c.loop-owed.invariant due) c.loop-owed-test.true (omega arith) c.root_width-next.ensures).1
 
 pub overflow_add-next-in-0-to-4 : goal.overflow_add-next-in-0-to-4
 overflow_add-next-in-0-to-4 c =
-    omega (arith, within (leaf c.loop-owed.invariant c.loop-owed-test.true (omega arith) c.root_width-next.ensures).1)
+    omega (arith, within (leaf (c.loop-owed.invariant c.requires) c.loop-owed-test.true (omega arith) c.root_width-next.ensures).1)
 
 -- A choice.
 
 pub loop-owed-preserved : goal.loop-owed-preserved
-loop-owed-preserved c = chosen c.loop-owed.invariant c.loop-owed-test.true (omega arith)
+loop-owed-preserved c = λ due. chosen (c.loop-owed.invariant due) c.loop-owed-test.true (omega arith)
 
 pub returns : goal.returns
-returns c = let all = spent c.args.input c.loop-owed.invariant (omega arith) in record { size = all.0; buffer = all.1 }
+returns c = spent c.loop-owed.invariant (omega arith)

@@ -4,7 +4,7 @@ use Rattle.std.proofs.Common.{◌≡◌, Err, length, ◌-◌, ◌+◌, false, r
 use borrow.Author.Tests.{eqb-true}
 use Rattle.stream.specs.Reading.{Bytes, read}
 use Rattle.stream.specs.Reading.Walking.{body}
-use Rattle.reading.specs.Views.{tree}
+use Rattle.reading.specs.Fronts.{front_tree}
 use Rattle.writing.specs.Leaving.{Leaves}
 use Rattle.writing.proofs.SliceWalk.{some_bytes}
 use Rattle.writing.proofs.SliceFile.{count_missing, section_short, walk_failed, left_inside, left_behind, section_walked, refused_leaving, whole_leaving}
@@ -13,8 +13,8 @@ use Rattle.writing.proofs.slices.read_slice_file.Goals as goal
 
 -- The walk came to its end.
 past : (c : In_ok-prefix)
-    → Leaves (tree c.args.ty) (body c.args.file.now) false c.args.left.now c.walk_prefix.new.left (read c.in_ok-prefix.prefix.known c.in_ok-prefix.prefix.rest.now)
-past c = section_walked c.args.file.now (2 + c.count_of-count.result - 2) (omega arith) (rw c.of.ensures at c.in_ok-prefix.ensures.walk)
+    → Leaves (front_tree c.args.ty) (body c.args.file.now) false c.args.left.now c.walk_prefix.new.left (read c.in_ok-prefix.prefix.known c.in_ok-prefix.prefix.rest.now)
+past c = section_walked c.args.file.now (2 + c.count_of-count.result - 2) (omega arith) c.in_ok-prefix.ensures.walk
 
 bytes : (c : In_ok-prefix) → Bytes c.args.file.now
 bytes c = λ i. omega (arith, c.type_inv.file i)
@@ -27,7 +27,7 @@ returns-then-length-count c = refused_leaving (section_short _ _ (omega arith)) 
 
 pub returns-in_err-prefix : goal.returns-in_err-prefix
 returns-in_err-prefix c =
-    let failed = section_walked c.args.file.now (2 + c.count_of-count.result - 2) (omega arith) (rw c.of.ensures at c.in_err-prefix.ensures.walk) in
+    let failed = section_walked c.args.file.now (2 + c.count_of-count.result - 2) (omega arith) c.in_err-prefix.ensures.walk in
     let refused : c.from_residual.result ≡ Err c.in_err-prefix.field-0.0 = search rules in
     rw refused (refused_leaving (walk_failed _ _ c.args.ty.small (omega arith) (omega arith) _ failed.walks) failed.long)
 
