@@ -16,8 +16,9 @@ use Rattle.stream.specs.Buffers.{at_front}
 use Rattle.stream.specs.TypeFiles.{type_bytes}
 use Rattle.stream.specs.SliceFiles.{prefix_bytes}
 use Rattle.stream.specs.Longest.{byte_count, chosen, largest_level, longest_prefix}
-use Rattle.reading.specs.declared.types.TypeView.{TypeView}
-use Rattle.reading.specs.Views.{tree}
+use Rattle.reading.specs.declared.fronts.TypeFront.{TypeFront}
+use Rattle.reading.specs.Fronts.{front_tree}
+use Rattle.reading.proofs.TypeFronts.{type_at}
 use Rattle.reading.specs.TypeReads.{TypeAt, SomeTypeAt, TypeEnds}
 use Rattle.reading.specs.TypeReads.Laws.{type_drop, starts_inside}
 use Rattle.writing.specs.Tasks.{Task, passed, written, type_of, several, sizes, several_append, sizes_append}
@@ -143,21 +144,21 @@ module _ (types planned lent whole now : List ℕ) (at count : ℕ) where
     stage : Stage (task ∷ others)
 
 -- All that is to be written.
-abbrev pub to_write : TypeView → List ℕ
-to_write v = prefix_bytes (longest_prefix (tree v)) []
+abbrev pub to_write : TypeFront → List ℕ
+to_write f = prefix_bytes (longest_prefix (front_tree f)) []
 
-pub starts : (v : TypeView) {planned lent : List ℕ} → IsPlan (tree v) planned → byte_count (longest_prefix (tree v)) ≤ length lent
-    → Writing v.bytes.now planned lent (to_write v) lent 0 0
-starts v {planned} is_planned room =
+pub starts : (f : TypeFront) {planned lent : List ℕ} → IsPlan (front_tree f) planned → byte_count (longest_prefix (front_tree f)) ≤ length lent
+    → Writing f.bytes.now planned lent (to_write f) lent 0 0
+starts f {planned} is_planned room =
     record {
-      tasks = written (tree v) ∷ [];
+      tasks = written (front_tree f) ∷ [];
       stage =
           record {
-            rest = [];
-            behind = drop (size (tree v)) planned;
-            here = sym v.whole;
+            rest = (type_at f).rest;
+            behind = drop (size (front_tree f)) planned;
+            here = (type_at f).here;
             plan_here = is_planned;
-            small = omega (arith, v.small);
+            small = omega (arith, f.small);
             bytes = [];
             so_far = record { long = refl; buffer = refl };
             all = refl;

@@ -7,13 +7,12 @@ ghost use Rattle.stream.specs.Buffers.{at_front};
 ghost use Rattle.stream.specs.Types.{size};
 ghost use Rattle.stream.specs.SliceFiles.{prefix_bytes, slice_file_bytes};
 ghost use Rattle.stream.specs.Longest.{byte_count, longest_prefix};
-ghost use Rattle.reading.specs.Views.{tree};
 ghost use Rattle.reading.specs.Fronts.{front_tree};
-ghost use Rattle.measuring.specs.Planning.{longest_kind, largest_value, IsPlan, PlansFront, PlansLongest, ChoiceDue, Chooses};
+ghost use Rattle.measuring.specs.Planning.{longest_kind, largest_value, IsPlan, PlansFront, ChoiceDue, Chooses};
 
 use reading::fronts::TypeFront;
 use reading::prefixes::{VALUE_WIDTH, root_width};
-use reading::types::{TypeView, skip_type, type_arity};
+use reading::types::{skip_type, type_arity};
 use writing::{copy, put_count};
 
 // In a plan, at the root of a part that is not chosen: no slice has such a kind.
@@ -57,9 +56,10 @@ fn choose_longer(first_width: usize, second_width: usize, second: usize, plan: &
     1 + first_width
 }
 
-// Plans the longest prefix of the type at the front: a byte for each node of the type, the kind that is written for it, or PASSED at the
-// root of a part that is not chosen.
-fn plan_front(ty: TypeFront<'_>, plan: &mut [u8]) -> Planned
+// Plans the longest prefix of the type at the front, for each node of which `plan` has room, and says where the type ends and how many
+// bytes the prefix has. The plan is a byte for each node of the type: the kind that is written for it, or PASSED at the root of a part
+// that is not chosen.
+pub fn plan_longest(ty: TypeFront<'_>, plan: &mut [u8]) -> Planned
     requires { size (front_tree ty) ≤ length plan.old }
     ensures { PlansFront (front_tree ty.entry) plan.old plan.new result }
 {
@@ -70,9 +70,9 @@ fn plan_front(ty: TypeFront<'_>, plan: &mut [u8]) -> Planned
         let width = root_width(written);
         return Planned { end: 1, width };
     }
-    let first = plan_front(ty.first(), &mut plan[1..]);
+    let first = plan_longest(ty.first(), &mut plan[1..]);
     let behind = 1 + first.end;
-    let second = plan_front(ty.second(behind), &mut plan[behind..]);
+    let second = plan_longest(ty.second(behind), &mut plan[behind..]);
     let end = behind + second.end;
     // Of an either one part is written, of the other kinds both.
     if kind == 5 {
@@ -85,14 +85,6 @@ fn plan_front(ty: TypeFront<'_>, plan: &mut [u8]) -> Planned
     }
 }
 
-// Plans the longest prefix of a type, and says how many bytes it has.
-pub fn plan_longest(ty: TypeView<'_>, plan: &mut [u8]) -> usize
-    requires { size (tree ty) ≤ length plan.old }
-    ensures { PlansLongest (tree ty.entry) plan.old plan.new result }
-{
-    plan_front(TypeFront::of(ty), plan).width
-}
-
 // Writes the largest value of a level.
 #[tactic(auto, unfolding(stream::specs::Reading::number_bytes, stream::specs::Levels::level_limit))]
 fn put_largest(out: &mut [u8])
@@ -103,12 +95,13 @@ fn put_largest(out: &mut [u8])
     copy(&largest, out);
 }
 
-// Writes the longest prefix of a type, as it was planned; it has `width` bytes. A level has its value behind the kind.
-fn write_longest(ty: TypeView<'_>, plan: &[u8], width: usize, out: &mut [u8])
-    requires planned { IsPlan (tree ty) plan.now }
-    requires measured { width ≡ byte_count (longest_prefix (tree ty)) }
+// Writes the longest prefix of the type at the front, as it was planned; it has `width` bytes, for which `out` has room. A level has its
+// value behind the kind.
+fn write_longest(ty: TypeFront<'_>, plan: &[u8], width: usize, out: &mut [u8])
+    requires planned { IsPlan (front_tree ty) plan.now }
+    requires measured { width ≡ byte_count (longest_prefix (front_tree ty)) }
     requires room { width ≤ length out.old }
-    ensures { out.new ≡ at_front (prefix_bytes (longest_prefix (tree ty.entry)) []) out.old }
+    ensures { out.new ≡ at_front (prefix_bytes (longest_prefix (front_tree ty.entry)) []) out.old }
 {
     let types = ty.bytes;
     let mut at: usize = 0;
@@ -130,12 +123,13 @@ fn write_longest(ty: TypeView<'_>, plan: &[u8], width: usize, out: &mut [u8])
     }
 }
 
-// Writes the file of the longest prefix of a type, as it was planned; the prefix has `width` bytes.
-pub fn write_longest_file(ty: TypeView<'_>, plan: &[u8], width: usize, out: &mut [u8])
-    requires planned { IsPlan (tree ty) plan.now }
-    requires measured { width ≡ byte_count (longest_prefix (tree ty)) }
+// Writes the file of the longest prefix of the type at the front, as it was planned; the prefix has `width` bytes, and `out` room for these
+// and the count.
+pub fn write_longest_file(ty: TypeFront<'_>, plan: &[u8], width: usize, out: &mut [u8])
+    requires planned { IsPlan (front_tree ty) plan.now }
+    requires measured { width ≡ byte_count (longest_prefix (front_tree ty)) }
     requires room { 2 + width ≤ length out.old }
-    ensures { out.new ≡ at_front (slice_file_bytes (longest_prefix (tree ty.entry))) out.old }
+    ensures { out.new ≡ at_front (slice_file_bytes (longest_prefix (front_tree ty.entry))) out.old }
 {
     put_count(width, out);
     write_longest(ty, plan, width, &mut out[2..]);
