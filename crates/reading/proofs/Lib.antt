@@ -9,6 +9,7 @@ pub mod FirstPart
 pub mod TypeFront
 pub mod TypeFronts
 pub mod PlaceViews
+pub mod NestedTypes
 pub mod PrefixCuts
 pub mod InputViews
 pub mod PieceViews

@@ -138,13 +138,31 @@ impl<'a> TypeView<'a> {
         Some(self.bytes.len() + VALUE_WIDTH * levels as usize)
     }
 
-    // s, t and r of (s, t), r; none of another type.
+    // s, t and r of (s, t), r; none of another type. By the bytes 3 3 s t r, in which each part is passed once: to take the first part and
+    // then its parts would pass s twice.
+    #[tactic(auto, using(crate::proofs::TypeViews::not_empty, crate::proofs::TypeViews::kind_is))]
     pub fn nested_in_first(self) -> Option<(TypeView<'a>, TypeView<'a>, TypeView<'a>)>
         ensures { FirstNested (tree self.entry) result }
     {
-        let (first, r) = self.parts_of(3)?;
-        let (s, t) = first.parts_of(3)?;
-        Some((s, t, r))
+        if self.kind() != 3 {
+            return None;
+        }
+        if self.bytes[1] != 3 {
+            return None;
+        }
+        let second = skip_type(self.bytes, 2);
+        let third = skip_type(self.bytes, second);
+        Some((
+            TypeView {
+                bytes: &self.bytes[2..second],
+            },
+            TypeView {
+                bytes: &self.bytes[second..third],
+            },
+            TypeView {
+                bytes: &self.bytes[third..],
+            },
+        ))
     }
 
     // s, t and r of s and then t and r, which are the parts of a type of the kind `kind`; none of another type.
