@@ -4,11 +4,16 @@ use Rattle.std.proofs.Common.{sym, ap, ◌∙◌, arith, add-zero, get_or-drop, 
 use Rattle.std.proofs.lemmas.List.{drop_all}
 use Rattle.stream.specs.Prefixes.{Prefix}
 use Rattle.stream.specs.SliceFiles.{prefix_bytes}
+use Rattle.reading.specs.declared.inputs.Input.{Input}
 use Rattle.reading.specs.declared.inputs.Nested.{Nested}
+use Rattle.reading.specs.InputViews.{prefix}
 use Rattle.reading.specs.SliceReads.{prefix_width, PrefixAt, SomePrefixAt, PrefixEnds}
-use Rattle.reading.specs.SliceReads.Laws.{prefix_inside, prefix_taken, behind_prefix}
+use Rattle.reading.specs.SliceReads.Laws.{prefix_bytes_length, width_positive, prefix_inside, prefix_taken, behind_prefix}
 use Rattle.reading.specs.Nesting.{Cut, uncut, cut, FirstCut, first_coming, first_one, first_two, SecondCut, second_coming, second_one, second_two, second_sides}
-use Rattle.reading.specs.PieceViews.{Behind, one_behind, two_behind, SomeBehind, CutBehind}
+use Rattle.reading.specs.PieceViews.{HowCut, SomeCut, Behind, one_behind, two_behind, SomeBehind, CutBehind}
+
+pub not_empty : {slice : List ℕ} (p : Prefix) → slice ≡ prefix_bytes p [] → 0 < length slice
+not_empty p e = omega (arith, ap length e, prefix_bytes_length p [], width_positive p)
 
 -- A prefix at `from`, and the bytes behind it.
 module _ {bytes : List ℕ} {from : ℕ} {p : Prefix} (stands : PrefixAt bytes from p) {end : ℕ} (ends : end ≡ from + prefix_width p) where
@@ -168,3 +173,7 @@ module _ {slice : List ℕ} where
       second_found (second_one {b} {q}) e = one_due q (kind_is (record { whole = e }) ends) (s_taken (record { whole = e }) ends) (below (record { whole = e }) ends) second_one
       second_found (second_two {b} {c} {q}) e = two_due 6 c q (kind_is (record { whole = e }) ends) (λ five. omega arith) (s_taken (record { whole = e }) ends) (below (record { whole = e }) ends) second_two
       second_found (second_sides {b} {q} {r}) e = two_due 7 q r (kind_is (record { whole = e }) ends) (λ five. omega arith) (s_taken (record { whole = e }) ends) (below (record { whole = e }) ends) second_sides
+
+-- An input's slice holds its prefix and nothing else.
+pub some_cut : (i : Input) {Cuts : Prefix → Cut → Type 0} → HowCut Cuts (prefix i) → SomeCut Cuts i.slice.now
+some_cut i h = record { prefix = prefix i; whole = i.whole; how = h.how; is_cut = h.is_cut }

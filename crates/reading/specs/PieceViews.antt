@@ -15,6 +15,17 @@ abbrev pub CutInto : (Prefix → Cut → Type 0) → Prefix → Option Nested �
 CutInto Cuts p (Some n) = Cuts p (cut n.kind n.pieces.s.now n.pieces.t.now n.pieces.r.now)
 CutInto Cuts p None = Cuts p uncut
 
+-- The bytes are those of some prefix that is cut in one of these ways.
+pub record SomeCut (Cuts : Prefix → Cut → Type 0) (bytes : List ℕ) : Type 0 where
+  pub prefix : Prefix
+  pub whole : prefix_bytes prefix [] ≡ bytes
+  pub how : Cut
+  pub is_cut : Cuts prefix how
+
+-- The pieces of the prefix in these bytes, whichever it is.
+pub record CutBy (Cuts : Prefix → Cut → Type 0) (bytes : List ℕ) (answer : Option Nested) : Type 0 where
+  pub each : (p : Prefix) → prefix_bytes p [] ≡ bytes → HowCut Cuts p → CutInto Cuts p answer
+
 -- The bytes behind s are those of t and r, of which the second is not there yet if k is 5.
 pub data Behind (k : ℕ) (behind : List ℕ) : List ℕ → List ℕ → Type 0 where
   one_behind : (q : Prefix) → k ≡ 5 → behind ≡ prefix_bytes q [] → Behind k behind (prefix_bytes q []) []

@@ -3,8 +3,8 @@ ghost use Rattle.std.specs.Prelude.{◌≡◌, true, [], ◌+◌};
 ghost use Rattle.stream.specs.SliceFiles.{prefix_bytes, prefix_of};
 ghost use Rattle.stream.specs.Prefixes.Functions.{fits};
 ghost use Rattle.reading.specs.Views.{tree};
-ghost use Rattle.reading.specs.PieceViews.{SomeBehind, CutBehind};
 
+use crate::nested::{crossed_in_first, crossed_in_second};
 use crate::prefixes::{count_arrivals, opens, skip_prefix};
 use crate::types::{Pieces, TypeView};
 
@@ -35,23 +35,6 @@ pub enum Parts<'a> {
 pub struct Nested<'a> {
     pub kind: u8,
     pub pieces: Pieces<'a>,
-}
-
-// The pieces, of which t and r are what is `behind` s.
-fn pieces_behind<'a>(kind: u8, s: &'a [u8], behind: &'a [u8]) -> Nested<'a>
-    requires { SomeBehind kind behind.now }
-    ensures { CutBehind kind s.now behind.now result }
-{
-    let end = if kind == 5 {
-        behind.len()
-    } else {
-        skip_prefix(behind, 0)
-    };
-    let (t, r) = behind.split_at(end);
-    Nested {
-        kind,
-        pieces: Pieces { s, t, r },
-    }
 }
 
 impl<'a> Input<'a> {
@@ -178,28 +161,20 @@ impl<'a> Input<'a> {
     }
 
     // The pieces of a slice of (s, t), r, if s has come: 5 6 s t and 6 6 s t r.
-    #[tactic(auto, using(crate::proofs::InputViews::not_empty))]
+    #[inline(always)]
     pub fn crossed_in_first(self) -> Option<Nested<'a>>
         requires { HowCut FirstCut (prefix self) }
         ensures { CutInto FirstCut (prefix self.entry) result }
     {
-        if self.slice[1] == 5 {
-            return None;
-        }
-        let second = skip_prefix(self.slice, 2);
-        Some(pieces_behind(self.slice[0], &self.slice[2..second], &self.slice[second..]))
+        crossed_in_first(self.slice)
     }
 
     // The pieces of a slice of s and then t and r, if s has come: 6 s 5 t, 6 s 6 t r and 6 s 7 t r.
-    #[tactic(auto, using(crate::proofs::InputViews::not_empty))]
+    #[inline(always)]
     pub fn crossed_in_second(self) -> Option<Nested<'a>>
         requires { HowCut SecondCut (prefix self) }
         ensures { CutInto SecondCut (prefix self.entry) result }
     {
-        if self.slice[0] == 5 {
-            return None;
-        }
-        let gap = skip_prefix(self.slice, 1);
-        Some(pieces_behind(self.slice[gap], &self.slice[1..gap], &self.slice[gap + 1..]))
+        crossed_in_second(self.slice)
     }
 }

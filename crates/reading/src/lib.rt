@@ -4,6 +4,7 @@
 pub mod files;
 pub mod fronts;
 pub mod inputs;
+pub mod nested;
 pub mod prefixes;
 pub mod sections;
 pub mod types;

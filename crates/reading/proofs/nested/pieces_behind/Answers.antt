@@ -1,8 +1,8 @@
 -- All that is behind s is t, or t ends where `skip_prefix` says.
 use Rattle.std.proofs.Common.{refl, ◌∙◌}
 use Rattle.reading.proofs.PieceViews.{Ends, two_found}
-use Rattle.reading.proofs.inputs.pieces_behind.Goals as goal
-use Rattle.reading.proofs.inputs.pieces_behind.Goals.{Joined-kind-eq5, then-kind-eq5, else-kind-eq5}
+use Rattle.reading.proofs.nested.pieces_behind.Goals as goal
+use Rattle.reading.proofs.nested.pieces_behind.Goals.{Joined-kind-eq5, then-kind-eq5, else-kind-eq5}
 
 ends : (c : Joined-kind-eq5) → Ends c.args.kind c.args.behind.now c.if-kind-eq5.end
 ends c = elim c.if-kind-eq5.branch [
