@@ -15,7 +15,7 @@ use Rattle.stream.proofs.SliceFiles.Laws.{prefix_length, nodes_within}
 use Rattle.stream.proofs.SliceFiles.Held.{Holds}
 use Rattle.reading.specs.declared.types.TypeView.{TypeView}
 use Rattle.reading.specs.declared.inputs.Input.{Input}
-use Rattle.reading.specs.SliceReads.{prefix_width, PrefixAt, SomePrefixAt, PrefixIn, PrefixEnds, CompleteWide}
+use Rattle.reading.specs.SliceReads.{prefix_width, PrefixAt, SomePrefixAt, PrefixIn, PrefixEnds, CompleteAt, CompleteEnds}
 use Rattle.reading.specs.SliceReads.Laws.{prefix_bytes_length, width_positive, kind_at, prefix_inside, prefix_taken, behind_prefix}
 use Rattle.reading.specs.Views.{tree}
 use Rattle.reading.specs.InputViews.{type, prefix, all}
@@ -63,12 +63,19 @@ module _ (i : Input) where
     stops ends = ends.each _ first_stands
 
     -- A crossed part is complete, so that its type may tell how wide it is.
-    module _ (v : TypeView) (of_part : tree v ≡ first_part (type i)) (six : prefix_kind (prefix i) ≡ 6) {wide : ℕ} (told : CompleteWide (tree v) (Some wide)) where
-      pub crossed_wide : wide ≡ prefix_width (piece 0 (prefix i))
-      crossed_wide = told (piece 0 (prefix i)) (rw of_part h.first) (complete_sound (piece 0 (prefix i)) (crossing_is (rw six at (cut is_prefix))).2)
+    pub crossed_there : (v : TypeView) → tree v ≡ first_part (type i) → prefix_kind (prefix i) ≡ 6 → CompleteAt (tree v) i.slice.now 1
+    crossed_there v of_part six =
+        record {
+          prefix = piece 0 (prefix i);
+          is_prefix = rw of_part h.first;
+          is_complete = complete_sound (piece 0 (prefix i)) (crossing_is (rw six at (cut is_prefix))).2;
+          stands = first_stands;
+        }
 
-      pub crossed_fits : 1 + wide ≤ length i.slice.now
-      crossed_fits = omega (arith, crossed_wide, prefix_inside first_stands)
+    pub crossed_stops : (v : TypeView) (of_part : tree v ≡ first_part (type i)) (six : prefix_kind (prefix i) ≡ 6) {stop : ℕ}
+        → CompleteEnds (tree v) i.slice.now 1 stop → stop ≡ 1 + prefix_width (piece 0 (prefix i))
+    unfolding crossed_there
+    crossed_stops v of_part six ends = ends.each (crossed_there v of_part six)
 
     module _ {stop : ℕ} (stops : stop ≡ 1 + prefix_width (piece 0 (prefix i))) where
       pub inside : stop ≤ length i.slice.now

@@ -79,6 +79,16 @@ abbrev pub CompleteWide : Ty → Option ℕ → Type 0
 CompleteWide t (Some wide) = (p : Prefix) → IsPrefix t p → Complete p → wide ≡ prefix_width p
 CompleteWide t None = Unit {0}
 
+-- A complete prefix of t stands at `place`; `end` is where it ends.
+pub record CompleteAt (t : Ty) (slice : List ℕ) (place : ℕ) : Type 0 where
+  pub prefix : Prefix
+  pub is_prefix : IsPrefix t prefix
+  pub is_complete : Complete prefix
+  pub stands : PrefixAt slice place prefix
+
+pub record CompleteEnds (t : Ty) (slice : List ℕ) (place end : ℕ) : Type 0 where
+  pub each : (due : CompleteAt t slice place) → end ≡ place + prefix_width due.prefix
+
 -- The kind of type that each kind of slice belongs to, by its number; the kinds that keep a slice from being complete; those that can
 -- stand in an empty slice.
 abbrev pub types_by_kind : List ℕ

@@ -5,7 +5,7 @@ ghost use Rattle.stream.specs.Prefixes.Functions.{fits};
 ghost use Rattle.reading.specs.Views.{tree};
 
 use crate::nested::{crossed_in_first, crossed_in_second};
-use crate::prefixes::{count_arrivals, opens, skip_prefix};
+use crate::prefixes::{count_arrivals, opens, skip_complete, skip_prefix};
 use crate::types::{Pieces, TypeView};
 
 // The bytes of a type, and of a prefix of it.
@@ -62,10 +62,8 @@ impl<'a> Input<'a> {
         requires first { tree first ≡ first_part (type self) }
         ensures { result ≡ 1 + prefix_width (piece 0 (prefix self.entry)) }
     {
-        if self.slice[0] == 6
-            && let Some(width) = first.complete_width()
-        {
-            return 1 + width;
+        if self.slice[0] == 6 {
+            return skip_complete(first, self.slice, 1);
         }
         skip_prefix(self.slice, 1)
     }

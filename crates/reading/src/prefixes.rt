@@ -3,9 +3,11 @@ ghost use Rattle.std.specs.Prelude.{◌≡◌, ◌+◌, ◌≤◌, ◌<◌, leng
 ghost use Rattle.stream.specs.Types.{type_limit};
 ghost use Rattle.stream.specs.Bounds.{slice_file_limit};
 ghost use Rattle.stream.specs.Prefixes.Kinds.{prefix_arity, root_width, root_arrivals};
-ghost use Rattle.reading.specs.SliceReads.{type_kind_of, is_unfinished, kind_brings_nothing, belongs_at, first_complete, SomePrefixAt, PrefixEnds, first_known, crossed_known, both_known, known_after, SumsFitIfKnown};
+ghost use Rattle.reading.specs.SliceReads.{type_kind_of, is_unfinished, kind_brings_nothing, belongs_at, first_complete, SomePrefixAt, PrefixEnds, CompleteAt, CompleteEnds, first_known, crossed_known, both_known, known_after, SumsFitIfKnown};
 ghost use Rattle.reading.specs.PrefixBytes.{SomePrefix, OpensBy, ArrivalsBy};
+ghost use Rattle.reading.specs.Views.{tree};
 
+use crate::types::TypeView;
 use stream::Fault;
 
 // No slice file is longer: the count, a byte for each of 255 nodes, and two for each of at most 128 levels.
@@ -164,6 +166,19 @@ pub fn skip_prefix(slice: &[u8], place: usize) -> usize
         }
     }
     end
+}
+
+// Where the complete prefix at `place` ends, of the type `ty`. By the type, where it tells: that takes fewer turns than going through the
+// slice. What stands behind the prefix is not looked at.
+#[inline(always)]
+pub fn skip_complete(ty: TypeView<'_>, slice: &[u8], place: usize) -> usize
+    requires { CompleteAt (tree ty) slice.now place }
+    ensures { CompleteEnds (tree ty.entry) slice.now place result }
+{
+    match ty.complete_width() {
+        Some(width) => place + width,
+        None => skip_prefix(slice, place),
+    }
 }
 
 // Whether the prefix in these bytes opens a node that waits: it brings something, or it is complete. In one that brings nothing each byte
