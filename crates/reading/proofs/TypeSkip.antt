@@ -48,7 +48,7 @@ apart (seq s t) r = refl
 apart (par s t) r = refl
 apart (either s t) r = refl
 
--- Some `end`, `owed` types are still to be passed, and behind them the type at `at` ends.
+-- At `end`, `owed` types are still to be passed, and behind them the type at `at` ends.
 pub record Passing (bytes : List ℕ) (at owed end : ℕ) : Type 0 where
   pub types : List Ty
   pub rest : List ℕ

@@ -127,7 +127,7 @@ module _ {bytes : List ℕ} {place : TypePlace} {t : Ty} (here : TypeIn bytes pl
         ends = omega (arith, here.ends, first_in.ends, fork-size t fork);
       }
 
--- Ok most one type stands at a place.
+-- At most one type stands at a place.
 pub same_type : {bytes : List ℕ} {at : ℕ} {s t : Ty} → TypeAt bytes at s → TypeAt bytes at t → s ≡ t
 same_type {s = s} {t = t} h k =
     let e : read s h.rest ≡ read t k.rest
