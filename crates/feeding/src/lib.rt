@@ -23,6 +23,7 @@ use leaf_feeding::{
     feed_silent,
 };
 use patch_reading::fronts::NodeFront;
+use reading::fronts::TypeFront;
 use reading::inputs::{Input, Parts};
 use reading::prefixes::MAX_SLICE_FILE;
 use reading::types::TypeView;
@@ -85,8 +86,8 @@ pub fn feed_node(
     match front.kind() {
         0 => feed_pass(input, out, remainder, given),
         1 => feed_silent(front, out, remainder, given),
-        2 => feed_cue(input, out, remainder, given),
-        3 => feed_level(front, input, out, remainder, given),
+        2 => feed_cue(input.slice, out, remainder, given),
+        3 => feed_level(front, input.slice, out, remainder, given),
         4 => feed_both(front, input, out, remainder, given),
         5 => feed_left(input, out, remainder, given),
         6 => feed_right(input, out, remainder, given),
@@ -322,7 +323,7 @@ fn feed_unchosen(
     let whole = TypeView {
         bytes: &given[..size],
     };
-    let sent = write_empty(whole, out);
+    let sent = write_empty(TypeFront::of(whole), out);
     copy(&front.bytes[..typed.end], remainder);
     Some(Step {
         end: typed.end,

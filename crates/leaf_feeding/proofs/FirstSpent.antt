@@ -4,14 +4,15 @@ use Rattle.std.specs.Prelude.{◌≡◌, refl, List, [], ◌∷◌, ℕ, ◌+◌
 use Rattle.std.proofs.Common.{◌∙◌, arith}
 use Rattle.stream.specs.Types.{Ty, size, Small, type_limit}
 use Rattle.stream.specs.Prefixes.{Prefix, derivative}
-use Rattle.stream.proofs.Prefixes.Laws.{derivative-size}
+use Rattle.stream.proofs.Prefixes.Laws.{derivative-size, complete_sound}
 use Rattle.stream.specs.TypeFiles.{type_bytes}
 use Rattle.stream.specs.Buffers.{at_front}
 use Rattle.reading.specs.TypeReads.Laws.{type_width}
 use Rattle.reading.specs.declared.inputs.Input.{Input}
 use Rattle.reading.specs.declared.inputs.Parts.TheVariants.{Crossed}
 use Rattle.reading.specs.InputViews.{type, prefix, MakeUp}
-use Rattle.reading.proofs.InputViews.{is_prefix}
+use Rattle.reading.proofs.InputViews.{is_prefix, prefix_in}
+use Rattle.writing.specs.Writing.{SpentDue}
 use Rattle.writing.specs.Writing.Laws.{part, back}
 use Rattle.node.specs.Nodes.{first, takes_first}
 use Rattle.node.specs.Nodes.Functions.{output_type}
@@ -58,6 +59,16 @@ module _ (a b : Input) {t : Ty} {p : Prefix} (made : MakeUp (Crossed a b) t p) {
 
       pub spent_room : size left_over ≤ length (part 1 (set remainder_now 0 1))
       spent_room = omega (arith, leads_room begun 1, left_small, rooms.left_room)
+
+      abbrev pub spent_due : SpentDue a.slice.now (part 1 (set remainder_now 0 1))
+      spent_due =
+          record {
+            type = type a;
+            prefix = prefix a;
+            stands = (prefix_in a).stands;
+            is_complete = complete_sound (prefix a) made.2;
+            room = spent_room;
+          }
 
       module _ {many : ℕ} (sized : many ≡ size left_over) where
         pub spent_small : many ≤ type_limit

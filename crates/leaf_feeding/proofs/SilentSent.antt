@@ -9,6 +9,7 @@ use Rattle.stream.specs.SliceFiles.{prefix_bytes}
 use Rattle.reading.specs.declared.types.TypeView.{TypeView}
 use Rattle.reading.specs.Views.{tree}
 use Rattle.reading.specs.SliceReads.{prefix_width}
+use Rattle.reading.proofs.TypeViews.{size_is}
 use Rattle.reading.specs.SliceReads.Laws.{prefix_bytes_length}
 use Rattle.node.specs.Nodes.{Node, silent, Takes, takes_silent}
 use Rattle.node.specs.Nodes.Kinds.{node_kind}
@@ -18,6 +19,7 @@ use Rattle.patch_reading.specs.declared.fronts.NodeFront.{NodeFront}
 use Rattle.patch_reading.specs.Fronts.{node, carried_type}
 use Rattle.patch_reading.specs.PatchReads.{node_width}
 use Rattle.patch_reading.proofs.NodeParts.{made_of, silent_has_type, carried_width}
+use Rattle.writing.specs.Writing.{SilenceDue}
 use Rattle.leaf_feeding.specs.Steps.{fed, failed, LeafRooms, SilentAnswers}
 use Rattle.leaf_feeding.specs.Steps.Laws.{front_leads}
 use Rattle.leaf_feeding.proofs.Handing.{type_leads, node_leads}
@@ -73,6 +75,15 @@ module _ (n : NodeFront) (is_silent : node_kind (node n) ≡ 1) (v : TypeView) (
     silent_ends = omega (arith, ap size carried, carried_width (node n) (silent_has_type is_silent))
 
     module _ {out remainder given : List ℕ} (rooms : LeafRooms out remainder given) (room : size (tree v) ≤ length given) where
+      abbrev pub silence_due : SilenceDue v.bytes.now out
+      silence_due =
+          record {
+            type = tree v;
+            is_nullable = is_null;
+            bytes = sym v.whole;
+            room = omega (arith, size_is v, rooms.rooms.for_output);
+          }
+
       pub silent_fed : {many : ℕ} {out_after remainder_after given_after : List ℕ} → many ≡ size (tree v)
           → given_after ≡ at_front v.bytes.now given → out_after ≡ at_front (prefix_bytes (empty_prefix (tree v)) []) out
           → remainder_after ≡ at_front (take (1 + many) n.bytes.now) remainder

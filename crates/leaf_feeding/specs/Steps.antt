@@ -1,11 +1,12 @@
 -- What a feed of a node answers and promises: contracts inside the library, which no demand rests on.
-use Rattle.std.specs.Prelude.{None, Option, Some, ◌≡◌, List, [], ◌∷◌, ◌++◌, ℕ, suc, ◌*◌, ◌≤◌, ◌<◌, length}
+use Rattle.std.specs.Prelude.{None, Option, Some, ◌≡◌, List, [], ◌∷◌, ◌++◌, ℕ, suc, ◌+◌, ◌*◌, ◌≤◌, ◌<◌, length}
 use Rattle.stream.specs.Types.{Ty, empty, size, type_limit}
+use Rattle.stream.specs.Levels.{value_width}
 use Rattle.stream.specs.Prefixes.{Prefix, empty_prefix}
 use Rattle.stream.specs.TypeFiles.{type_bytes}
 use Rattle.stream.specs.SliceFiles.{prefix_bytes}
 use Rattle.reading.specs.SliceReads.{prefix_width}
-use Rattle.node.specs.Nodes.{Node, silent, second}
+use Rattle.node.specs.Nodes.{Node, silent, emit_cue, second}
 use Rattle.node.specs.Checking.{WellTyped}
 use Rattle.node.specs.Feeding.Functions.{sends, leaves}
 use Rattle.node.specs.PatchFiles.{node_bytes}
@@ -55,6 +56,19 @@ pub record LeafRooms (out remainder given : List ℕ) : Type 0 where
 abbrev pub SilentAnswers : (n : Node) (out remainder given out_after remainder_after given_after : List ℕ) → Option Step → Type 0
 SilentAnswers n out remainder given out_after remainder_after given_after answer =
     (s : Ty) (p : Prefix) → NodeAnswers (node_width n) s n p out remainder given out_after remainder_after given_after answer
+
+-- Cue and level do not ask the type, and of the prefix its bytes alone: the answer is that for every type, and for the prefix that the bytes
+-- hold.
+
+abbrev pub CueAnswers : (bytes out remainder given out_after remainder_after given_after : List ℕ) → Option Step → Type 0
+CueAnswers bytes out remainder given out_after remainder_after given_after answer =
+    (s : Ty) (p : Prefix) → prefix_bytes p [] ≡ bytes
+    → NodeAnswers 1 s emit_cue p out remainder given out_after remainder_after given_after answer
+
+abbrev pub LevelAnswers : (n : Node) (bytes out remainder given out_after remainder_after given_after : List ℕ) → Option Step → Type 0
+LevelAnswers n bytes out remainder given out_after remainder_after given_after answer =
+    (s : Ty) (p : Prefix) → prefix_bytes p [] ≡ bytes
+    → NodeAnswers (1 + value_width) s n p out remainder given out_after remainder_after given_after answer
 
 -- A node of one byte is left, of the kind k, once t and a prefix of it are handed on.
 abbrev pub HandsOn : (k : ℕ) (t : Ty) (p : Prefix) (out remainder given out_after remainder_after given_after : List ℕ) → Option Step → Type 0

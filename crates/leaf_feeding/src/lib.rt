@@ -3,18 +3,18 @@
 // it takes, and if there is no room for the type that it gives. Where that has room, what is sent has.
 #![tactic(auto)]
 
-ghost use Rattle.std.specs.Prelude.{◌≡◌, ◌+◌, ◌≤◌, length};
-ghost use Rattle.stream.specs.Levels.{value_width};
+ghost use Rattle.std.specs.Prelude.{◌≡◌, ◌≤◌, length};
 ghost use Rattle.reading.specs.Views.{tree};
 ghost use Rattle.reading.specs.InputViews.{type, prefix};
-ghost use Rattle.node.specs.Nodes.{pass, emit_cue, left_side, right_side, first, second};
+ghost use Rattle.node.specs.Nodes.{pass, left_side, right_side, first, second};
 ghost use Rattle.node.specs.Nodes.Kinds.{node_kind};
 ghost use Rattle.patch_reading.specs.Fronts.{node};
-ghost use Rattle.leaf_feeding.specs.Steps.{LeafRooms, NodeAnswers, SilentAnswers, HandsOn, Waits, LeavesSilent};
+ghost use Rattle.leaf_feeding.specs.Steps.{LeafRooms, NodeAnswers, SilentAnswers, CueAnswers, LevelAnswers, HandsOn, Waits, LeavesSilent};
 
 use patch_reading::fronts::NodeFront;
+use reading::fronts::TypeFront;
 use reading::inputs::{Input, Parts};
-use reading::prefixes::VALUE_WIDTH;
+use reading::prefixes::{VALUE_WIDTH, opens};
 use reading::types::TypeView;
 use writing::{copy, write_empty, write_silence, write_spent};
 
@@ -85,21 +85,22 @@ fn leave_silent(end: usize, sent: usize, remainder: &mut [u8]) -> Option<Step>
     })
 }
 
-// Cue waits until the prefix opens it, and then sends itself, once.
+// Cue waits until the prefix opens it, and then sends itself, once. Of what it is fed it asks for the prefix alone, in its bytes: the
+// answer is that for every type. Of bytes that hold no prefix nothing is promised.
 pub fn feed_cue(
-    input: Input<'_>,
+    prefix: &[u8],
     out: &mut [u8],
     remainder: &mut [u8],
     given: &mut [u8],
 ) -> Option<Step>
     requires { LeafRooms out.old remainder.old given.old }
-    ensures { NodeAnswers 1 (type input.entry) emit_cue (prefix input.entry) out.old remainder.old given.old out.new remainder.new given.new result }
+    ensures { CueAnswers prefix.now out.old remainder.old given.old out.new remainder.new given.new result }
 {
     if given.is_empty() {
         return None;
     }
     given[0] = 1;
-    if input.opens() {
+    if opens(prefix) {
         out[0] = 2;
         return leave_silent(1, 1, remainder);
     }
@@ -113,25 +114,25 @@ pub fn feed_cue(
     })
 }
 
-// Level waits as cue does, and then sends its value, once.
+// Level waits as cue does, on the prefix alone, and then sends its value, once.
 #[tactic(auto, using(patch_reading::proofs::NodeFronts::value_inside, stream::proofs::Types::Laws::limit_is))]
 pub fn feed_level(
     level: NodeFront<'_>,
-    input: Input<'_>,
+    prefix: &[u8],
     out: &mut [u8],
     remainder: &mut [u8],
     given: &mut [u8],
 ) -> Option<Step>
     requires is_level { node_kind (node level) ≡ 3 }
     requires leaf_rooms { LeafRooms out.old remainder.old given.old }
-    ensures { NodeAnswers (1 + value_width) (type input.entry) (node level.entry) (prefix input.entry) out.old remainder.old given.old out.new remainder.new given.new result }
+    ensures { LevelAnswers (node level.entry) prefix.now out.old remainder.old given.old out.new remainder.new given.new result }
 {
     if given.is_empty() {
         return None;
     }
     let end = 1 + VALUE_WIDTH;
     given[0] = 2;
-    if input.opens() {
+    if opens(prefix) {
         out[0] = 4;
         copy(level.value(), &mut out[1..]);
         return leave_silent(end, 1 + VALUE_WIDTH, remainder);
@@ -168,7 +169,7 @@ pub fn feed_silent(
     }
     let end = 1 + size;
     copy(carried.bytes, given);
-    write_silence(carried, out);
+    write_silence(carried.bytes, out);
     copy(&silent.bytes[..end], remainder);
     Some(Step {
         end,
@@ -225,7 +226,7 @@ pub fn feed_first(
         Parts::Crossed(part, _) => {
             let step = hand_on(7, part, out, remainder, given)?;
             remainder[0] = 1;
-            let size = write_spent(part, &mut remainder[1..]);
+            let size = write_spent(part.slice, &mut remainder[1..]);
             Some(Step {
                 kept: 1 + size,
                 ..step
@@ -251,7 +252,7 @@ fn feed_waiting(
         return None;
     }
     copy(ty.bytes, given);
-    let sent = write_empty(ty, out);
+    let sent = write_empty(TypeFront::of(ty), out);
     remainder[0] = 8;
     Some(Step {
         end: 1,

@@ -75,7 +75,9 @@ feed_node-returns-in-0 t c = leaf_fed (made_of (node c.args.front) (sym c.kind.e
 
 pub feed_node-returns-in-2 : goal.feed_node-returns-in-2
 unfolding node_bytes
-feed_node-returns-in-2 t c = leaf_fed (made_of (node c.args.front) (sym c.kind.ensures ∙ c.in-2.is)) (prefix c.args.input) c.feed_cue.ensures
+feed_node-returns-in-2 t c =
+    leaf_fed (made_of (node c.args.front) (sym c.kind.ensures ∙ c.in-2.is)) (prefix c.args.input)
+    (c.feed_cue.ensures (type c.args.input) (prefix c.args.input) c.args.input.whole)
 
 pub feed_node-returns-in-5 : goal.feed_node-returns-in-5
 unfolding node_bytes
@@ -110,7 +112,9 @@ unfolding node_bytes
 feed_node-returns-in-14 t c = leaf_fed (made_of (node c.args.front) (sym c.kind.ensures ∙ c.in-14.is)) (prefix c.args.input) c.feed_front.ensures
 
 pub feed_node-returns-in-3 : goal.feed_node-returns-in-3
-feed_node-returns-in-3 t c = rw (value_node_width (node c.args.front) (sym c.kind.ensures ∙ c.in-3.is)) c.feed_level.ensures
+feed_node-returns-in-3 t c =
+    rw (value_node_width (node c.args.front) (sym c.kind.ensures ∙ c.in-3.is))
+    (c.feed_level.ensures (type c.args.input) (prefix c.args.input) c.args.input.whole)
 
 -- feed_both hands the input to both its nodes.
 

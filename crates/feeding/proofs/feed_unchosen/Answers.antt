@@ -33,8 +33,9 @@ invariant_of-whole c =
 
 pub write_empty-sent-requires : goal.write_empty-sent-requires
 write_empty-sent-requires c =
-    nothing_room c.args.front c.requires.is_choose (tree c.args.ty) c.requires.rooms (typed (goal.at.write_empty-sent-requires c).In_ok-typed)
-    c.if-given-size.false
+    rw c.of.ensures
+    (nothing_room c.args.front c.requires.is_choose (tree c.args.ty) c.requires.rooms (typed (goal.at.write_empty-sent-requires c).In_ok-typed)
+    c.if-given-size.false)
 
 pub slice_bounds-copy-end : goal.slice_bounds-copy-end
 slice_bounds-copy-end c =
@@ -47,4 +48,4 @@ copy-requires c =
 pub returns : goal.returns
 returns c =
     waited c.args.front c.requires.is_choose (tree c.args.ty) c.requires.rooms (typed (goal.at.returns c).In_ok-typed) c.if-given-size.false
-    c.write_empty-sent.ensures.width c.write_empty-sent.ensures.buffer c.copy.ensures
+    (rw c.of.ensures at c.write_empty-sent.ensures.width) (rw c.of.ensures at c.write_empty-sent.ensures.buffer) c.copy.ensures

@@ -2,7 +2,7 @@
 -- (`SilentSent`).
 use Rattle.std.proofs.Common.{sym, arith, ◌+◌, length-take-le}
 use Rattle.patch_reading.proofs.NodeFronts.{inside}
-use Rattle.leaf_feeding.proofs.SilentSent.{not_nullable, without_room, silent_ends, silent_fed}
+use Rattle.leaf_feeding.proofs.SilentSent.{not_nullable, without_room, silent_ends, silence_due, silent_fed}
 use Rattle.leaf_feeding.proofs.feed_silent.Goals as goal
 
 pub returns-then-not-is_nullable : goal.returns-then-not-is_nullable
@@ -20,7 +20,16 @@ slice_bounds-copy-end c =
     in
     sym (length-take-le (1 + c.size-size.result) c.args.silent.bytes.now (omega (arith, ends, inside c.args.silent)))
 
+pub write_silence-requires : goal.write_silence-requires
+write_silence-requires c =
+    silence_due c.args.silent c.requires.is_silent c.carried-carried.result c.carried-carried.ensures (sym c.if-not-is_nullable.ensures)
+    c.requires.leaf_rooms (omega arith)
+
 pub returns : goal.returns
 returns c =
+    let due =
+    silence_due c.args.silent c.requires.is_silent c.carried-carried.result c.carried-carried.ensures (sym c.if-not-is_nullable.ensures)
+    c.requires.leaf_rooms (omega arith)
+    in
     silent_fed c.args.silent c.requires.is_silent c.carried-carried.result c.carried-carried.ensures (sym c.if-not-is_nullable.ensures)
-    c.requires.leaf_rooms (omega arith) c.size-size.ensures c.copy.ensures c.write_silence.ensures c.copy-2.ensures
+    c.requires.leaf_rooms (omega arith) c.size-size.ensures c.copy.ensures (c.write_silence.ensures.each due) c.copy-2.ensures

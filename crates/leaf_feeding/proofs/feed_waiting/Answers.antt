@@ -8,7 +8,9 @@ pub returns-then-given-size : goal.returns-then-given-size
 returns-then-given-size c = no_room c.args.ty (omega arith)
 
 pub write_empty-sent-requires : goal.write_empty-sent-requires
-write_empty-sent-requires c = empty_room c.args.ty c.requires (omega arith)
+write_empty-sent-requires c = rw c.of.ensures (empty_room c.args.ty c.requires (omega arith))
 
 pub returns : goal.returns
-returns c = waited c.args.ty c.requires (omega arith) c.size-size.ensures c.copy.ensures c.write_empty-sent.ensures.width c.write_empty-sent.ensures.buffer
+returns c =
+    waited c.args.ty c.requires (omega arith) c.size-size.ensures c.copy.ensures (rw c.of.ensures at c.write_empty-sent.ensures.width)
+    (rw c.of.ensures at c.write_empty-sent.ensures.buffer)
