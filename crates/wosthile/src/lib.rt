@@ -23,6 +23,7 @@ use measuring::{plan_longest, write_longest_file};
 use patch_reading::files::read_patch_file;
 use patch_reading::patches::PatchView;
 use reading::files::read_type_file;
+use reading::fronts::TypeFront;
 use reading::inputs::Input;
 use reading::prefixes::MAX_SLICE_FILE;
 use reading::types::TypeView;
@@ -83,7 +84,7 @@ fn try_admit(ty: &[u8], slice: &[u8]) -> Result<Taken, Fault>
     let ty = read_type_file(ty)?;
     // What the slice leaves is not asked.
     let mut none = [0u8; 0];
-    let prefix = read_slice_file(ty, slice, &mut none)?;
+    let prefix = read_slice_file(TypeFront::of(ty), slice, &mut none)?;
     Ok(Taken {
         complete: prefix.complete,
         arrived: prefix.arrived,
@@ -102,7 +103,7 @@ fn try_left(ty: &[u8], slice: &[u8], out: &mut [u8]) -> Result<usize, Fault>
 {
     let ty = read_type_file(ty)?;
     let mut left = [0u8; TypeView::MAX_NODES];
-    let prefix = read_slice_file(ty, slice, &mut left)?;
+    let prefix = read_slice_file(TypeFront::of(ty), slice, &mut left)?;
     put_file(&left[..prefix.remains], out)
 }
 
@@ -119,13 +120,13 @@ fn try_join(ty: &[u8], first: &[u8], second: &[u8], out: &mut [u8]) -> Result<us
 {
     let ty = read_type_file(ty)?;
     let mut left = [0u8; TypeView::MAX_NODES];
-    let prefix = read_slice_file(ty, first, &mut left)?;
+    let prefix = read_slice_file(TypeFront::of(ty), first, &mut left)?;
     let remainder = TypeView {
         bytes: &left[..prefix.remains],
     };
     // What the second leaves is not asked.
     let mut none = [0u8; 0];
-    read_slice_file(remainder, second, &mut none)?;
+    read_slice_file(TypeFront::of(remainder), second, &mut none)?;
     let joined = first.len() - 2 + (second.len() - 2) - prefix.overlap;
     if out.len() < 2 + joined {
         return Err(Fault::NoRoom);
@@ -273,7 +274,7 @@ fn try_feed<'a>(
 {
     let patch = read_patch_file(patch)?;
     let mut left = [0u8; TypeView::MAX_NODES];
-    match read_slice_file(patch.input, slice, &mut left) {
+    match read_slice_file(TypeFront::of(patch.input), slice, &mut left) {
         Err(fault) => Err(first_fault(patch, fault)),
         Ok(prefix) => {
             let slice = Input {
@@ -303,12 +304,12 @@ fn try_longest(ty: &[u8], out: &mut [u8]) -> Result<usize, Fault>
 {
     let ty = read_type_file(ty)?;
     let mut plan = [0u8; TypeView::MAX_NODES];
-    let width = plan_longest(ty, &mut plan);
-    let length = 2 + width;
+    let planned = plan_longest(TypeFront::of(ty), &mut plan);
+    let length = 2 + planned.width;
     if out.len() < length {
         return Err(Fault::NoRoom);
     }
-    write_longest_file(ty, &plan, width, out);
+    write_longest_file(TypeFront::of(ty), &plan, planned.width, out);
     Ok(length)
 }
 

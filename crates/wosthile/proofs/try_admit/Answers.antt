@@ -13,11 +13,11 @@ returns-in_err-ty c = turned_down c.in_err-ty.field-0.0 (search rules) (type_sto
 pub returns-in_err-prefix : goal.returns-in_err-prefix
 unfolding admit
 returns-in_err-prefix c =
-    let e = slice_refused c.in_ok-ty.ty.small c.in_err-prefix.ensures in
+    let e = slice_refused c.in_ok-ty.ty.small (rw c.of.ensures at c.in_err-prefix.ensures) in
     turned_down c.in_err-prefix.field-0.0 (search rules) (slice_stops _ _ _ c.in_ok-ty.ensures e)
 
 pub returns : goal.returns
 unfolding admit
 returns c =
-    let p = slice_accepted c.in_ok-ty.ty.small c.in_ok-prefix.ensures (λ i. omega (arith, c.type_inv.slice i)) in
+    let p = slice_accepted c.in_ok-ty.ty.small (rw c.of.ensures at c.in_ok-prefix.ensures) (λ i. omega (arith, c.type_inv.slice i)) in
     taken_in _ (goes_on _ _ _ c.in_ok-ty.ensures p.is_accepted) p.completeness p.arrived

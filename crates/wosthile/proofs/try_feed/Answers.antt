@@ -17,11 +17,11 @@ use Rattle.wosthile.proofs.try_feed.Goals as goal
 -- The slice is one of the input type, and what it leaves stands on the work bytes.
 
 slice_of : (c : In-Ok) → AcceptedSlice (tree c.in_ok-patch.patch.input) c.args.slice.now c.in-Ok.prefix
-slice_of c = slice_accepted c.in_ok-patch.patch.input.small c.in-Ok.ensures (λ i. omega (arith, c.type_inv.slice i))
+slice_of c = slice_accepted c.in_ok-patch.patch.input.small (rw c.of.ensures at c.in-Ok.ensures) (λ i. omega (arith, c.type_inv.slice i))
 
 left_of : (c : In-Ok)
     → InFront (derivative (tree c.in_ok-patch.patch.input) (slice_of c).prefix) c.read_slice_file.new.left c.in-Ok.prefix.remains
-left_of c = left-held c.in_ok-patch.patch.input.small c.in-Ok.ensures (slice_of c) (omega arith)
+left_of c = left-held c.in_ok-patch.patch.input.small (rw c.of.ensures at c.in-Ok.ensures) (slice_of c) (omega arith)
 
 held_slice : (c : In-Ok)
     → Holds (tree c.in_ok-patch.patch.input) (take (length c.args.slice.now - 2) (drop 2 c.args.slice.now)) (slice_of c).prefix
@@ -39,7 +39,7 @@ returns-in_err-patch c =
 
 pub returns-in-Err : goal.returns-in-Err
 returns-in-Err c =
-    let e = slice_refused c.in_ok-patch.patch.input.small c.in-Err.ensures in
+    let e = slice_refused c.in_ok-patch.patch.input.small (rw c.of.ensures at c.in-Err.ensures) in
     as_promised (slice_unread _ _ c.in_ok-patch.ensures e ∙ ap refused (sym c.first_fault.ensures)) (refusal_delivers _ _ _ refl refl)
 
 pub slice_bounds-slice-count : goal.slice_bounds-slice-count

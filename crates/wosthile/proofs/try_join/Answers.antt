@@ -24,18 +24,18 @@ use Rattle.wosthile.proofs.try_join.Goals as goal
 -- The first slice file is accepted, and what it leaves stands in the work array.
 
 first_slice : (c : In_ok-prefix) → AcceptedSlice (tree c.in_ok-ty.ty) c.args.first.now c.in_ok-prefix.prefix
-first_slice c = slice_accepted c.in_ok-ty.ty.small c.in_ok-prefix.ensures (λ i. omega (arith, c.type_inv.first i))
+first_slice c = slice_accepted c.in_ok-ty.ty.small (rw c.of.ensures at c.in_ok-prefix.ensures) (λ i. omega (arith, c.type_inv.first i))
 
 abbrev type-left : In_ok-prefix → Ty
 type-left c = derivative (tree c.in_ok-ty.ty) (first_slice c).prefix
 
 left_of : (c : In_ok-prefix) → InFront (type-left c) c.read_slice_file.new.left c.in_ok-prefix.prefix.remains
-left_of c = left-held c.in_ok-ty.ty.small c.in_ok-prefix.ensures (first_slice c) (omega arith)
+left_of c = left-held c.in_ok-ty.ty.small (rw c.of.ensures at c.in_ok-prefix.ensures) (first_slice c) (omega arith)
 
 -- And then the second.
 second_slice : (c : In_ok-read_slice_file) {t : Ty} → Holds (take c.in_ok-prefix.prefix.remains c.read_slice_file.new.left) t
     → AcceptedSlice t c.args.second.now c.in_ok-read_slice_file.field-0
-second_slice c held = slice_accepted held.small (rw (has_tree held) at c.in_ok-read_slice_file.ensures) (λ i. omega (arith, c.type_inv.second i))
+second_slice c held = slice_accepted held.small (rw (c.of-2.ensures, has_tree held) at c.in_ok-read_slice_file.ensures) (λ i. omega (arith, c.type_inv.second i))
 
 -- What has to be written, and how long it is.
 module _ {first second : List ℕ} {t : Ty} {one two : Known} (p : AcceptedSlice t first one) (q : AcceptedSlice (derivative t p.prefix) second two) where
@@ -97,14 +97,14 @@ returns-in_err-ty c = refusal_keeps _ c.in_err-ty.field-0.0 (search rules) (type
 pub returns-in_err-prefix : goal.returns-in_err-prefix
 unfolding join
 returns-in_err-prefix c =
-    let e = slice_refused c.in_ok-ty.ty.small c.in_err-prefix.ensures in
+    let e = slice_refused c.in_ok-ty.ty.small (rw c.of.ensures at c.in_err-prefix.ensures) in
     refusal_keeps _ c.in_err-prefix.field-0.0 (search rules) (slice_stops _ _ _ c.in_ok-ty.ensures e)
 
 pub returns-in_err-read_slice_file : goal.returns-in_err-read_slice_file
 returns-in_err-read_slice_file c =
     let at = goal.at.returns-in_err-read_slice_file c in
     let h = (left_of at.In_ok-prefix).holds in
-    let e = slice_refused h.small (rw (has_tree h) at c.in_err-read_slice_file.ensures) in
+    let e = slice_refused h.small (rw (c.of-2.ensures, has_tree h) at c.in_err-read_slice_file.ensures) in
     refusal_keeps _ c.in_err-read_slice_file.field-0.0 (search rules) (join_stops _ _ c.in_ok-ty.ensures (first_slice at.In_ok-prefix) _ e)
 
 pub returns : goal.returns

@@ -17,13 +17,13 @@ use Rattle.wosthile.proofs.try_left.Goals as goal
 -- The slice file is accepted, and what it leaves stands in the work array.
 
 slice_of : (c : In_ok-prefix) → AcceptedSlice (tree c.in_ok-ty.ty) c.args.slice.now c.in_ok-prefix.prefix
-slice_of c = slice_accepted c.in_ok-ty.ty.small c.in_ok-prefix.ensures (λ i. omega (arith, c.type_inv.slice i))
+slice_of c = slice_accepted c.in_ok-ty.ty.small (rw c.of.ensures at c.in_ok-prefix.ensures) (λ i. omega (arith, c.type_inv.slice i))
 
 abbrev type-left : In_ok-prefix → Ty
 type-left c = derivative (tree c.in_ok-ty.ty) (slice_of c).prefix
 
 in_front : (c : In_ok-prefix) → InFront (type-left c) c.read_slice_file.new.left c.in_ok-prefix.prefix.remains
-in_front c = left-held c.in_ok-ty.ty.small c.in_ok-prefix.ensures (slice_of c) (omega arith)
+in_front c = left-held c.in_ok-ty.ty.small (rw c.of.ensures at c.in_ok-prefix.ensures) (slice_of c) (omega arith)
 
 left_is : (c : In_ok-prefix) → left c.args.ty.now c.args.slice.now ≡ accepted (type_file_bytes (type-left c))
 unfolding left
@@ -42,7 +42,7 @@ returns-in_err-ty c = refusal_keeps _ c.in_err-ty.field-0.0 (search rules) (type
 pub returns-in_err-prefix : goal.returns-in_err-prefix
 unfolding left
 returns-in_err-prefix c =
-    let e = slice_refused c.in_ok-ty.ty.small c.in_err-prefix.ensures in
+    let e = slice_refused c.in_ok-ty.ty.small (rw c.of.ensures at c.in_err-prefix.ensures) in
     refusal_keeps _ c.in_err-prefix.field-0.0 (search rules) (slice_stops _ _ _ c.in_ok-ty.ensures e)
 
 pub returns : goal.returns
