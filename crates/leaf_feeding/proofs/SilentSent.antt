@@ -79,7 +79,7 @@ module _ (n : NodeFront) (is_silent : node_kind (node n) ≡ 1) (v : TypeView) (
       silence_due =
           record {
             type = tree v;
-            is_nullable = is_null;
+            is_nullable = nullable_sound (tree v) null;
             bytes = sym v.whole;
             room = omega (arith, size_is v, rooms.rooms.for_output);
           }

@@ -1,6 +1,6 @@
 -- `feed_cue` meets its contract: where a type of one node has room, it writes the one byte of a cue that has come or is awaited, as the
 -- prefix opens it or not (`Emitted`), whatever the type.
-use Rattle.std.proofs.Common.{sym, ◌∙◌}
+use Rattle.std.proofs.Common.{sym}
 use Rattle.leaf_feeding.proofs.Emitted.{none_given, some_room, cue_sent, cue_waits}
 use Rattle.leaf_feeding.proofs.feed_cue.Goals as goal
 
