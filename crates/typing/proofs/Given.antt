@@ -1,12 +1,16 @@
 -- What a node gives, where it gives a type.
 use Rattle.std.specs.Prelude.{◌≡◌, List, [], ℕ, ◌+◌, ◌≤◌, length, take, Ok, Err}
-use Rattle.std.proofs.Common.{refl, sym, ◌∙◌, arith}
+use Rattle.std.proofs.Common.{refl, sym, ap, ◌∙◌, arith}
 use Rattle.stream.specs.declared.Fault.{Fault}
 use Rattle.stream.specs.Types.{Ty, size, Small}
 use Rattle.stream.proofs.Types.Laws.{limit_is}
 use Rattle.stream.specs.Reading.{Result as Outcome, accepted, refused}
 use Rattle.stream.specs.TypeFiles.{type_bytes}
 use Rattle.stream.proofs.TypeFiles.Held as types
+use Rattle.reading.specs.declared.types.TypeView.{TypeView}
+use Rattle.reading.specs.Views.{tree}
+use Rattle.reading.specs.TypeReads.Laws.{bytes_at}
+use Rattle.reading.proofs.PlaceViews.{all_of, view_in}
 use Rattle.writing.specs.Appending.{Holds}
 use Rattle.writing.specs.Writing.Standing.{TypeHeld, type_held}
 use Rattle.node.specs.Nodes.{Node}
@@ -16,10 +20,11 @@ use Rattle.patch_reading.specs.declared.fronts.NodeFront.{NodeFront}
 use Rattle.patch_reading.specs.PatchReads.{node_width}
 use Rattle.patch_reading.specs.Fronts.{node, first_node, second_node}
 use Rattle.patch_reading.proofs.NodeParts.{fork_width}
-use Rattle.patch_reading.proofs.NodeFronts.{inside}
+use Rattle.patch_reading.proofs.NodeFronts.{node_at, inside}
 use Rattle.typing.specs.declared.Typed.{Typed}
-use Rattle.typing.specs.Typing.{typed_at, typed, Answers, NodeTyped}
-use Rattle.typing.specs.Typing.Laws.{typing_small, is_given, is_refused, answers_refused}
+use Rattle.typing.specs.Typing.{typed_at, typed, Answers, NodeTyped, TypingDue}
+use Rattle.typing.specs.Typing.Laws.{typing_small, is_given, is_refused, answers_refused, GivenType, given_type, held_in}
+use Rattle.typing.specs.Typing.Standing.{node_given}
 
 pub record Gave (t : Ty) (n : Node) (lent now : List ℕ) (g : Typed) : Type 0 where
   pub type : Ty
@@ -67,6 +72,21 @@ module _ {t : Ty} {n : Node} {lent now : List ℕ} {g : Typed} (a : Gave t n len
 
   pub given_held : types.Holds (take g.size now) a.type
   given_held = record { bytes = held.bytes; small = a.small }
+
+-- The same by the laws of places: all of the view's bytes are one, and all of the front's.
+module _ (v : TypeView) (part : NodeFront) {lent now : List ℕ} {g : Typed} (room : length lent ≡ 255)
+    (answered : NodeTyped (tree v) (node part) lent now (Ok g)) where
+  abbrev due : TypingDue v.bytes.now (all_of v.bytes.now) part.bytes.now 0
+  due = record { type = tree v; node = node part; type_in = view_in v; node_at = node_at part }
+
+  pub type_given_there : GivenType due now (0 + g.end) g.size
+  type_given_there = given_type (node_given v part due.type_in due.node_at room answered) due
+
+  pub given_there : types.Holds (take g.size now) type_given_there.type
+  given_there =
+      let here = held_in {lies = record { start = 0; end = g.size }} type_given_there.holds refl in
+      let wide : g.size ≡ size type_given_there.type = omega (arith, here.ends) in
+      record { bytes = ap (λ k. take k now) wide ∙ bytes_at here.stands; small = type_given_there.small }
 
 -- What is told of a node that gives the same and ends at `end`, as a chain gives what its second part does.
 

@@ -20,10 +20,8 @@ use Rattle.patch_reading.specs.Fronts.{node, first_node, second_node}
 use Rattle.patch_reading.proofs.NodeParts.{made_of}
 use Rattle.typing.specs.declared.Typed.{Typed}
 use Rattle.typing.specs.Typing.{typed_at, NodeTyped}
-use Rattle.typing.specs.Typing.Laws.{answers_refused, requires_fails, requires_holds}
-use Rattle.typing.proofs.Giving.{small_given}
+use Rattle.typing.specs.Typing.Laws.{answers_refused, answers_small, requires_fails, requires_holds}
 use Rattle.typing.proofs.Given.{Gave, Refused, given_held, fork_ends}
-use Rattle.typing.proofs.TypingLeaf.{ended_typed}
 
 -- What the parts give, if it is the same.
 abbrev same_outputs : Ty → Ty → Node → Node → Outcome Ty
@@ -72,6 +70,5 @@ module _ (front : NodeFront) (ty : TypeView) (is : node_kind (node front) ≡ 15
             → NodeTyped (tree ty) n lent now (Ok (typed_at (1 + g.end + h.end) many))
         outputs_same {lent} agree appended =
             let written = written_on (nothing_written lent) appended in
-            let given = small_given one.type written (given_held one wide).bytes one.small in
             rw (by_parts, one.outcome, other.outcome, fork_ends front two one.ends other.ends)
-            (requires_holds OutputsDiffer (same_is ∙ ap not agree) (ended_typed given))
+            (requires_holds OutputsDiffer (same_is ∙ ap not agree) (answers_small one.type one.small written (given_held one wide).bytes))

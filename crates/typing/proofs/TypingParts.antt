@@ -2,7 +2,7 @@
 use Rattle.std.specs.Prelude.{◌⊎◌, ◌≡◌, List, [], ◌∷◌, ◌++◌, ℕ, ◌+◌, length, Option, Some, None, Err}
 use Rattle.std.specs.Option.{is_some}
 use Rattle.std.specs.Prelude.{false}
-use Rattle.std.proofs.Common.{⊎_elim, sym, ap, ◌∙◌}
+use Rattle.std.proofs.Common.{refl, ⊎_elim, sym, ap, ◌∙◌}
 use Rattle.stream.specs.declared.Fault.{Fault}
 use Rattle.stream.specs.declared.Fault.TheVariants.{WrongShape}
 use Rattle.stream.specs.Types.{Ty, first_part, second_part, has_kind}
@@ -22,10 +22,9 @@ use Rattle.patch_reading.specs.Fronts.{node, first_node, second_node}
 use Rattle.patch_reading.proofs.NodeParts.{made_of}
 use Rattle.typing.specs.declared.Typed.{Typed}
 use Rattle.typing.specs.Typing.{limited_size, ended, PartsTyped, parts_typing, fork}
-use Rattle.typing.specs.Typing.Laws.{answers_refused}
-use Rattle.typing.proofs.Giving.{type_given}
+use Rattle.typing.specs.Typing.Laws.{answers_refused, answers_written}
+use Rattle.typing.specs.Typing.Standing.{limited_ended}
 use Rattle.typing.proofs.Given.{Gave, Refused, fork_ends}
-use Rattle.typing.proofs.TypingLeaf.{ended_typed}
 
 fork_bytes : {k : ℕ} (t r : Ty) → (k ≡ 3) ⊎ (k ≡ 4) → (k ∷ type_bytes t []) ++ type_bytes r [] ≡ type_bytes (fork k t r) []
 unfolding type_bytes
@@ -55,12 +54,12 @@ module _ (front : NodeFront) (two : node_arity (node_kind (node front)) ≡ 2) {
 
     pub both_given : {h : Typed} → (k ≡ 3) ⊎ (k ≡ 4) → Gave t (second_node n) (part rest (back start now y)) z h
         → PartsTyped k s t n lent (back rest (back start now y) z) (ended (1 + g.end + h.end) (limited_size (before + g.size + h.size)))
-    both_given forks other =
+    both_given {h = h} forks other =
         let kind = written_on (nothing_written lent) kind_written in
         let so_far = written-part kind starts one.writes (one.sized ∙ sym (type_width one.type)) in
         let written = written-part so_far rests other.writes (other.sized ∙ sym (type_width other.type)) in
-        rw (one.outcome, other.outcome, fork_ends front two one.ends other.ends)
-        (ended_typed (type_given (fork k one.type other.type) written (fork_bytes one.type other.type forks)))
+        rw (one.outcome, other.outcome, fork_ends front two one.ends other.ends, limited_ended (1 + g.end + h.end) (before + g.size + h.size) refl)
+        (answers_written (fork k one.type other.type) written (fork_bytes one.type other.type forks))
 
 -- A byte of the kind tells what the rules say.
 module _ (n : Node) {byte : ℕ} (of_node : byte ≡ node_kind n) (s : Ty) where

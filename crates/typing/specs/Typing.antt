@@ -14,6 +14,7 @@ use Rattle.patch_reading.specs.PatchReads.{node_width, NodeAt}
 use Rattle.patch_reading.specs.Fronts.{first_node, second_node}
 use Rattle.typing.specs.declared.Typed.{Typed}
 pub mod Laws
+pub mod Standing
 
 -- A node that ends at `end` gives a type of `size` nodes.
 abbrev pub typed_at : (end size : ℕ) → Typed

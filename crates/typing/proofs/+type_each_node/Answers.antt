@@ -9,7 +9,7 @@ use Rattle.patch_reading.specs.PatchReads.{node_width}
 use Rattle.patch_reading.specs.Fronts.{node}
 use Rattle.patch_reading.proofs.NodeParts.{fork_width}
 use Rattle.typing.specs.Typing.Laws.{requires_fails}
-use Rattle.typing.proofs.Given.{gave, was_refused, size_inside, given_held, first_inside, second_inside}
+use Rattle.typing.proofs.Given.{gave, was_refused, size_inside, given_there, first_inside, second_inside}
 use Rattle.typing.proofs.TypingParts.{first_failed, second_failed, both_given, both_is, then_is, no_parts}
 use Rattle.typing.proofs.TypingChain.{two as chain_two, chain_refused, second_refused as chain_second_refused, chain_given}
 use Rattle.typing.proofs.TypingChoose.{two as choose_two, choose_shapeless, first_refused, second_refused, outputs_differ, outputs_same}
@@ -43,8 +43,7 @@ type_node-returns-in_err-first-in-10 t c =
 
 pub type_node-invariant_of-given : goal.type_node-invariant_of-given
 type_node-invariant_of-given t c =
-    let one = gave c.first.result c.first.ensures c.in_ok-first-in-10.ensures in
-    let held = given_held one refl in
+    let held = given_there c.args.ty c.first.result refl c.in_ok-first-in-10.ensures in
     record { whole = is_whole held; small = is_small held }
 
 pub type_node-slice_bounds-middle-end : goal.type_node-slice_bounds-middle-end
