@@ -22,15 +22,15 @@ onto : (t : Ty) (r s : List ℕ) → type_bytes t r ++ s ≡ type_bytes t (r ++ 
 onto t r s = rw (type_before t r, type_before t (r ++ s)) (append_assoc (type_bytes t []) r s)
 
 module _ (s t r : Ty) where
-  right_bytes : regrouped_right 3 3 (type_bytes s []) (type_bytes t []) (type_bytes r []) ≡ type_bytes (seq s (seq t r)) []
+  pub right_bytes : regrouped_right 3 3 (type_bytes s []) (type_bytes t []) (type_bytes r []) ≡ type_bytes (seq s (seq t r)) []
   unfolding type_bytes
   right_bytes = simp onto
 
-  left_bytes : regrouped_left 3 3 (type_bytes s []) (type_bytes t []) (type_bytes r []) ≡ type_bytes (seq (seq s t) r) []
+  pub left_bytes : regrouped_left 3 3 (type_bytes s []) (type_bytes t []) (type_bytes r []) ≡ type_bytes (seq (seq s t) r) []
   unfolding type_bytes
   left_bytes = simp onto
 
-  spread_bytes : spread_out 4 3 (type_bytes s []) (type_bytes t []) (type_bytes r []) ≡ type_bytes (par (seq s t) (seq s r)) []
+  pub spread_bytes : spread_out 4 3 (type_bytes s []) (type_bytes t []) (type_bytes r []) ≡ type_bytes (par (seq s t) (seq s r)) []
   unfolding type_bytes
   spread_bytes = simp onto
 

@@ -1,6 +1,7 @@
 -- The second pass at a node without parts, by what is given on its type.
-use Rattle.std.specs.Prelude.{◌≡◌, refl, List, [], ◌∷◌, ℕ, ◌+◌, length, get_or, Ok, Result}
-use Rattle.std.proofs.Common.{inl, inr, sym, subst, ap, ◌∙◌, arith}
+use Rattle.std.specs.Prelude.{◌≡◌, refl, Bool, true, false, List, [], ◌∷◌, ℕ, ◌+◌, ◌≤◌, ◌<◌, leb, length, get_or, Ok, Result}
+use Rattle.std.proofs.Common.{inl, inr, sym, subst, ap, ◌∙◌, arith, leb-true}
+use Rattle.std.proofs.lemmas.Bool.{leb-false}
 use Rattle.stream.specs.declared.Fault.{Fault}
 use Rattle.stream.specs.Types.{Ty, size}
 use Rattle.stream.proofs.Types.Laws.{limit_is}
@@ -10,7 +11,7 @@ use Rattle.stream.specs.Reading.{Result as Outcome, accepted, refused}
 use Rattle.reading.specs.declared.types.TypeView.{TypeView}
 use Rattle.reading.specs.Views.{tree}
 use Rattle.node.specs.Nodes.{Node, pass}
-use Rattle.node.specs.Nodes.Kinds.{node_kind, node_arity, bare, a_type, node_contents}
+use Rattle.node.specs.Nodes.Kinds.{node_kind, node_arity, kind_is_listed, bare, a_type, node_contents}
 use Rattle.node.specs.Checking.{gives, typing}
 use Rattle.writing.specs.Appending.{Appends}
 use Rattle.writing.specs.Appending.Laws.{nothing_written, written_on}
@@ -19,6 +20,7 @@ use Rattle.patch_reading.specs.declared.fronts.NodeFront.{NodeFront}
 use Rattle.patch_reading.specs.Fronts.{node, carried_type}
 use Rattle.patch_reading.proofs.NodeParts.{nodes_by_kind, made_of, alone_width, carried_width}
 use Rattle.typing.specs.Typing.{typed, sized, ended, Answers, TypeGiven, NodeTyped, Marks}
+use Rattle.typing.specs.Typing.Laws.{marks_between}
 use Rattle.typing.proofs.Giving.{small_given}
 
 ended_sized : (end : ℕ) (outcome : Outcome Ty) → ended end (sized outcome) ≡ typed end outcome
@@ -61,3 +63,34 @@ kind_given t alone {lent} appended =
 pub other_mark : {k : ℕ} → Marks k → (k ≡ 16 → ⊥) → k ≡ 17
 other_mark (inl e) other = absurd (other e)
 other_mark (inr e) other = e
+
+-- No kind below those that mark a choice is left when all others but those with parts have been tried.
+
+abbrev pub Outside : List ℕ → ℕ → Type 0
+Outside [] k = Unit
+Outside (j ∷ js) k = Outside js k × (k ≡ j → ⊥)
+
+abbrev pub tried : List ℕ
+tried = 14 ∷ 13 ∷ 12 ∷ 11 ∷ 8 ∷ 7 ∷ 6 ∷ 5 ∷ 3 ∷ 2 ∷ 1 ∷ 0 ∷ []
+
+above : {j k : ℕ} → j ≤ k → (k ≡ j → ⊥) → j + 1 ≤ k
+above h other = omega arith
+
+pub none_left : (k : ℕ) → k < 16 → node_arity k ≡ 0 → Outside tried k → ⊥
+none_left k below leaf ((((((((((((none, passed), silent), cue), level), left), right), first), second), regroup_right), regroup_left), spread), front) =
+    let low : 4 ≤ k = above (above (above (above (omega arith) passed) silent) cue) level in
+    let middle : 9 ≤ k = above (above (above (above (parted 4 refl low) left) right) first) second in
+    let high : 11 ≤ k = parted 10 refl (parted 9 refl middle) in
+    let last : 16 ≤ k = parted 15 refl (above (above (above (above high regroup_right) regroup_left) spread) front) in
+    omega arith
+  where
+    parted : (j : ℕ) → node_arity j ≡ 2 → j ≤ k → j + 1 ≤ k
+    parted j two h = above h (λ e. omega (arith, ap node_arity e))
+
+-- So a node of another kind marks one.
+pub marks_left : (n : Node) → node_arity (node_kind n) ≡ 0 → Outside tried (node_kind n) → Marks (node_kind n)
+marks_left n leaf other = go (leb 16 (node_kind n)) refl
+  where
+    go : (b : Bool) → leb 16 (node_kind n) ≡ b → Marks (node_kind n)
+    go true e = marks_between (node_kind n) (leb-true 16 (node_kind n) e) (omega (arith, kind_is_listed n))
+    go false e = absurd (none_left (node_kind n) (leb-false 16 (node_kind n) e) leaf other)

@@ -1,12 +1,12 @@
 -- `type_leaf` meets its contract: each kind without parts gives what the function for it writes (`TypingLeaf`).
-use Rattle.std.proofs.Common.{refl, sym, ap, ◌∙◌, arith}
+use Rattle.std.proofs.Common.{rules, refl, sym, ap, ◌∙◌, arith}
 use Rattle.stream.specs.Types.{cue, level, size}
 use Rattle.stream.specs.TypeFiles.{type_bytes}
 use Rattle.stream.proofs.Types.Laws.{limit_is}
 use Rattle.node.specs.Checking.{typing}
 use Rattle.patch_reading.specs.Fronts.{node}
 use Rattle.patch_reading.proofs.NodeParts.{value_node_width}
-use Rattle.typing.proofs.TypingLeaf.{leaf_typed, alone_typed, carried_typed, kind_given}
+use Rattle.typing.proofs.TypingLeaf.{leaf_typed, alone_typed, carried_typed, kind_given, marks_left}
 use Rattle.typing.proofs.type_leaf.Goals as goal
 
 pub overflow_add-size : goal.overflow_add-size
@@ -67,3 +67,6 @@ returns-in-13 c = rw c.ending-in-13.ensures (alone_typed c.args.ty c.args.front 
 pub returns-in-14 : goal.returns-in-14
 unfolding typing
 returns-in-14 c = rw c.ending-in-14.ensures (alone_typed c.args.ty c.args.front c.kind.ensures c.in-14.is c.give_front.ensures refl refl)
+
+pub give_marked-requires : goal.give_marked-requires
+give_marked-requires c = marks_left (node c.args.front) c.requires (search rules)
