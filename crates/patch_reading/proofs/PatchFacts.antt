@@ -1,5 +1,5 @@
 -- What a view of a patch says of the patch, and of the file that it was read from.
-use Rattle.std.specs.Prelude.{◌≡◌, List, [], ℕ, length}
+use Rattle.std.specs.Prelude.{Ok, ◌≡◌, refl, List, [], ℕ, length}
 use Rattle.std.proofs.Common.{sym, ap, arith}
 use Rattle.stream.specs.Reading.{Bytes, accepted}
 use Rattle.node.specs.Totals.{Held, totals_bytes}
@@ -8,7 +8,7 @@ use Rattle.node.specs.Nodes.{Few}
 use Rattle.node.specs.PatchFiles.{node_bytes, first_pass}
 use Rattle.patch_reading.specs.declared.patches.PatchView.{PatchView}
 use Rattle.patch_reading.specs.PatchReads.{in_patch_file, node_width, AcceptedPatch}
-use Rattle.patch_reading.specs.PatchReads.Standing.{stands}
+use Rattle.patch_reading.specs.PatchReads.Standing.{view_accepted}
 use Rattle.patch_reading.specs.PatchViews.{patch}
 
 module _ (v : PatchView) where
@@ -32,4 +32,4 @@ module _ (v : PatchView) where
 
   -- Where the parts stand in the file, and how long it is.
   pub in_file : {file : List ℕ} → Bytes file → accepted (patch v) ≡ first_pass file → AcceptedPatch file (in_patch_file (patch v))
-  in_file bytes told = stands _ (patch v) bytes (sym told)
+  in_file bytes told = view_accepted _ {answer = Ok v} told bytes v refl

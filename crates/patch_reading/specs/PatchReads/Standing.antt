@@ -14,6 +14,8 @@ use Rattle.node.specs.Totals.{totals_bytes}
 use Rattle.node.specs.Nodes.{Patch}
 use Rattle.node.specs.PatchFiles.{node_bytes, patch_file_bytes, first_pass}
 use Rattle.node.proofs.PatchFiles.Laws.{patch_file-size, first_pass_sound}
+use Rattle.patch_reading.specs.declared.patches.PatchView.{PatchView}
+use Rattle.patch_reading.specs.PatchViews.{patch, patch_seen}
 use Rattle.patch_reading.specs.PatchReads.{PatchPlace, in_patch_file, patch_read, node_width, AcceptedPatch}
 use Rattle.patch_reading.specs.PatchReads.Laws.{node_before, node_drop}
 
@@ -85,3 +87,21 @@ module _ (file : List ℕ) {answer : Result PatchPlace Fault} (told : answer ≡
       go : (g : Outcome Patch) → patch_read g ≡ Err e → g ≡ refused e
       go (accepted p) w = let z : ◌≡◌ {A = ℕ} 0 1 = cc in absurd (omega arith)
       go (refused x) w = let z : x ≡ e = cc in ap refused z
+
+-- The reader hands on a view: the place that the patch of a view has in the file that it was read from.
+abbrev pub place_seen : Result PatchView Fault → Result PatchPlace Fault
+place_seen (Ok v) = Ok (in_patch_file (patch v))
+place_seen (Err e) = Err e
+
+pub seen_at_place : (file : List ℕ) (answer : Result PatchView Fault) → patch_seen answer ≡ first_pass file
+    → place_seen answer ≡ patch_read (first_pass file)
+unfolding patch_read
+seen_at_place file (Ok v) told = ap patch_read told
+seen_at_place file (Err e) told = ap patch_read told
+
+module _ (file : List ℕ) {answer : Result PatchView Fault} (told : patch_seen answer ≡ first_pass file) where
+  pub view_accepted : Bytes file → (v : PatchView) → answer ≡ Ok v → AcceptedPatch file (in_patch_file (patch v))
+  view_accepted bytes v e = patch_accepted file (seen_at_place file answer told) bytes (in_patch_file (patch v)) (ap place_seen e)
+
+  pub view_refused : (e : Fault) → answer ≡ Err e → first_pass file ≡ refused e
+  view_refused e h = patch_refused file (seen_at_place file answer told) e (ap place_seen h)
