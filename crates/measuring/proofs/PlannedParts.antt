@@ -153,7 +153,7 @@ module _ {t : Ty} {lent : List ℕ} (written : ℕ) (forks : Forks t lent) where
     pub middle : 1 + first.end ≡ 1 + size (first_part t)
     middle = omega (arith, first_done.ends)
 
-    first_begun : Begun (written ∷ plan (first_part t) []) lent (back 1 (set lent 0 written) once) (1 + first.end)
+    pub first_begun : Begun (written ∷ plan (first_part t) []) lent (back 1 (set lent 0 written) once) (1 + first.end)
     first_begun = goes_on begun (plan (first_part t) []) first_done.plans.buffer (omega (arith, first_done.ends, plan_length (first_part t) []))
 
     pub behind_within : 1 + first.end ≤ length (back 1 (set lent 0 written) once)
@@ -167,10 +167,10 @@ module _ {t : Ty} {lent : List ℕ} (written : ℕ) (forks : Forks t lent) where
       abbrev now : List ℕ
       now = back (1 + first.end) (back 1 (set lent 0 written) once) twice
 
-      both_begun : now ≡ at_front (written ∷ plan (first_part t) [] ++ plan (second_part t) []) lent
+      pub both_begun : now ≡ at_front (written ∷ plan (first_part t) [] ++ plan (second_part t) []) lent
       both_begun = (goes_on first_begun (plan (second_part t) []) second_done.plans.buffer refl).buffer
 
-      both_kept : length now ≡ length lent
+      pub both_kept : length now ≡ length lent
       both_kept =
           ap length both_begun
           ∙ front_length (written ∷ plan (first_part t) [] ++ plan (second_part t) []) lent

@@ -15,7 +15,7 @@ use Rattle.writing.specs.Writing.{SilenceDue}
 abbrev pub silence : ℕ → ℕ
 silence k = k / 4 * 7
 
-silent_bytes : {t : Ty} → Nullable t → (r : List ℕ) → map silence (type_bytes t r) ≡ prefix_bytes (empty_prefix t) (map silence r)
+pub silent_bytes : {t : Ty} → Nullable t → (r : List ℕ) → map silence (type_bytes t r) ≡ prefix_bytes (empty_prefix t) (map silence r)
 unfolding type_bytes prefix_bytes empty_prefix
 silent_bytes null_empty r = refl
 silent_bytes (null_par {s} {t} h k) r =

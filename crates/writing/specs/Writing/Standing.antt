@@ -16,7 +16,10 @@ use Rattle.stream.specs.TypeFiles.{type_bytes, type_file_bytes, type_file}
 use Rattle.stream.proofs.TypeFiles.Laws.{type_length, type_file_sound}
 use Rattle.stream.specs.SliceFiles.{prefix_bytes, slice_file_bytes, slice_file}
 use Rattle.stream.proofs.SliceFiles.Laws.{prefix_short, slice_length, slice_file_sound}
-use Rattle.reading.specs.TypeReads.{type_read, TypeAt, AcceptedType}
+use Rattle.reading.specs.declared.types.TypeView.{TypeView}
+use Rattle.reading.specs.Views.{tree}
+use Rattle.reading.specs.Reads.{whole_seen}
+use Rattle.reading.specs.TypeReads.{in_file, type_read, TypeAt, AcceptedType}
 use Rattle.stream.proofs.TypeFiles.Held.{Holds as OnlyType}
 use Rattle.reading.specs.TypeReads.Laws.{type_before, type_width, bytes_at, same_type}
 use Rattle.reading.specs.SliceReads.{prefix_width, known, slice_read, ReadsSlice, AcceptedSlice}
@@ -57,6 +60,29 @@ module _ (file : List ℕ) {answer : Result TypePlace Fault} (told : answer ≡ 
       go : (g : Outcome Ty) → type_read g ≡ Err e → g ≡ refused e
       go (accepted t) w = let z : ◌≡◌ {A = ℕ} 0 1 = cc in absurd (omega arith)
       go (refused x) w = let z : x ≡ e = cc in ap refused z
+
+-- Both hold what the reader of type files answers, once its view's place is told in the view's stead.
+
+abbrev pub as_place : Result TypeView Fault → Result TypePlace Fault
+as_place (Ok v) = Ok (in_file (tree v))
+as_place (Err e) = Err e
+
+pub read_at_places : (file : List ℕ) (answer : Result TypeView Fault) → whole_seen answer ≡ type_file file → as_place answer ≡ type_read (type_file file)
+unfolding type_read
+read_at_places file (Ok v) told = ap type_read told
+read_at_places file (Err e) told = ap type_read told
+
+-- So the type that it accepts, the view's tree, stands in the file behind the count, and the fault that it tells is the file's.
+module _ (file : List ℕ) {answer : Result TypeView Fault} (told : whole_seen answer ≡ type_file file) where
+  pub view_accepted : Bytes file → (v : TypeView) → answer ≡ Ok v → (a : AcceptedType file 2) × (a.type ≡ tree v)
+  view_accepted bytes v e =
+      let a : AcceptedType file 2 = type_accepted file (read_at_places file answer told) bytes (in_file (tree v)) (ap as_place e) in
+      let z : accepted a.type ≡ accepted (tree v) = sym a.is_accepted ∙ sym told ∙ ap whole_seen e in
+      let same : a.type ≡ tree v = cc in
+      (a, same)
+
+  pub view_refused : (e : Fault) → answer ≡ Err e → type_file file ≡ refused e
+  view_refused e h = type_refused file (read_at_places file answer told) e (ap as_place h)
 
 -- How long the files are that Left and Join write.
 
