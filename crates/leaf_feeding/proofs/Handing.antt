@@ -21,6 +21,7 @@ use Rattle.patch_reading.specs.PatchReads.{node_width}
 use Rattle.patch_reading.proofs.NodeFronts.{bytes_are}
 use Rattle.leaf_feeding.specs.Steps.{Leads, Answers, fed, failed, Rooms, LeafRooms, HandsOn}
 use Rattle.leaf_feeding.specs.Steps.Laws.{front_leads, byte_leads}
+use Rattle.leaf_feeding.proofs.Placed.{view_copied, slice_copied}
 
 -- The bytes of a node, copied as they stand, lead.
 pub node_leads : (v : NodeFront) {end : ℕ} {lent now : List ℕ} → end ≡ node_width (node v) → end ≤ length lent
@@ -32,7 +33,7 @@ node_leads v {end} {lent} ends room copied =
 module _ (v : TypeView) where
   -- So do those of a type.
   pub type_leads : {lent now : List ℕ} → size (tree v) ≤ length lent → now ≡ at_front v.bytes.now lent → Leads (type_bytes (tree v) []) lent now
-  type_leads {lent} room copied = rw v.whole (front_leads v.bytes.now lent copied (omega (arith, size_is v)))
+  type_leads room copied = view_copied v room copied
 
   module _ {o : Prefix} {n : Node} {out remainder given out_after given_after : List ℕ} where
     pub no_room : {end : ℕ} {remainder_after : List ℕ} → length given < size (tree v)
@@ -66,5 +67,5 @@ pub handed_on : {out remainder given out_after given_after : List ℕ} {k : ℕ}
     → HandsOn k (type i) (prefix i) out remainder given out_after (set remainder 0 k) given_after
     (Some (record { end = 1; sent = length i.slice.now; kept = 1; size = length i.ty.bytes.now }))
 handed_on {out} i rooms room copied sent n one =
-    given_whole i.ty (size_is i.ty) room copied (rw i.whole (front_leads i.slice.now out sent (slice_fits i rooms.rooms room))) (omega (arith, (prefix_in i).ends)) one
+    given_whole i.ty (size_is i.ty) room copied (slice_copied i (slice_fits i rooms.rooms room) sent) (omega (arith, (prefix_in i).ends)) one
     (omega (arith, rooms.left_room))

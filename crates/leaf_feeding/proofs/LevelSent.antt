@@ -33,10 +33,11 @@ unfolding size
 level_typed carries = record { types = takes_level carries; fits = omega (arith, limit_is) }
 
 module _ (v : NodeFront) (is_level : node_kind (node v) ≡ 3) {out remainder given : List ℕ} (room : LeafRooms out remainder given) (type_room : 0 < length given) where
-  abbrev value : ℕ
+  -- The value that it carries.
+  abbrev pub value : ℕ
   value = carried_value (node v)
 
-  made : node v ≡ emit_level value
+  pub made : node v ≡ emit_level value
   made = made_of (node v) is_level
 
   carries : Carries (emit_level value)
