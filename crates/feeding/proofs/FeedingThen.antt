@@ -23,6 +23,16 @@ use Rattle.feeding.specs.declared.Pair.TheVariants.{Crossed}
 use Rattle.feeding.specs.Feeds.{PairTyped, PairAnswers}
 use Rattle.feeding.proofs.Typings.{then_parts, then_whole}
 
+-- What both nodes send at the crossing, and what is left.
+module _ {s t r : Ty} {n l m : Node} {p b q : Prefix} (node : n ≡ then l m) (type : s ≡ seq t r) (prefix : p ≡ crossed b q) where
+  pub crossed_sends : crossed (sends t l b) (sends r m q) ≡ sends s n p
+  unfolding sends
+  crossed_sends = rw (node, type, prefix) refl
+
+  pub crossed_leaves : leaves r m q ≡ leaves s n p
+  unfolding leaves
+  crossed_leaves = rw (node, type, prefix) refl
+
 module _ (n : Node) (nine : node_kind n ≡ 9) where
   abbrev made : n ≡ then (first_node n) (second_node n)
   made = made_of n nine
@@ -39,9 +49,8 @@ module _ (n : Node) (nine : node_kind n ≡ 9) where
   pub crossed_answers : {s r : Ty} (p q : Prefix) {out remainder given out_after remainder_after given_after : List ℕ} {answer : Option Step}
       → Rooms out given → PairAnswers Crossed n s r p q out remainder given out_after remainder_after given_after answer
       → NodeAnswers (node_width n) (seq s r) n (crossed p q) out remainder given out_after remainder_after given_after answer
-  unfolding sends leaves
   crossed_answers {s} {r} p q rooms answers =
-      answers_as (rw (ap (λ k. sends (seq s r) k (crossed p q)) made)) (rw (ap (λ k. leaves (seq s r) k (crossed p q)) made))
+      answers_as (crossed_sends {t = s} {r = r} {b = p} {q = q} made refl refl) (crossed_leaves {t = s} {r = r} {b = p} {q = q} made refl refl)
       (λ t typed room. whole_typed typed (omega (arith, room, rooms.for_type)))
       (λ t typed. parts_typed typed) answers
 

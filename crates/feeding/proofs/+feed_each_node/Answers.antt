@@ -15,7 +15,7 @@ use Rattle.patch_reading.proofs.NodeParts.{made_of, fork_width, value_node_width
 use Rattle.patch_reading.proofs.NodeFronts.{inside}
 use Rattle.feeding.proofs.Below.{first_fewer, second_fewer}
 use Rattle.feeding.proofs.Typings.{has_told}
-use Rattle.feeding.proofs.FeedingLeaf.{leaf_rooms, leaf_fed}
+use Rattle.feeding.proofs.FeedingLeaf.{leaf_rooms, leaf_fed, other_fed, above_listed}
 use Rattle.feeding.proofs.FeedingBoth.{both_answers}
 use Rattle.feeding.proofs.FeedingParts.{none_left, some_left}
 use Rattle.feeding.proofs.FeedingParts as FeedingParts
@@ -115,6 +115,9 @@ pub feed_node-returns-in-3 : goal.feed_node-returns-in-3
 feed_node-returns-in-3 t c =
     rw (value_node_width (node c.args.front) (sym c.kind.ensures ∙ c.in-3.is))
     (c.feed_level.ensures (type c.args.input) (prefix c.args.input) c.args.input.whole)
+
+pub feed_node-returns-in-18-to-255 : goal.feed_node-returns-in-18-to-255
+feed_node-returns-in-18-to-255 t c = other_fed {n = node c.args.front} (above_listed 18 (omega (arith, c.kind.ensures))) (prefix c.args.input)
 
 -- feed_both hands the input to both its nodes.
 
