@@ -1,22 +1,25 @@
 -- Totals as they stand in a patch file, and the counts added to them.
-use mathlib.Core.Path.{◌≡◌, refl, sym, ap, ◌∙◌}
+use mathlib.Core.Path.{◌≡◌, refl, sym, ap, ◌∙◌, subst}
 use mathlib.Core.Bool.{Bool, true, false}
 use mathlib.Core.List.{List, [], ◌++◌, append-nil}
-use Prim.Native.Nat.{ℕ, ◌+◌, ◌/◌, ◌%◌, ◌≤◌, ◌<◌}
+use Prim.Native.Nat.{ℕ, ◌+◌, ◌-◌, ◌/◌, ◌%◌, ◌≤◌, ◌<◌}
 use native.Mathlib.Omega.{arith, by_contra}
 use native.Mathlib.Nat.{add-zero}
-use lib.ListN.{length, get_or, drop, drop_of_length-le}
+use lib.ListN.{length, get_or, take, drop, drop_of_length-le}
 use lib.Seq.{get_or-drop}
+use Rattle.std.proofs.Common.{length-drop}
 use Rattle.std.specs.Prelude.{Option, Some, None, Result, Ok, Err, SomeIff, ok_or, cond, ◌^◌}
-use Rattle.stream.specs.Reading.{number_bytes}
+use Rattle.stream.specs.Reading.{Bytes, found, number_bytes}
+use Rattle.stream.proofs.Reading.Laws.{bytes_drop}
 use Rattle.stream.proofs.Reading.Numbers.{number_behind, number_append, number_length}
 use Rattle.stream.specs.Buffers.{at_front}
 use Rattle.stream.specs.declared.Fault.{Fault}
 use Rattle.stream.specs.declared.Fault.TheVariants.{TotalTooLarge}
+use Rattle.reading.proofs.TypeFronts.{from_on}
 use Rattle.writing.specs.Writing.{Begun}
 use Rattle.writing.specs.Writing.Laws.{part, back, goes_on}
-use Rattle.node.specs.Totals.{Totals, Held, held, total_limit, total_width, totals_bytes}
-use Rattle.node.proofs.Totals.Laws.{held_test, totals_length}
+use Rattle.node.specs.Totals.{Totals, Held, held, total_limit, total_width, totals_bytes, read_totals}
+use Rattle.node.proofs.Totals.Laws.{held_test, totals_length, totals_there, read_totals_sound}
 use Rattle.patch_reading.specs.Found.{AreTotals, totals_of}
 use Rattle.wosthile.specs.TotalsLeft.{total_in, counted, adds, Sums}
 
@@ -48,6 +51,32 @@ module _ {s : List ℕ} (are : AreTotals s) where
   unfolding totals_bytes
   went_stands =
       total_stands s 4 c.sent [] (ap (drop 4) (sym are.0) ∙ number_behind total_width c.arrived (number_bytes total_width c.sent [])) within.sent
+
+-- Any eight bytes are totals; so are the last eight of a patch.
+
+eight_are : (s : List ℕ) → Bytes s → length s ≡ 8 → AreTotals s
+unfolding totals_of
+eight_are s b long =
+    let there = totals_there s (omega (arith, long)) in
+    let f = read_totals_sound s there.0 (drop 8 s) b there.1 in
+    let none : drop 8 s ≡ [] = drop_of_length-le s {i = 8} (omega (arith, long)) in
+    let is : found (record { arrived = 0; sent = 0 }) (read_totals s) ≡ there.0 = ap (found _) there.1 in
+    (rw is (rw none at f.bytes), rw is ((held_test there.0).1 f.within))
+
+pub last_are : (s : List ℕ) → Bytes s → 8 ≤ length s → AreTotals (drop (length s - 8) s)
+last_are s b least =
+    eight_are (drop (length s - 8) s) (bytes_drop (length s - 8) s b) (omega (arith, length-drop (length s - 8) s))
+
+-- These are read in the part of the patch that they are.
+pub in_last : (s : List ℕ) (at : ℕ) → total_in (take (length s - (length s - 8)) (drop (length s - 8) s)) at ≡ total_in (drop (length s - 8) s) at
+in_last s at = ap (λ l. total_in l at) (from_on (length s - 8) s)
+
+-- Of totals alone they are all.
+pub of_all : {s : List ℕ} → AreTotals s → (arrived sent : ℕ) {written : List ℕ} {answer : Result (Unit {0}) Fault}
+    → Sums (counted (totals_of (drop (length s - 8) s)) arrived sent) written answer → Sums (counted (totals_of s) arrived sent) written answer
+of_all {s} are arrived sent {written} {answer} sums =
+    let all : drop (length s - 8) s ≡ s = ap (λ n. drop (n - 8) s) (totals_eight are) in
+    subst (λ l. Sums (counted (totals_of l) arrived sent) written answer) all sums
 
 not_held : (c : Totals) → (Held c → ⊥) → held c ≡ false
 not_held c passed = go (held c) refl

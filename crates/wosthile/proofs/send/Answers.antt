@@ -8,6 +8,7 @@ use Rattle.stream.proofs.SliceFiles.Held.{is_whole as slice_whole, is_fit, has_p
 use Rattle.stream.specs.Prefixes.{arrivals}
 use Rattle.stream.specs.Reading.{refused}
 use Rattle.wosthile.proofs.FeedOutcome.{refusal_delivers, step_rooms, step_failed, Done, done, output, both_due, both_told, passed_told}
+use Rattle.wosthile.proofs.TotalsAdded.{totals_eight, of_all}
 use Rattle.wosthile.proofs.send.Goals.{In-Some, After-arrivals-went}
 use Rattle.wosthile.proofs.send.Goals as goal
 
@@ -51,11 +52,15 @@ slice_bounds-write_both-end c = (is_done (goal.at.slice_bounds-write_both-end c)
 pub slice_bounds-write_both-end-2 : goal.slice_bounds-write_both-end-2
 slice_bounds-write_both-end-2 c = sym (length-take-le _ _ (is_done (goal.at.slice_bounds-write_both-end-2 c).In-Some).nodes_inside)
 
+-- Of the totals the last eight bytes are all.
+pub add_counts-requires-clause-has_totals : goal.add_counts-requires-clause-has_totals
+add_counts-requires-clause-has_totals c = omega (arith, totals_eight c.args.read.patch.are_totals)
+
 pub write_both-requires : goal.write_both-requires
 write_both-requires c =
     let at = goal.at.write_both-requires c in
     let made = is_done at.In-Some in
-    both_due c.args.read made (went_is at.After-arrivals-went made) c.add_counts.ensures c.in_ok-add_counts.was
+    both_due c.args.read made (went_is at.After-arrivals-went made) (of_all c.args.read.patch.are_totals _ _ c.add_counts.ensures) c.in_ok-add_counts.was
 
 pub returns-in_default : goal.returns-in_default
 returns-in_default c =
@@ -65,11 +70,11 @@ pub returns-in_err-add_counts : goal.returns-in_err-add_counts
 returns-in_err-add_counts c =
     let at = goal.at.returns-in_err-add_counts c in
     let made = is_done at.In-Some in
-    passed_told c.args.read made (went_is at.After-arrivals-went made) c.add_counts.ensures _ _
+    passed_told c.args.read made (went_is at.After-arrivals-went made) (of_all c.args.read.patch.are_totals _ _ c.add_counts.ensures) _ _
     c.in_err-add_counts.field-0.0 (search rules) c.in_err-add_counts.was
 
 pub returns : goal.returns
 returns c =
     let at = goal.at.returns c in
     let made = is_done at.In-Some in
-    both_told c.args.read made (went_is at.After-arrivals-went made) c.add_counts.ensures c.in_ok-add_counts.was c.write_both.ensures
+    both_told c.args.read made (went_is at.After-arrivals-went made) (of_all c.args.read.patch.are_totals _ _ c.add_counts.ensures) c.in_ok-add_counts.was c.write_both.ensures
