@@ -52,12 +52,14 @@ pub fn put_count(count: usize, out: &mut [u8])
     put_number::<2>(count as u32, out);
 }
 
-// Copies all of `source`.
+// Copies all of `source`. By a loop, since the library's `copy_from_slice` is a call of memmove, which the archive would need from outside.
 pub fn copy(source: &[u8], out: &mut [u8])
     requires { length source.now ≤ length out.old }
     ensures { out.new ≡ at_front source.now out.old }
 {
-    out[..source.len()].copy_from_slice(source);
+    for next in 0..source.len() {
+        out[next] = source[next];
+    }
 }
 
 // Copies the prefix at `place`, and says how many bytes it has.
