@@ -1,5 +1,5 @@
 -- What the bytes of an input say of its prefix, and where the bytes of its parts stand in them.
-use Rattle.std.specs.Prelude.{◌≡◌, true, Some, [], ℕ, ◌+◌, ◌*◌, ◌-◌, ◌≤◌, ◌<◌, length, get_or, take, drop}
+use Rattle.std.specs.Prelude.{◌≡◌, true, [], ℕ, ◌+◌, ◌*◌, ◌-◌, ◌≤◌, ◌<◌, length, get_or, take, drop}
 use Rattle.std.proofs.Common.{sym, ap, ◌∙◌, arith, length-drop, take_all, drop-drop}
 use Rattle.stream.specs.Types.{Ty, size, first_part, second_part, Small}
 use Rattle.stream.specs.Bounds.{slice_file_limit}

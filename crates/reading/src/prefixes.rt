@@ -3,7 +3,7 @@ ghost use Rattle.std.specs.Prelude.{◌≡◌, ◌+◌, ◌≤◌, ◌<◌, leng
 ghost use Rattle.stream.specs.Types.{type_limit};
 ghost use Rattle.stream.specs.Bounds.{slice_file_limit};
 ghost use Rattle.stream.specs.Prefixes.Kinds.{prefix_arity, root_width, root_arrivals};
-ghost use Rattle.reading.specs.SliceReads.{type_kind_of, is_unfinished, kind_brings_nothing, belongs_at, first_complete, SomePrefixAt, PrefixEnds, CompleteAt, CompleteEnds, first_known, crossed_known, both_known, known_after, SumsFitIfKnown};
+ghost use Rattle.reading.specs.SliceReads.{type_kind_of, is_unfinished, kind_brings_nothing, belongs_at, first_complete, SomePrefixAt, PrefixEnds, CompleteAt, CompleteEnds, first_known, crossed_known, both_known, known_after, SumsFit, SumsFitIfKnown};
 ghost use Rattle.reading.specs.PrefixBytes.{SomePrefix, OpensBy, ArrivalsBy};
 ghost use Rattle.reading.specs.Views.{tree};
 
@@ -236,38 +236,49 @@ pub fn in_first(first: Known, second: usize) -> Known
     }
 }
 
-// Of a sequence whose first part was crossed, from that part and from what became of the second: a join leaves the first part as it is, so
-// what is known of the second is known of both; only what came in the first has come as well. A fault of the second is handed on, and asks
-// nothing of the first. Put in the place of its call, it tests no second part that is known there.
-#[inline(always)]
+// Of a sequence whose first part was crossed, from both parts: a join leaves the first part as it is, so what is known of the second
+// is known of both; only what came in the first has come as well.
 #[tactic(auto, using(stream::proofs::Types::Laws::limit_is))]
-pub fn crossed(first: Known, second: Result<Known, Fault>) -> Result<Known, Fault>
-    requires { SumsFitIfKnown first second }
-    ensures { result ≡ known_after crossed_known first second }
+pub fn crossed_known(first: Known, second: Known) -> Known
+    requires { SumsFit first second }
+    ensures { result ≡ crossed_known first second }
 {
-    let second = second?;
-    Ok(Known {
+    Known {
         complete: second.complete,
         remains: second.remains,
         arrived: first.arrived + second.arrived,
         overlap: second.overlap,
-    })
+    }
 }
 
-// Of two prefixes side by side, from the first and from what became of the second, whose fault is handed on, as by `crossed`.
-#[inline(always)]
+// Of two prefixes side by side, from both.
 #[tactic(auto, using(stream::proofs::Types::Laws::limit_is))]
-pub fn beside(first: Known, second: Result<Known, Fault>) -> Result<Known, Fault>
-    requires { SumsFitIfKnown first second }
-    ensures { result ≡ known_after both_known first second }
+pub fn both_known(first: Known, second: Known) -> Known
+    requires { SumsFit first second }
+    ensures { result ≡ both_known first second }
 {
-    let second = second?;
-    Ok(Known {
+    Known {
         complete: first.complete && second.complete,
         remains: 1 + first.remains + second.remains,
         arrived: first.arrived + second.arrived,
         overlap: 1 + first.overlap + second.overlap,
-    })
+    }
+}
+
+// `crossed_known` from what became of the second part, whose fault is handed on: of the first nothing is asked then.
+pub fn crossed(first: Known, second: Result<Known, Fault>) -> Result<Known, Fault>
+    requires { SumsFitIfKnown first second }
+    ensures { result ≡ known_after crossed_known first second }
+{
+    Ok(crossed_known(first, second?))
+}
+
+// `both_known` from what became of the second prefix, likewise.
+pub fn beside(first: Known, second: Result<Known, Fault>) -> Result<Known, Fault>
+    requires { SumsFitIfKnown first second }
+    ensures { result ≡ known_after both_known first second }
+{
+    Ok(both_known(first, second?))
 }
 
 // Whether the first part under a slice's kind has to be complete: a crossed one has, one that is still coming need not.

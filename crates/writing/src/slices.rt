@@ -13,8 +13,8 @@ ghost use Rattle.writing.specs.Leaving.{LeafLeft, WalksLeafLeaving, FirstStarts,
 use crate::appending::{append, append_kind, within};
 use reading::fronts::TypeFront;
 use reading::prefixes::{
-    Known, arrivals_of, belongs, beside, crossed, first_complete, in_first, is_unfinished,
-    prefix_arity, root_width,
+    Known, arrivals_of, belongs, both_known, crossed_known, first_complete, in_first,
+    is_unfinished, prefix_arity, root_width,
 };
 use reading::sections::count_of;
 use reading::types::TypeView;
@@ -189,14 +189,14 @@ fn walk_two<'t, 's>(
     let prefix = walk_prefix(ty.first(), &slice[1..], first, &mut left[start..])?;
     let other = ty.second_from(prefix.behind);
     if kind == 6 {
-        let second = walk_prefix(other, prefix.rest, complete, left)?;
-        let known = crossed(prefix.known, Ok(second.known))?;
-        return Ok(Walked { known, ..second });
+        let mut second = walk_prefix(other, prefix.rest, complete, left)?;
+        second.known = crossed_known(prefix.known, second.known);
+        return Ok(second);
     }
     let from = within(1 + prefix.known.remains, left.len());
-    let second = walk_prefix(other, prefix.rest, complete, &mut left[from..])?;
-    let known = beside(prefix.known, Ok(second.known))?;
-    Ok(Walked { known, ..second })
+    let mut second = walk_prefix(other, prefix.rest, complete, &mut left[from..])?;
+    second.known = both_known(prefix.known, second.known);
+    Ok(second)
 }
 
 // Whether the bytes are the file of a prefix of the type at the front; otherwise the first fault. Any bytes may be handed in.

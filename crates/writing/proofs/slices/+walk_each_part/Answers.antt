@@ -1,6 +1,6 @@
 -- `walk_prefix`, `walk_one` and `walk_two` meet their contract: the first byte says whether a prefix can begin there (`Begins`) and whether it has
 -- parts (`Parted`), and the walks through the parts say how it ends and what it leaves (`PartLeft`, and `HalfLeft` where it is no choice).
-use Rattle.std.proofs.Common.{◌≡◌, Bool, Ok, Err, refl, sym, ◌∙◌, ap, ℕ, ◌-◌, ◌≤◌, List, length, get_or, take, drop, arith, rules}
+use Rattle.std.proofs.Common.{◌≡◌, Bool, Err, refl, sym, ◌∙◌, ap, ℕ, ◌-◌, ◌≤◌, List, length, get_or, take, drop, arith, rules}
 use borrow.Author.Tests.{eqb-true}
 use Rattle.stream.specs.Types.{Ty, size, second_part}
 use Rattle.stream.specs.Reading.{Reading}
@@ -8,7 +8,7 @@ use Rattle.reading.specs.declared.prefixes.Known.{Known}
 use Rattle.reading.specs.declared.fronts.TypeFront.{TypeFront}
 use Rattle.reading.specs.Views.{tree}
 use Rattle.reading.specs.Fronts.{front_tree}
-use Rattle.reading.specs.SliceReads.{belongs_at, crossed_known, both_known, known_after}
+use Rattle.reading.specs.SliceReads.{belongs_at}
 use Rattle.reading.proofs.TypeFronts.{from_on}
 use Rattle.stream.specs.Prefixes.Kinds.{prefix_arity}
 use Rattle.writing.specs.Leaving.{Leaves, PartsDue}
@@ -253,10 +253,6 @@ walk_two-returns-in_err-prefix t c =
       behind = tt;
     })
 
--- Where the second part is known, so are both.
-known_of : (both : Known → Known → Known) (first second : Known) {known : Known} → Ok known ≡ known_after both first (Ok second) → known ≡ both first second
-known_of both first second told = cc
-
 two_kinds : (t : ℕ) (c : walk_two-In_ok-prefix t) → (6 ≤ get_or c.args.slice.now 0 0) × (get_or c.args.slice.now 0 0 ≤ 7)
 two_kinds t c = two_parts (get_or c.args.slice.now 0 0) c.requires.listed c.requires.parts
 
@@ -302,18 +298,17 @@ walk_two-returns-in_err-second t c =
       behind = tt;
     })
 
-pub walk_two-crossed-requires : goal.walk_two-crossed-requires
-walk_two-crossed-requires t c =
-    both_sums (two_half t (goal.at.walk_two-crossed-requires t c).In_ok-prefix).halfway
+pub walk_two-crossed_known-second-requires : goal.walk_two-crossed_known-second-requires
+walk_two-crossed_known-second-requires t c =
+    both_sums (two_half t (goal.at.walk_two-crossed_known-second-requires t c).In_ok-prefix).halfway
     (rw c.second_from-other.ensures.part at c.in_ok-second.ensures.walk).walks
 
 pub walk_two-returns-then-kind-eq6 : goal.walk_two-returns-then-kind-eq6
 walk_two-returns-then-kind-eq6 t c =
     let at = goal.at.walk_two-returns-then-kind-eq6 t c in
     let second = rw c.second_from-other.ensures.part at c.in_ok-second.ensures.walk in
-    let known = known_of crossed_known c.in_ok-prefix.prefix.known c.in_ok-second.second.known c.in_ok-known.ensures in
     record {
-      walk = rw known (crossing_leaving (two_half t at.In_ok-prefix) c.if-kind-eq6.true _ second);
+      walk = rw c.crossed_known-second.ensures (crossing_leaving (two_half t at.In_ok-prefix) c.if-kind-eq6.true _ second);
       behind = c.in_ok-second.ensures.behind ∙ two_behind t at.After-second_from-other;
     }
 
@@ -344,17 +339,16 @@ walk_two-returns-in_err-second-2 t c =
       behind = tt;
     })
 
-pub walk_two-beside-requires : goal.walk_two-beside-requires
-walk_two-beside-requires t c =
-    both_sums (two_half t (goal.at.walk_two-beside-requires t c).In_ok-prefix).halfway
+pub walk_two-both_known-second-requires : goal.walk_two-both_known-second-requires
+walk_two-both_known-second-requires t c =
+    both_sums (two_half t (goal.at.walk_two-both_known-second-requires t c).In_ok-prefix).halfway
     (rw c.second_from-other.ensures.part at c.in_ok-second-2.ensures.walk).walks
 
 pub walk_two-returns : goal.walk_two-returns
 walk_two-returns t c =
     let at = goal.at.walk_two-returns t c in
     let second = rw c.second_from-other.ensures.part at c.in_ok-second-2.ensures.walk in
-    let known = known_of both_known c.in_ok-prefix.prefix.known c.in_ok-second-2.second.known c.in_ok-known-2.ensures in
     record {
-      walk = rw known (both_leaving (two_half t at.In_ok-prefix) (beside_kind t at.Else-kind-eq6) c.within-from.ensures _ second);
+      walk = rw c.both_known-second.ensures (both_leaving (two_half t at.In_ok-prefix) (beside_kind t at.Else-kind-eq6) c.within-from.ensures _ second);
       behind = c.in_ok-second-2.ensures.behind ∙ two_behind t at.After-second_from-other;
     }
