@@ -8,6 +8,7 @@ use Rattle.stream.specs.Buffers.{at_front}
 use Rattle.stream.specs.Longest.{byte_count, largest_level, longest_prefix}
 use Rattle.reading.specs.TypeReads.{TypeAt}
 pub mod Laws
+pub mod Standing
 
 -- The kind that the longest prefix of a type begins with, by the type's kind, of an either if its first part is chosen; of a byte
 -- that is no type's kind nobody asks.

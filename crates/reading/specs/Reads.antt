@@ -6,6 +6,7 @@ use Rattle.stream.specs.Types.{Ty}
 use Rattle.stream.specs.Reading.{Reading, read, fault, Result as Outcome, accepted, refused}
 use Rattle.reading.specs.declared.types.TypeView.{TypeView}
 use Rattle.reading.specs.Views.{tree}
+pub mod Laws
 
 abbrev pub type_seen : Result (TypeView × Bor (List ℕ)) Fault → Reading Ty
 type_seen (Ok v) = read (tree v.0) v.1.now
