@@ -1,4 +1,5 @@
--- A type and a prefix of it in some bytes: what stands there. Contracts inside the library, which no demand rests on.
+-- A type and a prefix of it in some bytes: what stands there. Words of laws, to which a view's bytes are led (`PlaceViews`);
+-- no demand rests on them.
 use Rattle.std.specs.Prelude.{List, ℕ}
 use Rattle.stream.specs.Types.{Ty}
 use Rattle.stream.specs.Prefixes.{Prefix, IsPrefix}

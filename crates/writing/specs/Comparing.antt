@@ -1,4 +1,4 @@
--- What the comparison of two types tells: a contract inside the library, which no demand rests on.
+-- What the comparison of two types by their bytes tells: words of laws, to which the answer of `==` is led (`compared`); no demand rests on them.
 use Rattle.std.specs.Prelude.{◌≡◌, refl, Bool, true, false, List, [], ℕ}
 use Rattle.std.proofs.Common.{nat_eq, sym, ap, ◌∙◌}
 use Rattle.std.specs.Cmp.Lexicographic.{pointwise, same_text, other_text}
