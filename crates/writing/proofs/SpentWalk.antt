@@ -7,7 +7,7 @@ use Prim.Native.Nat.{ℕ, suc, ◌+◌, ◌-◌, ◌≤◌, ◌<◌}
 use native.Mathlib.Omega.{arith}
 use lib.ListN.{length, get_or, set, length-append}
 use lib.Seq.{append_snoc}
-use Rattle.stream.specs.Types.{Ty, first_part, second_part}
+use Rattle.stream.specs.Types.{Ty, size, first_part, second_part}
 use Rattle.stream.proofs.Types.Laws.{size_positive}
 use Rattle.stream.specs.Buffers.{at_front}
 use Rattle.stream.specs.Prefixes.{Prefix, Complete, whole_nothing, whole_cue, whole_level, whole_crossed, whole_beside, whole_first_chosen, whole_second_chosen, derivative}
@@ -246,13 +246,13 @@ module _ {slice lent whole now : List ℕ} {owed next written : ℕ} (spending :
     pub listed : get_or slice next 0 ≤ 10
     listed = (not_other spending.pending wanted).1
 
--- So after the loop the contract is met, whichever prefix stood at the front.
-pub spent : {slice lent now : List ℕ} {owed next written : ℕ}
+-- So after the loop a type is written, if that is what was to be.
+pub spent : (t : Ty) {slice lent now : List ℕ} {owed next written : ℕ} → Spending slice lent (type_bytes t []) now owed next written → owed ≡ 0
+    → (written ≡ size t) × (now ≡ at_front (type_bytes t []) lent)
+spent t spending z = let done = finished spending z in (done.0 ∙ type_width t, done.1)
+
+-- And the contract is met, whichever prefix stood at the front.
+pub spent_any : {slice lent now : List ℕ} {owed next written : ℕ}
     → ((due : SpentDue slice lent) → Spending slice lent (to_write due) now owed next written) → owed ≡ 0
     → SpentWritten slice lent now written
-spent spending z =
-    record {
-      each = λ due.
-          let done = finished (spending due) z in
-          (done.0 ∙ type_width (derivative due.type due.prefix), done.1);
-    }
+spent_any spending z = record { each = λ due. spent (derivative due.type due.prefix) (spending due) z }

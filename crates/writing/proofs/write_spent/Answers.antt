@@ -2,7 +2,7 @@
 -- side for both and a byte 4, and a leaf for a byte 0 (`Spending`).
 use Rattle.std.proofs.Common.{ap, arith}
 use Rattle.reading.specs.SliceReads.{is_unfinished}
-use Rattle.writing.proofs.SpentWalk.{starts, spent, fits, length_stays, within, inside, first_part_at, crossed, chosen, forked, leaf, no_unfinished, listed}
+use Rattle.writing.proofs.SpentWalk.{starts, spent_any, fits, length_stays, within, inside, first_part_at, crossed, chosen, forked, leaf, no_unfinished, listed}
 use Rattle.writing.proofs.write_spent.Goals as goal
 
 pub loop-owed-init : goal.loop-owed-init
@@ -77,4 +77,4 @@ pub loop-owed-preserved : goal.loop-owed-preserved
 loop-owed-preserved c = λ due. chosen (c.loop-owed.invariant due) c.loop-owed-test.true (omega arith)
 
 pub returns : goal.returns
-returns c = spent c.loop-owed.invariant (omega arith)
+returns c = spent_any c.loop-owed.invariant (omega arith)
